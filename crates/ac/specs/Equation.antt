@@ -1,0 +1,65 @@
+-- The working form in ℕ: a weight is 0, or minus a constant's net count, exactly when two sums of naturals agree.
+-- `proofs/Bridge.antt` ties it to the signed weight of document 01.
+use Prim.Native.Nat.{ℕ, _+_, _*_, _<_}
+use mathlib.Core.Path.{_≡_}
+use mathlib.Core.Bool.{Bool, true, false}
+use mathlib.Core.List.{List, [], _∷_, map}
+use lib.ListN.{length, getD}
+use Rattle.ac.specs.Lists.{sum}
+use Rattle.ac.specs.Pair.{Mode, count, variables}
+use Rattle.ac.specs.Rows.{Least}
+
+-- l · v: the sum of the products, place by place
+abbrev pub dot : List ℕ → List ℕ → ℕ
+dot [] v = 0
+dot (c ∷ cs) [] = 0
+dot (c ∷ cs) (n ∷ v) = c * n + dot cs v
+
+-- left · v + left-offset = right · v + right-offset; where `homogeneous`, of vectors that are not all zero
+pub record Equation : Type 0 where
+  pub left : List ℕ
+  pub right : List ℕ
+  pub left-offset : ℕ
+  pub right-offset : ℕ
+  pub homogeneous : Bool
+
+pub record Solves (E : Equation) (v : List ℕ) : Type 0 where
+  pub equal : dot (E .left) v + E .left-offset ≡ dot (E .right) v + E .right-offset
+  pub not-all-zero : E .homogeneous ≡ true → 0 < sum v
+
+-- a vector that solves the equation, where no other vector at or below it does
+pub record Minimal (E : Equation) (v : List ℕ) : Type 0 where
+  pub vector : length v ≡ length (E .left)
+  pub least : Least (Solves E) v
+
+-- the equations whose minimal solutions are the rows of a pair
+module _ (M : Mode) (L R : List ℕ) where
+  abbrev pub balancedEquation : Equation
+  balancedEquation =
+      record
+      { left = map (λ x. count x L) (variables M L R); right = map (λ x. count x R) (variables M L R); left-offset = 0; right-offset = 0; homogeneous = true }
+
+  abbrev pub equationOf : ℕ → Equation
+  equationOf c =
+      record
+      { left = map (λ x. count x L) (variables M L R); right = map (λ x. count x R) (variables M L R); left-offset = count c L; right-offset = count c R; homogeneous = false }
+
+-- at place i, the sum over the rows of multiplicity times entry
+abbrev pub combined : List ℕ → List (List ℕ) → ℕ → ℕ
+combined [] rows i = 0
+combined (m ∷ ms) [] i = 0
+combined (m ∷ ms) (r ∷ rows) i = m * getD r i 0 + combined ms rows i
+
+-- v is a sum of the rows, each as often as its multiplicity says
+pub record SumOf (rows : List (List ℕ)) (v : List ℕ) : Type 0 where
+  pub times : List ℕ
+  pub a-number-each : length times ≡ length rows
+  pub adds-up : (i : ℕ) → getD v i 0 ≡ combined times rows i
+
+-- v is one of the first rows plus a sum of the second ones
+pub record RowAndSum (rows balanced : List (List ℕ)) (v : List ℕ) : Type 0 where
+  pub index : ℕ
+  pub within : index < length rows
+  pub times : List ℕ
+  pub a-number-each : length times ≡ length balanced
+  pub adds-up : (i : ℕ) → getD v i 0 ≡ getD (getD rows index []) i 0 + combined times balanced i

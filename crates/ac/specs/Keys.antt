@@ -1,0 +1,89 @@
+-- Keys and the list (document 01, "From sides to equations").
+use Prim.Native.Nat.{ℕ, zero, suc, _+_, _*_, _/_, _%_, _^_, _<_, _≤_, _-_}
+use mathlib.Core.Path.{_≡_}
+use mathlib.Core.Bool.{Bool, true, false, cond}
+use mathlib.Core.List.{List, [], _∷_, _++_, map, List·Memᴰ}
+use lib.ListN.{length, take}
+use lib.Dec.{ltb, eqb}
+use Rattle.ac.specs.Lists.{filter, flatMap, below}
+use Rattle.ac.specs.Pair.{Mode}
+use Rattle.ac.specs.Rows.{Group, Groups}
+use Rattle.ac.specs.Selection.{Selection, admissible}
+
+-- How a key is laid out, and which byte is the first new variable. `rows` is how many balanced rows the low part of a key holds.
+pub record Layout : Type 0 where
+  pub constants : ℕ
+  pub index-bits : ℕ
+  pub rows : ℕ
+  pub new : ℕ
+
+-- 4 fields of 4 bits above the 16 low bits; n0 is byte 192
+abbrev pub layout : Layout
+layout = record { constants = 4; index-bits = 4; rows = 16; new = 192 }
+
+-- the row indexes as one number: the lowest constant's in the highest field, unused fields 0
+abbrev pub fields : Layout → ℕ → List ℕ → ℕ
+fields lay zero is = 0
+fields lay (suc k) [] = 0
+fields lay (suc k) (i ∷ is) = i * 2 ^ (lay .index-bits * k) + fields lay k is
+
+-- the mask: bit i is balanced row i
+abbrev pub mask : List Bool → ℕ
+mask [] = 0
+mask (t ∷ ts) = cond t 1 0 + 2 * mask ts
+
+-- A selection is named by its key: the fields of the indexes above the mask.
+abbrev pub keyOf : Layout → Selection → ℕ
+keyOf lay s = fields lay (lay .constants) (s .indexes) * 2 ^ (lay .rows) + mask (s .takes)
+
+-- bit i of a number
+abbrev pub bit : ℕ → ℕ → Bool
+bit m i = eqb (m / 2 ^ i % 2) 1
+
+-- the lowest n bits of a mask, bit 0 first
+abbrev pub bits : ℕ → ℕ → List Bool
+bits n m = map (bit m) (below n)
+
+-- the index in each of the fields of a number, that of the lowest constant first; used is how many constants there are
+abbrev pub fieldsOf : Layout → ℕ → List Group → ℕ → List ℕ
+fieldsOf lay k [] m = []
+fieldsOf lay zero (g ∷ gs) m = []
+fieldsOf lay (suc k) (g ∷ gs) m = m / 2 ^ (lay .index-bits * k) % 2 ^ (lay .index-bits) ∷ fieldsOf lay k gs m
+
+-- a key taken apart
+abbrev pub selectionAt : Layout → Groups → ℕ → Selection
+selectionAt lay G key =
+    record { indexes = fieldsOf lay (lay .constants) (G .constants) (key / 2 ^ (lay .rows)); takes = bits (length (G .balanced)) key }
+
+-- every tuple of row indexes, ascending
+abbrev pub tuples : List Group → List (List ℕ)
+tuples [] = [] ∷ []
+tuples (g ∷ gs) = flatMap (λ i. map (λ is. i ∷ is) (tuples gs)) (below (length (g .rows)))
+
+-- every selection: for each tuple of indexes ascending the masks ascending
+abbrev pub selections : Groups → List Selection
+selections G =
+    flatMap (λ is. map (λ m. record { indexes = is; takes = bits (length (G .balanced)) m }) (below (2 ^ length (G .balanced)))) (tuples (G .constants))
+
+-- The list: the admissible selections in that order, by their keys.
+abbrev pub listed : Mode → Layout → List ℕ → List ℕ → Groups → List Selection
+listed M lay L R G = filter (admissible M (lay .new) L R G) (selections G)
+
+abbrev pub keys : Mode → Layout → List ℕ → List ℕ → Groups → List ℕ
+keys M lay L R G = map (keyOf lay) (listed M lay L R G)
+
+-- where to begin: the start, or after a key
+pub data Begin : Type 0 where
+  start : Begin
+  after : ℕ → Begin
+
+-- the keys of the list that come after the beginning
+abbrev pub remaining : Begin → List ℕ → List ℕ
+remaining start ks = ks
+remaining (after k) ks = filter (ltb k) ks
+
+-- the limits under which a key names one selection: as many fields as constants, each index in its field, a bit for each balanced row
+pub record Fits (lay : Layout) (G : Groups) : Type 0 where
+  pub few-constants : length (G .constants) ≤ lay .constants
+  pub few-rows : (g : Group) → List·Memᴰ g (G .constants) → length (g .rows) ≤ 2 ^ (lay .index-bits)
+  pub few-balanced : length (G .balanced) ≤ lay .rows

@@ -1,0 +1,38 @@
+-- Words on lists that the definitions share.
+use Prim.Native.Nat.{ℕ, zero, suc, _+_, _<_}
+use mathlib.Core.Bool.{Bool, true, false}
+use mathlib.Core.List.{List, [], _∷_, _++_, List·Memᴰ}
+
+-- the n numbers from a on, ascending
+abbrev pub from : ℕ → ℕ → List ℕ
+from a zero = []
+from a (suc n) = a ∷ from (suc a) n
+
+-- the numbers below n, ascending
+abbrev pub below : ℕ → List ℕ
+below n = from 0 n
+
+-- a in front of the rest, if the truth value says so
+abbrev pub keep {ℓ} : {A : Type ℓ} → Bool → A → List A → List A
+keep true a rest = a ∷ rest
+keep false a rest = rest
+
+-- the members that pass the test, in their order
+abbrev pub filter {ℓ} : {A : Type ℓ} → (A → Bool) → List A → List A
+filter passes [] = []
+filter passes (a ∷ rest) = keep (passes a) a (filter passes rest)
+
+-- for each member a list, one after the other
+abbrev pub flatMap {ℓ κ} : {A : Type ℓ} {B : Type κ} → (A → List B) → List A → List B
+flatMap f [] = []
+flatMap f (a ∷ rest) = f a ++ flatMap f rest
+
+-- the sum of the entries
+abbrev pub sum : List ℕ → ℕ
+sum [] = 0
+sum (n ∷ v) = n + sum v
+
+-- every member stands before all that follow it
+pub data Ascending {A : Type 0} (_before_ : A → A → Type 0) : List A → Type 0 where
+  none : Ascending _before_ []
+  next : {a : A} {rest : List A} → ((b : A) → List·Memᴰ b rest → _before_ a b) → Ascending _before_ rest → Ascending _before_ (a ∷ rest)

@@ -1,0 +1,46 @@
+-- A pair of flattened sides: its atoms, their occurrences and net counts (document 01, "From sides to equations").
+use Prim.Native.Nat.{ℕ, _+_, _<_}
+use mathlib.Core.Bool.{Bool, true, false, not, cond, _&&_, _||_}
+use mathlib.Core.List.{List, [], _∷_}
+use lib.Dec.{eqb, ltb}
+use lib.IntN.{ℤ, pos, _-ℤ_}
+use Rattle.ac.specs.Lists.{below, filter}
+
+-- Which atoms are variables, and whether a variable may be replaced by nothing. Every other atom counts as a constant.
+pub record Mode : Type 0 where
+  pub moves : ℕ → Bool
+  pub empties : Bool
+
+-- 0 to 63 are variables; there is no identity, so no value is empty
+abbrev pub unifying : Mode
+unifying = record { moves = λ a. ltb a 64; empties = false }
+
+-- Atoms are bytes: 0 to 63 and 64 to 127.
+abbrev pub atoms : List ℕ
+atoms = below 128
+
+-- 1 if the two atoms are the same, else 0
+abbrev pub same : ℕ → ℕ → ℕ
+same a b = cond (eqb a b) 1 0
+
+-- the occurrences of an atom on a side
+abbrev pub count : ℕ → List ℕ → ℕ
+count a [] = 0
+count a (b ∷ side) = same a b + count a side
+
+-- An atom's net count is its occurrences on the left minus those on the right; it may be negative.
+abbrev pub net : List ℕ → List ℕ → ℕ → ℤ
+net L R a = pos (count a L) -ℤ pos (count a R)
+
+-- the atom stands on one of the sides
+abbrev pub occurs : List ℕ → List ℕ → ℕ → Bool
+occurs L R a = ltb 0 (count a L + count a R)
+
+module _ (M : Mode) (L R : List ℕ) where
+  -- Variables are all distinct variables of the two sides, ascending, those with net count 0 included.
+  abbrev pub variables : List ℕ
+  variables = filter (λ a. M .moves a && occurs L R a) atoms
+
+  -- An unbalanced constant has net count other than 0; ascending.
+  abbrev pub unbalanced : List ℕ
+  unbalanced = filter (λ a. not (M .moves a) && not (eqb (count a L) (count a R))) atoms

@@ -1,0 +1,49 @@
+// The numbers that are given in place of a result (document 01's table), as one enum for every question.
+ghost use mathlib.Core.Path.{_≡_};
+ghost use Rattle.numbers.specs.Numbers.{numberOf};
+
+// Why a question was refused: a variant for each row of the table, in its order.
+pub enum Refusal {
+    BlockLength,
+    Check,
+    BlockNumber,
+    TermLength,
+    Term,
+    Filler,
+    SideLength,
+    NoAtom,
+    Variables,
+    NetCount,
+    Constants,
+    Rows,
+    NoUnifier,
+    NotListed,
+    LastKey,
+    ShortBuffer,
+    LongValue,
+}
+
+// The row's number in the table.
+pub fn number(refusal: Refusal) -> u8
+    ensures { λ r. ⌜ r ≡ numberOf refusal ⌝ }
+{
+    match refusal {
+        Refusal::BlockLength => 1,
+        Refusal::Check => 2,
+        Refusal::BlockNumber => 3,
+        Refusal::TermLength => 4,
+        Refusal::Term => 5,
+        Refusal::Filler => 6,
+        Refusal::SideLength => 7,
+        Refusal::NoAtom => 8,
+        Refusal::Variables => 9,
+        Refusal::NetCount => 10,
+        Refusal::Constants => 11,
+        Refusal::Rows => 12,
+        Refusal::NoUnifier => 13,
+        Refusal::NotListed => 14,
+        Refusal::LastKey => 15,
+        Refusal::ShortBuffer => 16,
+        Refusal::LongValue => 17,
+    }
+}

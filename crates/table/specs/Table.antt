@@ -1,0 +1,39 @@
+-- What a table says: the groups of rows that it holds, and that it is the table of a pair.
+use Prim.Native.Nat.{ℕ, zero, suc, _+_, _*_, _≤_}
+use mathlib.Core.Path.{_≡_}
+use mathlib.Core.List.{List, [], _∷_, map}
+use lib.ListN.{length, getD, take, drop}
+use Rattle.ac.specs.Lists.{below}
+use Rattle.ac.specs.Pair.{Mode, variables}
+use Rattle.ac.specs.Rows.{Group, Groups, GroupsOf}
+use Rattle.table.specs.declared.Table.{Table}
+
+-- row i of group g: an entry for each variable
+abbrev pub rowAt : Table → ℕ → ℕ → List ℕ
+rowAt t g i = take (t .places) (drop (96 * g + 6 * i) (t .rows))
+
+-- the rows of group g
+abbrev pub groupAt : Table → ℕ → List (List ℕ)
+groupAt t g = map (rowAt t g) (below (getD (t .sizes) g 0))
+
+-- the constants' groups from group g on
+abbrev pub groupsFrom : Table → ℕ → List ℕ → List Group
+groupsFrom t g [] = []
+groupsFrom t g (c ∷ cs) = record { constant = c; rows = groupAt t g } ∷ groupsFrom t (suc g) cs
+
+-- the groups that the table holds: the balanced one first, then each constant's
+abbrev pub groupsIn : Table → Groups
+groupsIn t = record { balanced = groupAt t 0; constants = groupsFrom t 1 (take (t .unbalanced) (t .constants)) }
+
+-- the numbers in the table are within its room
+pub record Within (t : Table) : Type 0 where
+  pub places-fit : t .places ≤ 6
+  pub constants-fit : t .unbalanced ≤ 4
+  pub sizes-fit : (g : ℕ) → getD (t .sizes) g 0 ≤ 16
+
+-- the table is that of the pair: its variables and exactly its rows
+pub record TableOf (M : Mode) (L R : List ℕ) (t : Table) : Type 0 where
+  pub within : Within t
+  pub the-variables : take (t .places) (t .variables) ≡ variables M L R
+  pub the-places : t .places ≡ length (variables M L R)
+  pub the-groups : GroupsOf M L R (groupsIn t)

@@ -24,8 +24,8 @@ within-more : (places n : ℕ) → 10 ≤ n → digitsWithin (suc places) n ≡ 
 within-more places n h =
     subst
     (λ (b : Bool).
-        elim b as (λ _. List ℕ) [ true ↦ digit n ∷ [] | false ↦ digitsWithin places (n / 10) ++ (digit (n % 10) ∷ []) ]
-        ≡ digitsWithin places (n / 10) ++ (digit (n % 10) ∷ []))
+    elim b as (λ _. List ℕ) [ true ↦ digit n ∷ [] | false ↦ digitsWithin places (n / 10) ++ (digit (n % 10) ∷ []) ]
+    ≡ digitsWithin places (n / 10) ++ (digit (n % 10) ∷ []))
     (sym (le-ltb n 10 h)) refl
 
 -- `io`'s digit is ours
@@ -72,6 +72,7 @@ digits-decimal (suc k) n (some, small, large) = digits-within k n n small large�
   where
     large′ : 0 < k → 10 ^ k ≤ n
     large′ h = subst (λ (j : ℕ). 10 ^ j ≤ n) (let e : suc k - 1 ≡ k = omega arith in e) (large (omega arith))
+
     fit : k ≤ n
     fit = go k large′
       where

@@ -34,13 +34,14 @@ put-byte out at b = record { place = refl; bytes = refl }
 -- one text and then another are the two in a row
 pub put-then : {out mid after : List ℕ} {at m n : ℕ} {s t : List ℕ} → Put out at s m mid → Put mid m t n after → Put out at (s ++ t) n after
 put-then {out} {mid} {after} {at} {m} {n} {s} {t} first second =
-    record
-      { place = omega (arith, first .place, second .place, length-append s t);
-        bytes =
-            second .bytes
-            ∙ ap (λ (l : List ℕ). sets l m t) (first .bytes)
-            ∙ ap (λ (k : ℕ). sets (sets out at s) k t) (first .place)
-            ∙ sets-append out at s t }
+    record {
+      place = omega (arith, first .place, second .place, length-append s t);
+      bytes =
+          second .bytes
+          ∙ ap (λ (l : List ℕ). sets l m t) (first .bytes)
+          ∙ ap (λ (k : ℕ). sets (sets out at s) k t) (first .place)
+          ∙ sets-append out at s t;
+    }
 
 -- the buffer keeps its length
 pub put-length : {out after : List ℕ} {at n : ℕ} {s : List ℕ} → Put out at s n after → length after ≡ length out

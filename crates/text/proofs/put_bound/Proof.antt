@@ -1,55 +1,67 @@
+-- `text::put_bound` meets its contract: the name, =, and the atoms behind the count. Assumes nothing.
+use native.Mathlib.Omega.{arith}
+use mathlib.Core.Path.{ap, _∙_}
+use lib.ListN.{length, length-set, length-drop}
+use Rattle.text.specs.Text.{name, joined}
+use Rattle.text.proofs.Puts.{put-byte, put-then, put-length, put-as}
+use Rattle.text.proofs.Names.{name-short}
+use Rattle.text.proofs.Bindings.{after-two}
 use borrow.Author.Needs.{needs}
 use Rattle.text.proofs.put_bound.Statement.{statement}
 use Rattle.text.proofs.put_bound.Tie as tie
-use Rattle.text.proofs.put_bound.Reads as reads
-use Rattle.text.proofs.put_bound.Lts as lts
-use Rattle.text.proofs.least.Reads as least-reads
-use Rattle.text.proofs.put_name.Reads as put-name-reads
-use Rattle.text.proofs.put_value.Reads as put-value-reads
 
--- src/lib.rt:105:34
 shared-slice-read-put-name : tie.Need-shared-slice-read-put-name
 shared-slice-read-put-name c = search needs
 
--- src/lib.rt:105:9
 put-name-requires : tie.Need-put-name-requires
 put-name-requires c κs = search needs
 
--- src/lib.rt:106:5
 slice-write-out : tie.Need-slice-write-out
-slice-write-out c = ?
+slice-write-out c =
+    omega
+    (arith, c .before .before .put-name .ensures .place, put-length (c .before .before .put-name .ensures), name-short _ (c .before .before .before .shared-slice-known2 .given 0 .fits))
 
--- src/lib.rt:107:9
 least-requires : tie.Need-least-requires
 least-requires c κs = search needs
 
--- src/lib.rt:108:20
 add-put-value : tie.Need-add-put-value
-add-put-value c = ?
+add-put-value c =
+    omega
+    (arith, c .before .before .before .before .put-name .ensures .place, put-length (c .before .before .before .before .put-name .ensures), name-short _ (c .before .before .before .before .before .shared-slice-known2 .given 0 .fits))
 
--- src/lib.rt:108:30
 sub-put-value : tie.Need-sub-put-value
 sub-put-value c = search needs
 
--- src/lib.rt:108:30
 part-put-value-start : tie.Need-part-put-value-start
 part-put-value-start c = search needs
 
--- src/lib.rt:108:30
 part-put-value-end : tie.Need-part-put-value-end
 part-put-value-end c = search needs
 
--- src/lib.rt:108:5
 put-value-requires : tie.Need-put-value-requires
-put-value-requires c κs = ?
+put-value-requires c κs =
+    let a = c .before .before .before .before .before .before .before .before .before .before .args in
+    let n = c .before .before .before .before .before .put-name in
+    let skipped = c .before .before .least in
+    simp length-set
+    (omega (
+      arith,
+      ap length (after-two (a .bytes .now) (skipped .result) (skipped .ensures)),
+      length-drop 2 (a .bytes .now),
+      n .ensures .place,
+      put-length (n .ensures),
+      name-short _ (c .before .before .before .before .before .before .shared-slice-known2 .given 0 .fits),
+    ))
 
--- src/lib.rt:100:1
 same-length : tie.Need-same-length
-same-length c = ?
+same-length c = put-length (c .before .before .put-value .ensures) ∙ simp length-set (put-length (c .before .before .before .before .before .before .before .before .put-name .ensures))
 
--- src/lib.rt:100:1
 returns : tie.Need-returns
-returns c = ?
+returns c =
+    let skipped = c .before .before .before .before .before .least in
+    put-then (c .before .before .before .before .before .before .before .before .put-name .ensures)
+    (put-then (put-byte _ _ 61)
+    (put-as (ap joined (after-two (c .before .before .before .before .before .before .before .before .before .before .before .before .before .args .bytes .now) (skipped .result) (skipped .ensures))) (c .before .before .put-value .ensures)))
 
 pub put-bound-spec : {M : Type 1} → statement M
 put-bound-spec =

@@ -1,7 +1,7 @@
 -- `text::put_bytes` meets its contract: before each turn the bytes before i have been put. Assumes nothing.
 use Prim.Native.Nat.{ℕ, _+_, _<_, _≤_, _-_}
 use native.Mathlib.Omega.{arith}
-use mathlib.Core.Path.{_≡_, ap, refl, _∙_, sym}
+use mathlib.Core.Path.{_≡_, ap, refl, _∙_}
 use lib.ListN.{length, take, set, getD}
 use mathlib.Core.List.{List}
 use lib.Seq.{sets, length-sets, length-take-le, take-length}
@@ -27,7 +27,7 @@ add-out c = omega arith
 slice-write-out : tie.Need-slice-write-out Inv-loop μ-loop
 slice-write-out c =
     let e : length (c .before .before .loop .out) ≡ length (c .before .before .before .args .out .now) =
-        ap length (c .before .before .loop .inv .1) ∙ simp length-sets in
+    ap length (c .before .before .loop .inv .1) ∙ simp length-sets in
     omega arith
 
 add-i : tie.Need-add-i Inv-loop μ-loop
@@ -41,10 +41,11 @@ loop-again c =
     let a = c .before .before .before .args in
     let i = c .before .before .loop .i in
     let h : i < length (a .bytes .now) = omega arith in
-    let h′ : i ≤ length (a .bytes .now) = omega arith in
-    (omega arith,
-     ap (λ (l : List ℕ). set l (a .at + i) (getD (a .bytes .now) i 0)) (c .before .before .loop .inv .1)
-     ∙ sets-next (a .out .now) (a .at) i (a .bytes .now) h (length-take-le i (a .bytes .now) h′))
+    let h′ : i ≤ length (a .bytes .now) = omega arith in (
+      omega arith,
+      ap (λ (l : List ℕ). set l (a .at + i) (getD (a .bytes .now) i 0)) (c .before .before .loop .inv .1)
+          ∙ sets-next (a .out .now) (a .at) i (a .bytes .now) h (length-take-le i (a .bytes .now) h′),
+    )
 
 add-result : tie.Need-add-result Inv-loop μ-loop
 add-result c = omega arith
@@ -57,12 +58,13 @@ returns : tie.Need-returns Inv-loop μ-loop
 returns c =
     let a = c .before .before .args in
     let e : c .before .loop .i ≡ length (a .bytes .now) = omega arith in
-    record
-      { place = omega arith;
-        bytes =
-            c .before .loop .inv .1
-            ∙ ap (λ (n : ℕ). sets (a .out .now) (a .at) (take n (a .bytes .now))) e
-            ∙ ap (sets (a .out .now) (a .at)) (take-length (a .bytes .now)) }
+    record {
+      place = omega arith;
+      bytes =
+          c .before .loop .inv .1
+          ∙ ap (λ (n : ℕ). sets (a .out .now) (a .at) (take n (a .bytes .now))) e
+          ∙ ap (sets (a .out .now) (a .at)) (take-length (a .bytes .now));
+    }
 
 pub put-bytes-spec : {M : Type 1} → statement M
 put-bytes-spec =

@@ -1,5 +1,5 @@
-use Prim.Native.Nat.{ℕ}
 -- `text::put_lettered` meets its contract: the letter is put, and the decimal behind it. Assumes nothing.
+use Prim.Native.Nat.{ℕ}
 use native.Mathlib.Omega.{arith}
 use mathlib.Core.Path.{ap, _∙_}
 use mathlib.Core.List.{_∷_}
@@ -26,7 +26,7 @@ same-length : tie.Need-same-length
 same-length c = put-length (c .before .before .put-number .ensures) ∙ simp length-set
 
 returns : tie.Need-returns
-returns c = 
+returns c =
     put-as (ap (λ (n : ℕ). c .before .before .before .before .before .before .args .letter ∷ decimal n) (c .before .before .before .wide .ensures))
     (put-then (put-byte _ _ _) (c .before .before .put-number .ensures))
 

@@ -23,7 +23,7 @@ put-bytes-requires c κs =
     let a = c .before .before .before .before .before .args in
     let d = c .before .before .decimal in
     let e : length (take (d .result) (d .last .1 .0)) ≤ 20 =
-        digits-fit (a .number) (d .result) (c .before .before .before .before .before .fits .number .fits) (d .ensures .1 .0) (d .ensures .1 .1) in
+    digits-fit (a .number) (d .result) (c .before .before .before .before .before .fits .number .fits) (d .ensures .1 .0) (d .ensures .1 .1) in
     omega arith
 
 same-length : tie.Need-same-length

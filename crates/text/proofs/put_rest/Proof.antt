@@ -23,11 +23,11 @@ shared-slice-read-put-further : tie.Need-shared-slice-read-put-further Inv-loop 
 shared-slice-read-put-further c = omega arith
 
 put-further-requires : tie.Need-put-further-requires Inv-loop μ-loop
-put-further-requires c κs = 
+put-further-requires c κs =
     let a = c .before .before .before .before .before .before .args in
     let l = c .before .before .before .loop in
     let short : length (further (take (l .i) (a .atoms .now))) ≤ 5 * l .i =
-        further-short (a .atoms .now) (l .i) (λ i. c .shared-slice-known2 .given i .fits) in
+    further-short (a .atoms .now) (l .i) (λ i. c .shared-slice-known2 .given i .fits) in
     omega (arith, l .inv .1 .place, put-length (l .inv .1))
 
 add-i : tie.Need-add-i Inv-loop μ-loop
@@ -37,7 +37,7 @@ loop-less : tie.Need-loop-less Inv-loop μ-loop
 loop-less c = omega arith
 
 loop-again : tie.Need-loop-again Inv-loop μ-loop
-loop-again c = 
+loop-again c =
     let a = c .before .before .before .before .before .before .before .before .before .args in
     let l = c .before .before .before .before .before .before .loop in
     let h : l .i < length (a .atoms .now) = omega arith in
@@ -47,7 +47,7 @@ same-length : tie.Need-same-length Inv-loop μ-loop
 same-length c = put-length (c .before .loop .inv .1)
 
 returns : tie.Need-returns Inv-loop μ-loop
-returns c = 
+returns c =
     let a = c .before .before .before .before .args in
     let e : c .before .loop .i ≡ length (a .atoms .now) = omega arith in
     put-as (ap (λ (n : ℕ). further (take n (a .atoms .now))) e ∙ ap further (take-length (a .atoms .now))) (c .before .loop .inv .1)

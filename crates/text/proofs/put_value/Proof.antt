@@ -1,5 +1,5 @@
 -- `text::put_value` meets its contract: the first name, and the further ones behind it. Assumes nothing.
-use Prim.Native.Nat.{_<_, _≤_}
+use Prim.Native.Nat.{_<_}
 use native.Mathlib.Omega.{arith}
 use lib.ListN.{length}
 use Rattle.text.specs.Text.{name}
@@ -29,7 +29,7 @@ part-put-rest-end c = search needs
 
 put-rest-requires : tie.Need-put-rest-requires
 unfolding tail
-put-rest-requires c κs = 
+put-rest-requires c κs =
     let a = c .before .before .before .before .before .before .before .before .before .before .args in
     let n = c .before .before .before .before .put-name in
     let some : 0 < length (a .atoms .now) = omega arith in
@@ -41,7 +41,7 @@ same-length c = search needs
 
 returns-2 : tie.Need-returns-2
 unfolding tail
-returns-2 c = 
+returns-2 c =
     let a = c .before .before .before .before .before .before .before .before .before .before .before .before .before .args in
     let some : 0 < length (a .atoms .now) = omega arith in
     put-as (joined-first (a .atoms .now) some) (put-then (c .before .before .before .before .before .before .before .put-name .ensures) (c .before .before .put-rest .ensures))

@@ -5,9 +5,11 @@ use mathlib.Core.Path.{_≡_, refl, ap, sym, _∙_, subst}
 use mathlib.Core.List.{List, [], _∷_, _++_, append-assoc, append-nil}
 use lib.ListN.{length, length-append, length-drop, take, drop, getD}
 use lib.Seq.{length-take-le, take-append-seam, drop-append-seam, getD-drop, drop-drop, take-all}
-use Rattle.text.specs.Text.{Put, Binding, name, further, joined, laidOut, bindingOf, bound, spaced, substitution}
+use Rattle.ac.specs.Values.{Binding, laidOut}
+use Rattle.buffer.specs.Put.{Put}
+use Rattle.text.specs.Text.{name, further, joined, bindingOf, bound, spaced, substitution}
 use Rattle.text.proofs.Names.{name-short, further-short}
-use Rattle.text.proofs.Puts.{put-byte, put-then, put-as, put-length}
+use Rattle.buffer.proofs.Puts.{put-then, put-as}
 
 -- a value's text is at most five bytes for each atom
 pub joined-short : (atoms : List ℕ) → ((i : ℕ) → getD atoms i 0 < 256) → length (joined atoms) ≤ 5 * length atoms

@@ -2,16 +2,10 @@
 use Prim.Native.Nat.{ℕ, _+_, _-_}
 use mathlib.Core.Bool.{Bool, true, false, cond}
 use mathlib.Core.List.{List, [], _∷_, _++_}
-use lib.ListN.{length, getD, drop}
+use lib.ListN.{getD, drop}
 use lib.Dec.{ltb}
-use lib.Seq.{sets}
-use mathlib.Core.Path.{_≡_}
+use Rattle.ac.specs.Values.{Binding}
 use Rattle.text.specs.Decimal.{decimal}
-
--- The text stands in the buffer from `at` on and `next` is the place after it; every other byte is as it was.
-pub record Put (out : List ℕ) (at : ℕ) (text : List ℕ) (next : ℕ) (after : List ℕ) : Type 0 where
-  pub place : next ≡ at + length text
-  pub bytes : after ≡ sets out at text
 
 -- v0 to v63, c0 to c63, and n0 and so on
 abbrev pub name : ℕ → List ℕ
@@ -27,17 +21,7 @@ abbrev pub joined : List ℕ → List ℕ
 joined [] = []
 joined (a ∷ atoms) = name a ++ further atoms
 
--- a variable with its value
-pub record Binding : Type 0 where
-  pub variable : ℕ
-  pub value : List ℕ
-
--- the layout of Values: for each variable its byte, a byte count and the atoms
-abbrev pub laidOut : List Binding → List ℕ
-laidOut [] = []
-laidOut (b ∷ bs) = (b .variable ∷ length (b .value) ∷ b .value) ++ laidOut bs
-
--- the binding whose bytes in that layout these are
+-- the binding whose bytes in the layout of Values these are
 abbrev pub bindingOf : List ℕ → Binding
 bindingOf bytes = record { variable = getD bytes 0 0; value = drop 2 bytes }
 

@@ -6,20 +6,10 @@ ghost use mathlib.Core.List.{List, _∷_};
 ghost use Prim.Native.Nat.{_+_, _*_, _≤_, _<_, min};
 ghost use lib.ListN.{length, getD};
 ghost use Rattle.text.specs.Decimal.{decimal};
-ghost use Rattle.text.specs.Text.{Put, Binding, name, further, joined, laidOut, bindingOf, bound, spaced, substitution};
-
-// The bytes themselves.
-pub fn put_bytes(out: &mut [u8], at: usize, bytes: &[u8]) -> usize
-    requires { ⌜ at + length (now bytes) ≤ length (now out) ⌝ }
-    ensures { λ r. ⌜ Put (now (out .entry)) at (now (bytes .entry)) r (now (out .exit)) ⌝ }
-{
-    let mut i = 0;
-    while i < bytes.len() {
-        out[at + i] = bytes[i];
-        i += 1;
-    }
-    at + i
-}
+ghost use Rattle.ac.specs.Values.{Binding, laidOut};
+ghost use Rattle.buffer.specs.Put.{Put};
+ghost use Rattle.text.specs.Text.{name, further, joined, bindingOf, bound, spaced, substitution};
+use buffer::put_bytes;
 
 // The number in decimal.
 pub fn put_number(out: &mut [u8], at: usize, number: u64) -> usize

@@ -3,7 +3,7 @@ use native.Mathlib.Omega.{arith}
 use mathlib.Core.Path.{ap, _∙_}
 use lib.ListN.{length, length-set, length-drop}
 use Rattle.text.specs.Text.{name, joined}
-use Rattle.text.proofs.Puts.{put-byte, put-then, put-length, put-as}
+use Rattle.buffer.proofs.Puts.{put-byte, put-then, put-length, put-as}
 use Rattle.text.proofs.Names.{name-short}
 use Rattle.text.proofs.Bindings.{after-two}
 use borrow.Author.Needs.{needs}

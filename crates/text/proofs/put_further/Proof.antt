@@ -2,7 +2,7 @@
 use native.Mathlib.Omega.{arith}
 use mathlib.Core.Path.{_∙_}
 use lib.ListN.{length-set}
-use Rattle.text.proofs.Puts.{put-byte, put-then, put-length}
+use Rattle.buffer.proofs.Puts.{put-byte, put-then, put-length}
 use borrow.Author.Needs.{needs}
 use Rattle.text.proofs.put_further.Statement.{statement}
 use Rattle.text.proofs.put_further.Tie as tie

@@ -5,7 +5,7 @@ use mathlib.Core.Path.{ap, _∙_}
 use mathlib.Core.List.{_∷_}
 use lib.ListN.{length-set}
 use Rattle.text.specs.Decimal.{decimal}
-use Rattle.text.proofs.Puts.{put-byte, put-then, put-length, put-as}
+use Rattle.buffer.proofs.Puts.{put-byte, put-then, put-length, put-as}
 use borrow.Author.Needs.{needs}
 use Rattle.text.proofs.put_lettered.Statement.{statement}
 use Rattle.text.proofs.put_lettered.Tie as tie

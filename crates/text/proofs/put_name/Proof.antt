@@ -1,5 +1,5 @@
 -- `text::put_name` meets its contract: each branch puts the letter and number of that kind of atom. Assumes nothing.
-use Rattle.text.proofs.Puts.{put-as}
+use Rattle.buffer.proofs.Puts.{put-as}
 use Rattle.text.proofs.Names.{name-variable, name-constant, name-new}
 use borrow.Author.Needs.{needs}
 use Rattle.text.proofs.put_name.Statement.{statement}

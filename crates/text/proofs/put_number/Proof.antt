@@ -3,7 +3,7 @@ use Prim.Native.Nat.{_≤_}
 use native.Mathlib.Omega.{arith}
 use mathlib.Core.Path.{_∙_}
 use lib.ListN.{length, take}
-use Rattle.text.proofs.Puts.{put-as}
+use Rattle.buffer.proofs.Puts.{put-as}
 use Rattle.text.proofs.Decimals.{digits-decimal, digits-fit}
 use borrow.Author.Needs.{needs}
 use Rattle.text.proofs.put_number.Statement.{statement}

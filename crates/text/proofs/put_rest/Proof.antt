@@ -4,8 +4,9 @@ use native.Mathlib.Omega.{arith}
 use mathlib.Core.Path.{_≡_, ap, _∙_}
 use lib.ListN.{length, take}
 use lib.Seq.{take-length}
-use Rattle.text.specs.Text.{Put, further}
-use Rattle.text.proofs.Puts.{put-nothing, put-then, put-as, put-length}
+use Rattle.buffer.specs.Put.{Put}
+use Rattle.text.specs.Text.{further}
+use Rattle.buffer.proofs.Puts.{put-nothing, put-then, put-as, put-length}
 use Rattle.text.proofs.Names.{further-next, further-short}
 use Rattle.text.proofs.put_rest.Statement.{statement}
 use Rattle.text.proofs.put_rest.Tie as tie

@@ -4,8 +4,9 @@ use native.Mathlib.Omega.{arith}
 use mathlib.Core.Path.{_≡_, _∙_, refl}
 use mathlib.Core.List.{List}
 use lib.ListN.{length, length-set, take, drop}
-use Rattle.text.specs.Text.{Binding, laidOut, bound, bindingOf}
-use Rattle.text.proofs.Puts.{put-nothing, put-byte, put-then, put-length}
+use Rattle.ac.specs.Values.{Binding, laidOut}
+use Rattle.text.specs.Text.{bound, bindingOf}
+use Rattle.buffer.proofs.Puts.{put-nothing, put-byte, put-then, put-length}
 use Rattle.text.proofs.Bindings.{Told, told-none, told-next, told-all, bound-short, part-small, length-part}
 use Rattle.text.proofs.put_spaced.Statement.{statement}
 use Rattle.text.proofs.put_spaced.Tie as tie

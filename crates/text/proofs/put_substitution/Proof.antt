@@ -5,7 +5,7 @@ use mathlib.Core.Path.{sym}
 use lib.ListN.{length, take, drop, length-take, length-drop}
 use lib.Seq.{length-take-le}
 use Rattle.text.specs.Text.{bound, bindingOf}
-use Rattle.text.proofs.Puts.{put-byte, put-as, put-length}
+use Rattle.buffer.proofs.Puts.{put-byte, put-as, put-length}
 use Rattle.text.proofs.Bindings.{substitution-none, substitution-first, bound-short, part-small}
 use borrow.Author.Needs.{needs}
 use Rattle.text.proofs.put_substitution.Statement.{statement}

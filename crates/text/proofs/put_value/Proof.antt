@@ -3,7 +3,7 @@ use Prim.Native.Nat.{_<_}
 use native.Mathlib.Omega.{arith}
 use lib.ListN.{length}
 use Rattle.text.specs.Text.{name}
-use Rattle.text.proofs.Puts.{put-nothing, put-then, put-as, put-length}
+use Rattle.buffer.proofs.Puts.{put-nothing, put-then, put-as, put-length}
 use Rattle.text.proofs.Names.{joined-none, joined-first, name-short, tail, length-tail}
 use borrow.Author.Needs.{needs}
 use Rattle.text.proofs.put_value.Statement.{statement}

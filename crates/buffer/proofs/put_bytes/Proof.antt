@@ -1,13 +1,13 @@
--- `text::put_bytes` meets its contract: before each turn the bytes before i have been put. Assumes nothing.
+-- `buffer::put_bytes` meets its contract: before each turn the bytes before i have been put. Assumes nothing.
 use Prim.Native.Nat.{ℕ, _+_, _<_, _≤_, _-_}
 use native.Mathlib.Omega.{arith}
 use mathlib.Core.Path.{_≡_, ap, refl, _∙_}
 use lib.ListN.{length, take, set, getD}
 use mathlib.Core.List.{List}
 use lib.Seq.{sets, length-sets, length-take-le, take-length}
-use Rattle.text.proofs.Puts.{sets-next}
-use Rattle.text.proofs.put_bytes.Statement.{statement}
-use Rattle.text.proofs.put_bytes.Tie as tie
+use Rattle.buffer.proofs.Puts.{sets-next}
+use Rattle.buffer.proofs.put_bytes.Statement.{statement}
+use Rattle.buffer.proofs.put_bytes.Tie as tie
 
 abbrev Inv-loop : tie.InvT-loop
 Inv-loop out₀ at bytes i₀ out i = (i ≤ length bytes) × (out ≡ sets out₀ at (take i bytes))
@@ -60,7 +60,7 @@ returns c =
     let e : c .before .loop .i ≡ length (a .bytes .now) = omega arith in
     record {
       place = omega arith;
-      bytes =
+      stored =
           c .before .loop .inv .1
           ∙ ap (λ (n : ℕ). sets (a .out .now) (a .at) (take n (a .bytes .now))) e
           ∙ ap (sets (a .out .now) (a .at)) (take-length (a .bytes .now));

@@ -8,7 +8,7 @@ use lib.Dec.{ltb, eqb}
 use Rattle.ac.specs.Lists.{filter, flatMap, below}
 use Rattle.ac.specs.Pair.{Mode}
 use Rattle.ac.specs.Rows.{Group, Groups}
-use Rattle.ac.specs.Selection.{Selection, admissible}
+use Rattle.ac.specs.Selection.{Selection, SelectionOf, Within, admissible}
 
 -- How a key is laid out, and which byte is the first new variable. `rows` is how many balanced rows the low part of a key holds.
 pub record Layout : Type 0 where
@@ -55,6 +55,14 @@ abbrev pub selectionAt : Layout → Groups → ℕ → Selection
 selectionAt lay G key =
     record { indexes = fieldsOf lay (lay .constants) (G .constants) (key / 2 ^ (lay .rows)); takes = bits (length (G .balanced)) key }
 
+-- A candidate has row indexes within their groups and no bit beyond the balanced rows: each field below its group's size, the unused fields, which
+-- are the lowest, 0, and nothing above the fields.
+pub record Candidate (lay : Layout) (G : Groups) (key : ℕ) : Type 0 where
+  pub indexes-within : Within (G .constants) (selectionAt lay G key .indexes)
+  pub unused-zero : key / 2 ^ (lay .rows) % 2 ^ (lay .index-bits * (lay .constants - length (G .constants))) ≡ 0
+  pub no-bit-beyond : key % 2 ^ (lay .rows) < 2 ^ length (G .balanced)
+  pub no-bit-above : key < 2 ^ (lay .index-bits * lay .constants + lay .rows)
+
 -- every tuple of row indexes, ascending
 abbrev pub tuples : List Group → List (List ℕ)
 tuples [] = [] ∷ []
@@ -71,6 +79,13 @@ listed M lay L R G = filter (admissible M (lay .new) L R G) (selections G)
 
 abbrev pub keys : Mode → Layout → List ℕ → List ℕ → Groups → List ℕ
 keys M lay L R G = map (keyOf lay) (listed M lay L R G)
+
+-- a key is on the list exactly if it is the key of an admissible selection
+pub record Listed (M : Mode) (lay : Layout) (L R : List ℕ) (G : Groups) (key : ℕ) : Type 0 where
+  pub selection : Selection
+  pub of-the-groups : SelectionOf G selection
+  pub is-admissible : admissible M (lay .new) L R G selection ≡ true
+  pub its-key : key ≡ keyOf lay selection
 
 -- where to begin: the start, or after a key
 pub data Begin : Type 0 where

@@ -1,7 +1,8 @@
 -- Keys packed and taken apart: the bits of a mask, the fields of the indexes, and the key of a selection.
 use Prim.Native.Nat.{ℕ, zero, suc, _+_, _-_, _*_, _/_, _%_, _^_, _<_, _≤_}
 use native.Mathlib.Omega.{arith}
-use native.Mathlib.Nat.{add-comm, div-div-eq-div-mul, mul-comm, mul-suc, mul-assoc, pow-suc, add-mul-div-right, mul-add-mod-self-right, mod-eq-of-lt, mod-lt, sub-zero, suc-sub-suc, lt-of-lt-of-le}
+use native.Mathlib.Nat.{add-comm, div-div-eq-div-mul, mul-comm, mul-suc, mul-assoc, pow-suc, add-mul-div-right, mul-add-mod-self-right, mod-eq-of-lt}
+use native.Mathlib.Nat.{mod-lt, sub-zero, suc-sub-suc, lt-of-lt-of-le}
 use mathlib.Core.Path.{_≡_, refl, sym, ap, ap₂, subst, _∙_}
 use mathlib.Core.Bool.{Bool, true, false, cond}
 use mathlib.Core.List.{List, [], _∷_, map, List·Memᴰ, List·Memᴰ·head, List·Memᴰ·tail}
@@ -95,7 +96,7 @@ field-above w p q m =
 
 module _ (lay : Layout) where
   -- one field more
-  next-field : (k : ℕ) → 2 ^ (lay .index-bits * suc k) ≡ 2 ^ (lay .index-bits + lay .index-bits * k)
+  pub next-field : (k : ℕ) → 2 ^ (lay .index-bits * suc k) ≡ 2 ^ (lay .index-bits + lay .index-bits * k)
   next-field k = ap (λ (x : ℕ). 2 ^ x) (mul-suc (lay .index-bits) k ∙ add-comm (lay .index-bits * k) (lay .index-bits))
 
   -- each group has at most as many rows as a field tells apart
@@ -205,7 +206,9 @@ module _ {lay : Layout} {G : Groups} (fits : Fits lay G) where
         record {
           indexes-within = subst (λ (t : Selection). Within (G .constants) (t .indexes)) (sym taken-apart) (of .a-row-each);
           unused-zero = ap (λ (m : ℕ). m % 2 ^ (lay .index-bits * (lay .constants - length (G .constants)))) key-high ∙ unused-fields;
-          no-bit-beyond = subst (λ (n : ℕ). keyOf lay s % 2 ^ (lay .rows) < 2 ^ n) (of .a-truth-each) (subst (λ (m : ℕ). m < 2 ^ length (s .takes)) (sym key-low) (mask-below (s .takes)));
+          no-bit-beyond =
+              subst (λ (n : ℕ). keyOf lay s % 2 ^ (lay .rows) < 2 ^ n) (of .a-truth-each)
+              (subst (λ (m : ℕ). m < 2 ^ length (s .takes)) (sym key-low) (mask-below (s .takes)));
           no-bit-above = key-below;
         }
 

@@ -5,17 +5,19 @@ use native.Mathlib.Nat.{mod-eq-of-lt}
 use lib.Pow.{pow-mono}
 use mathlib.Core.Path.{_≡_, refl, sym, ap, subst, subst₂, _∙_}
 use mathlib.Core.Logic.{_↔_}
-use mathlib.Core.Bool.{Bool, true, false}
+use mathlib.Core.Bool.{true}
 use mathlib.Core.List.{List, [], _∷_, map, List·Memᴰ, List·Memᴰ·head, List·Memᴰ·tail, List·Memᴰ·not-nil, Memᴰ·cast}
 use lib.ListN.{length}
 use lib.Arith.{digits-lt}
-use Rattle.ac.specs.Lists.{below, filter, flatMap, Ascending, none, next}
+use Rattle.ac.specs.Lists.{below, Ascending, none, next}
 use Rattle.ac.specs.Pair.{Mode}
 use Rattle.ac.specs.Rows.{Group, Groups}
 use Rattle.ac.specs.Selection.{Selection, SelectionOf, Within, none, index, admissible}
 use Rattle.ac.specs.Keys.{Layout, Fits, Candidate, Listed, fields, mask, bits, keyOf, selectionAt, tuples, selections, listed, keys}
-use Rattle.ac.proofs.Members.{below-members, members-below, map-members, members-map, flatMap-members, members-flatMap, filter-members, members-filter, ascending-from, ascending-filter, ascending-map, ascending-flatMap, ascending-in}
-use Rattle.ac.proofs.Keys.{Few, bits-mask, mask-bits, mask-below, length-bits, fields-below, taken-apart, packed, keyOf-injective, key-below, candidate-selection, selection-candidate}
+use Rattle.ac.proofs.Members.{below-members, members-below, map-members, members-map, flatMap-members, members-flatMap, filter-members}
+use Rattle.ac.proofs.Members.{members-filter, ascending-from, ascending-filter, ascending-map, ascending-flatMap, ascending-in}
+use Rattle.ac.proofs.Keys.{Few, bits-mask, mask-bits, mask-below, length-bits, fields-below, taken-apart, packed, candidate-selection}
+use Rattle.ac.proofs.Keys.{selection-candidate}
 
 -- the tuples are exactly the lists of an index for each constant, below the number of its rows
 pub tuples-within : (gs : List Group) {is : List ℕ} → List·Memᴰ is (tuples gs) → Within gs is
@@ -87,7 +89,8 @@ module _ {lay : Layout} {G : Groups} (fits : Fits lay G) where
   selections-ascending =
       ascending-flatMap (allMasked G)
       (λ is m. ascending-map (masked G is) (ascending-in (mask-decides is) (ascending-from 0 (2 ^ length (G .balanced)))))
-      (ascending-in (λ is js m₁ m₂ less. tuple-decides is js less) (tuples-ascending lay (lay .constants) (G .constants) (fits .few-constants) (fits .few-rows)))
+      (ascending-in (λ is js m₁ m₂ less. tuple-decides is js less)
+      (tuples-ascending lay (lay .constants) (G .constants) (fits .few-constants) (fits .few-rows)))
     where
       its-mask : (m : ℕ) → List·Memᴰ m (below (2 ^ length (G .balanced))) → mask (bits (length (G .balanced)) m) ≡ m
       its-mask m at = bits-mask (length (G .balanced)) m ∙ mod-eq-of-lt (below-members (2 ^ length (G .balanced)) at)
@@ -141,7 +144,12 @@ module _ {lay : Layout} {G : Groups} (fits : Fits lay G) where
         all : Candidate lay G key × (admissible M (lay .new) L R G (selectionAt lay G key) ≡ true) → List·Memᴰ key (keys M lay L R G)
         all h =
             listed-exactly .1
-            (record { selection = selectionAt lay G key; of-the-groups = candidate-selection fits (h .0); is-admissible = h .1; its-key = sym (packed fits (h .0)) })
+            (record {
+              selection = selectionAt lay G key;
+              of-the-groups = candidate-selection fits (h .0);
+              is-admissible = h .1;
+              its-key = sym (packed fits (h .0));
+            })
 
     -- keys have no bit above those of the layout
     pub keys-below : {key : ℕ} → List·Memᴰ key (keys M lay L R G) → key < 2 ^ (lay .index-bits * lay .constants + lay .rows)

@@ -2,10 +2,11 @@
 use Prim.Native.Nat.{ℕ, zero, suc, _+_, _<_, _≤_}
 use native.Mathlib.Omega.{arith}
 use native.Mathlib.Nat.{eq-or-lt-of-le}
-use mathlib.Core.Path.{_≡_, refl, sym, ap, subst, _∙_}
-use mathlib.Core.Logic.{_⊎_, inl, inr, ⊎-elim}
+use mathlib.Core.Path.{_≡_, refl, sym, ap, ap₂, subst, _∙_}
+use mathlib.Core.Logic.{_↔_, ⊎-elim}
 use mathlib.Core.Bool.{Bool, true, false}
-use mathlib.Core.List.{List, [], _∷_, _++_, map, List·Memᴰ, List·Memᴰ·head, List·Memᴰ·tail, List·Memᴰ·not-nil, List·Memᴰ·append-cases, Memᴰ·append-left, Memᴰ·append-right, Memᴰ·cast}
+use mathlib.Core.List.{List, [], _∷_, _++_, map, List·Memᴰ, List·Memᴰ·head, List·Memᴰ·tail, List·Memᴰ·not-nil, List·Memᴰ·cases-cons}
+use mathlib.Core.List.{List·Memᴰ·append-cases, Memᴰ·append-left, Memᴰ·append-right}
 use Rattle.ac.specs.Lists.{from, below, keep, filter, flatMap, Ascending, none, next}
 
 -- the n numbers from a on are those from a on and below a + n
@@ -67,6 +68,19 @@ module _ {ℓ} {A : Type ℓ} (passes : A → Bool) where
       go true t = List·Memᴰ·tail t
       go false t = t
 
+  -- where every member passes, nothing is left out
+  pub filter-all : (xs : List A) → ((a : A) → List·Memᴰ a xs → passes a ≡ true) → filter passes xs ≡ xs
+  filter-all [] all = refl
+  filter-all (a ∷ xs) all =
+      ap₂ {C = List A} (λ p rest. keep p a rest) (all a (List·Memᴰ·head refl)) (filter-all xs (λ b m. all b (List·Memᴰ·tail m)))
+
+-- a member stands somewhere in its list
+pub member-splits {ℓ} : {A : Type ℓ} {a : A} {xs : List A} → List·Memᴰ a xs → (before : List A) × (after : List A) × (xs ≡ before ++ a ∷ after)
+member-splits {A = A} (List·Memᴰ·head {x = b} {xs = rest} e) = ([], rest, ap {B = List A} (λ c. c ∷ rest) (sym e))
+member-splits {A = A} (List·Memᴰ·tail {x = b} m) =
+    let t = member-splits m in
+    (b ∷ t .0, t .1, ap {B = List A} (λ l. b ∷ l) (t .2))
+
 pub ascending-from : (a n : ℕ) → Ascending _<_ (from a n)
 ascending-from a zero = none
 ascending-from a (suc n) = next (λ b m. from-members (suc a) n m .0) (ascending-from (suc a) n)
@@ -87,6 +101,17 @@ module _ {A : Type 0} {_before_ : A → A → Type 0} where
   ascending-append {ys = ys} (next {a = a} {rest = rest} first here) later between =
       next (λ b m. ⊎-elim (λ h. first b h) (λ h. between a b (List·Memᴰ·head refl) h) (List·Memᴰ·append-cases rest m))
       (ascending-append here later (λ c b m h. between c b (List·Memᴰ·tail m) h))
+
+  -- a list in two parts ascends only if each part does and the first stands before the second
+  pub append-ascending : (xs : List A) {ys : List A} → Ascending _before_ (xs ++ ys)
+      → Ascending _before_ ys × ((a b : A) → List·Memᴰ a xs → List·Memᴰ b ys → _before_ a b)
+  append-ascending [] later = (later, λ a b m n. absurd (List·Memᴰ·not-nil m))
+  append-ascending (x ∷ xs) {ys} (next first later) =
+      let rest = append-ascending xs later in (
+        rest .0,
+        λ a b m n.
+            ⊎-elim (λ e. subst (λ (c : A). _before_ c b) (sym e) (first b (Memᴰ·append-right xs n))) (λ t. rest .1 a b t n) (List·Memᴰ·cases-cons m),
+      )
 
 -- an order that implies another on the members
 pub ascending-in : {A : Type 0} {_before_ _earlier_ : A → A → Type 0} {xs : List A}
@@ -109,3 +134,29 @@ module _ {A B : Type 0} {_before_ : B → B → Type 0} where
   ascending-flatMap f each (next {a = a} {rest = rest} first later) =
       ascending-append (each a (List·Memᴰ·head refl)) (ascending-flatMap f (λ c m. each c (List·Memᴰ·tail m)) later)
       (λ b b′ here there. let t = flatMap-members f rest there in first (t .0) (t .1) b b′ here (t .2))
+
+-- Two ascending lists with the same members are equal.
+module _ {A : Type 0} {_before_ : A → A → Type 0} (one-way : (a b : A) → _before_ a b → _before_ b a → ⊥) where
+  first-not-later : {a c : A} {xs : List A} → ((b : A) → List·Memᴰ b xs → _before_ a b) → List·Memᴰ c xs → c ≡ a → ⊥
+  first-not-later {a} {c} first m e =
+      let itself : _before_ a a = subst (λ (x : A). _before_ a x) e (first c m) in
+      one-way a a itself itself
+
+  pub ascending-same : {xs ys : List A} → Ascending _before_ xs → Ascending _before_ ys → ((c : A) → List·Memᴰ c xs ↔ List·Memᴰ c ys) → xs ≡ ys
+  ascending-same none none same = refl
+  ascending-same none (next {a = b} first later) same = absurd (List·Memᴰ·not-nil (same b .1 (List·Memᴰ·head refl)))
+  ascending-same (next {a = a} first later) none same = absurd (List·Memᴰ·not-nil (same a .0 (List·Memᴰ·head refl)))
+  ascending-same (next {a = a} {rest = xs} first later) (next {a = b} {rest = ys} first′ later′) same =
+      ap₂ {C = List A} (λ c cs. c ∷ cs) heads (ascending-same later later′ (λ c. (there c, back c)))
+    where
+      heads : a ≡ b
+      heads =
+          ⊎-elim (λ e. e)
+          (λ b<a. ⊎-elim (λ e. sym e) (λ a<b. absurd (one-way a b (first b a<b) (first′ a b<a))) (List·Memᴰ·cases-cons (same b .1 (List·Memᴰ·head refl))))
+          (List·Memᴰ·cases-cons (same a .0 (List·Memᴰ·head refl)))
+
+      there : (c : A) → List·Memᴰ c xs → List·Memᴰ c ys
+      there c m = ⊎-elim (λ e. absurd (first-not-later first m (e ∙ sym heads))) (λ t. t) (List·Memᴰ·cases-cons (same c .0 (List·Memᴰ·tail m)))
+
+      back : (c : A) → List·Memᴰ c ys → List·Memᴰ c xs
+      back c m = ⊎-elim (λ e. absurd (first-not-later first′ m (e ∙ heads))) (λ t. t) (List·Memᴰ·cases-cons (same c .1 (List·Memᴰ·tail m)))

@@ -1,9 +1,9 @@
 -- Keys and the list (document 01, "From sides to equations").
 use Prim.Native.Nat.{ℕ, zero, suc, _+_, _*_, _/_, _%_, _^_, _<_, _≤_, _-_}
 use mathlib.Core.Path.{_≡_}
-use mathlib.Core.Bool.{Bool, true, false, cond}
-use mathlib.Core.List.{List, [], _∷_, _++_, map, List·Memᴰ}
-use lib.ListN.{length, take}
+use mathlib.Core.Bool.{Bool, true, cond}
+use mathlib.Core.List.{List, [], _∷_, map, List·Memᴰ}
+use lib.ListN.{length}
 use lib.Dec.{ltb, eqb}
 use Rattle.ac.specs.Lists.{filter, flatMap, below}
 use Rattle.ac.specs.Pair.{Mode}
@@ -54,6 +54,10 @@ fieldsOf lay (suc k) (g ∷ gs) m = m / 2 ^ (lay .index-bits * k) % 2 ^ (lay .in
 abbrev pub selectionAt : Layout → Groups → ℕ → Selection
 selectionAt lay G key =
     record { indexes = fieldsOf lay (lay .constants) (G .constants) (key / 2 ^ (lay .rows)); takes = bits (length (G .balanced)) key }
+
+-- the field of a key that belongs to the constant at a place; the first constant's is the highest
+abbrev pub fieldAt : Layout → ℕ → ℕ → ℕ
+fieldAt lay key place = key / 2 ^ (lay .rows + lay .index-bits * (lay .constants - suc place)) % 2 ^ (lay .index-bits)
 
 -- A candidate has row indexes within their groups and no bit beyond the balanced rows: each field below its group's size, the unused fields, which
 -- are the lowest, 0, and nothing above the fields.

@@ -6,3 +6,4 @@ pub mod Equation
 pub mod Selection
 pub mod Keys
 pub mod Replacement
+pub mod Pages

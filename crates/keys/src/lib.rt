@@ -1,8 +1,10 @@
 // Keys of a solved pair: taken apart by shifts and masks, and weighed (document 01, "From sides to equations").
 ghost use mathlib.Core.Path.{_≡_};
 ghost use Prim.Native.Nat.{_<_, _≤_};
-ghost use Rattle.ac.specs.Keys.{bit};
-ghost use Rattle.keys.specs.Reach.{any, indexAt, constantReaches, balancedReaches};
+ghost use Rattle.ac.specs.Rows.{Groups};
+ghost use Rattle.ac.specs.Selection.{taken, allReached};
+ghost use Rattle.ac.specs.Keys.{layout, bit, fieldAt, selectionAt, Candidate, Fits};
+ghost use Rattle.keys.specs.Reach.{any, constantReaches, balancedReaches, reaches, Holds};
 use table::CONSTANTS;
 use table::GROUP;
 use table::Table;
@@ -13,7 +15,7 @@ pub const MASK_BITS: usize = 16;
 
 pub const INDEX_BITS: usize = 4;
 
-pub const HIGHEST_FIELD: usize = 28;
+pub const INDEX_MASK: u32 = 15;
 
 // Whether the key takes balanced row `i`: bit i of the low 16.
 pub fn takes(key: u32, i: usize) -> bool
@@ -26,9 +28,9 @@ pub fn takes(key: u32, i: usize) -> bool
 // The row index of constant number `g`: bits 28 to 31 for the lowest, for the next 24 to 27, then 20 to 23 and 16 to 19.
 pub fn index_at(key: u32, g: usize) -> usize
     requires { ⌜ g < 4 ⌝ }
-    ensures { λ r. ⌜ r ≡ indexAt key g ⌝ }
+    ensures { λ r. ⌜ r ≡ fieldAt layout key g ⌝ }
 {
-    (key >> (HIGHEST_FIELD - INDEX_BITS * g) & 15) as usize
+    (key >> (MASK_BITS + INDEX_BITS * (CONSTANTS - (g + 1))) & INDEX_MASK) as usize
 }
 
 // Whether one of the constants' rows that the key takes is above 0 at the place.
@@ -60,4 +62,31 @@ fn balanced_reach(rows: &[u8; 480], balanced: usize, key: u32, place: usize) -> 
         i += 1;
     }
     false
+}
+
+// Whether a row that the key takes is above 0 at the place.
+fn reached(rows: &[u8; 480], unbalanced: usize, balanced: usize, key: u32, place: usize) -> bool
+    requires { ⌜ (unbalanced ≤ 4) × (balanced ≤ 16) × (place < 6) ⌝ }
+    ensures { λ r. ⌜ r ≡ reaches (now (rows .entry)) unbalanced balanced key place ⌝ }
+{
+    if constants_reach(rows, unbalanced, key, place) {
+        return true;
+    }
+    balanced_reach(rows, balanced, key, place)
+}
+
+// Whether the key's selection is admissible, of a candidate: each place is above 0 in at least one taken row.
+pub fn weigh(rows: &[u8; 480], places: usize, unbalanced: usize, balanced: usize, key: u32) -> bool
+    requires { ⌜ (places ≤ 6) × (unbalanced ≤ 4) × (balanced ≤ 16) ⌝ }
+    ensures { λ r. ⌜ ((G : Groups) → Holds (now (rows .entry)) places unbalanced balanced G → Fits layout G
+        → Candidate layout G key → r ≡ allReached (taken (layout .new) G (selectionAt layout G key)) places) ⌝ }
+{
+    let mut place: usize = 0;
+    while place < places {
+        if !reached(rows, unbalanced, balanced, key, place) {
+            return false;
+        }
+        place += 1;
+    }
+    true
 }

@@ -1,0 +1,20 @@
+use lib.Dec.{eqb}
+use mathlib.Core.Path.{ap}
+use Rattle.keys.proofs.Bits.{field-at}
+use borrow.Author.Needs.{needs}
+use Rattle.keys.proofs.takes.Statement.{statement}
+use Rattle.keys.proofs.takes.Tie as tie
+use Rattle.keys.proofs.takes.Reads as reads
+use Rattle.keys.proofs.takes.Lts as lts
+
+cast-result : tie.Need-cast-result
+cast-result c = search needs
+
+shr-result : tie.Need-shr-result
+shr-result c = search needs
+
+returns : tie.Need-returns
+returns c = ap (λ n. eqb n 1) (field-at (c .args .key) (c .args .i) 1)
+
+pub takes-spec : {M : Type 1} → statement M
+takes-spec = tie.close (tie.spec cast-result shr-result returns)

@@ -1,0 +1,92 @@
+// Keys of a solved pair: taken apart by shifts and masks, and weighed (document 01, "From sides to equations").
+ghost use mathlib.Core.Path.{_≡_};
+ghost use Prim.Native.Nat.{_<_, _≤_};
+ghost use Rattle.ac.specs.Rows.{Groups};
+ghost use Rattle.ac.specs.Selection.{taken, allReached};
+ghost use Rattle.ac.specs.Keys.{layout, bit, fieldAt, selectionAt, Candidate, Fits};
+ghost use Rattle.keys.specs.Reach.{any, constantReaches, balancedReaches, reaches, Holds};
+use table::CONSTANTS;
+use table::GROUP;
+use table::Table;
+use table::VARIABLES;
+
+// A key has 16 low bits for the balanced rows, and above them 4 fields of 4 bits; the lowest constant's stands highest.
+pub const MASK_BITS: usize = 16;
+
+pub const INDEX_BITS: usize = 4;
+
+pub const INDEX_MASK: u32 = 15;
+
+// Whether the key takes balanced row `i`: bit i of the low 16.
+pub fn takes(key: u32, i: usize) -> bool
+    requires { ⌜ i < 16 ⌝ }
+    ensures { λ r. ⌜ r ≡ bit key i ⌝ }
+{
+    key >> i & 1 == 1
+}
+
+// The row index of constant number `g`: bits 28 to 31 for the lowest, for the next 24 to 27, then 20 to 23 and 16 to 19.
+pub fn index_at(key: u32, g: usize) -> usize
+    requires { ⌜ g < 4 ⌝ }
+    ensures { λ r. ⌜ r ≡ fieldAt layout key g ⌝ }
+{
+    (key >> (MASK_BITS + INDEX_BITS * (CONSTANTS - (g + 1))) & INDEX_MASK) as usize
+}
+
+// Whether one of the constants' rows that the key takes is above 0 at the place.
+fn constants_reach(rows: &[u8; 480], unbalanced: usize, key: u32, place: usize) -> bool
+    requires { ⌜ (unbalanced ≤ 4) × (place < 6) ⌝ }
+    ensures { λ r. ⌜ r ≡ any unbalanced (constantReaches (now (rows .entry)) key place) ⌝ }
+{
+    let mut g: usize = 0;
+    while g < unbalanced {
+        let index = index_at(key, g);
+        if rows[GROUP * (g + 1) + VARIABLES * index + place] > 0 {
+            return true;
+        }
+        g += 1;
+    }
+    false
+}
+
+// Whether one of the balanced rows that the key takes is above 0 at the place.
+fn balanced_reach(rows: &[u8; 480], balanced: usize, key: u32, place: usize) -> bool
+    requires { ⌜ (balanced ≤ 16) × (place < 6) ⌝ }
+    ensures { λ r. ⌜ r ≡ any balanced (balancedReaches (now (rows .entry)) key place) ⌝ }
+{
+    let mut i: usize = 0;
+    while i < balanced {
+        if takes(key, i) && rows[VARIABLES * i + place] > 0 {
+            return true;
+        }
+        i += 1;
+    }
+    false
+}
+
+// Whether a row that the key takes is above 0 at the place.
+fn reached(rows: &[u8; 480], unbalanced: usize, balanced: usize, key: u32, place: usize) -> bool
+    requires { ⌜ (unbalanced ≤ 4) × (balanced ≤ 16) × (place < 6) ⌝ }
+    ensures { λ r. ⌜ r ≡ reaches (now (rows .entry)) unbalanced balanced key place ⌝ }
+{
+    if constants_reach(rows, unbalanced, key, place) {
+        return true;
+    }
+    balanced_reach(rows, balanced, key, place)
+}
+
+// Whether the key's selection is admissible, of a candidate: each place is above 0 in at least one taken row.
+pub fn weigh(rows: &[u8; 480], places: usize, unbalanced: usize, balanced: usize, key: u32) -> bool
+    requires { ⌜ (places ≤ 6) × (unbalanced ≤ 4) × (balanced ≤ 16) ⌝ }
+    ensures { λ r. ⌜ ((G : Groups) → Holds (now (rows .entry)) places unbalanced balanced G → Fits layout G
+        → Candidate layout G key → r ≡ allReached (taken (layout .new) G (selectionAt layout G key)) places) ⌝ }
+{
+    let mut place: usize = 0;
+    while place < places {
+        if !reached(rows, unbalanced, balanced, key, place) {
+            return false;
+        }
+        place += 1;
+    }
+    true
+}

@@ -4,6 +4,7 @@ ghost use mathlib.Core.Path.{_≡_};
 ghost use mathlib.Core.List.{_∷_, _++_};
 ghost use lib.ListN.{length};
 ghost use lib.Dec.{ltb};
+ghost use mathlib.Core.Bool.{false};
 ghost use Rattle.ac.specs.Values.{laidOut};
 ghost use Rattle.buffer.specs.Put.{Put};
 ghost use Rattle.keys.specs.Reach.{any};
@@ -82,7 +83,13 @@ fn balanced_length(rows: &[u8; 480], balanced: usize, key: u32, place: usize) ->
 }
 
 // How many atoms the value at the place has.
-pub fn value_length(rows: &[u8; 480], unbalanced: usize, balanced: usize, key: u32, place: usize) -> usize
+pub fn value_length(
+    rows: &[u8; 480],
+    unbalanced: usize,
+    balanced: usize,
+    key: u32,
+    place: usize,
+) -> usize
     requires { ⌜ (unbalanced ≤ 4) × (balanced ≤ 16) × (place < 6) ⌝ }
     ensures { λ r. ⌜ r ≡ lengthAt (now (rows .entry)) unbalanced balanced key place ⌝ }
 {
@@ -90,7 +97,13 @@ pub fn value_length(rows: &[u8; 480], unbalanced: usize, balanced: usize, key: u
 }
 
 // Whether a value would have more than 200 atoms.
-pub fn too_long(rows: &[u8; 480], places: usize, unbalanced: usize, balanced: usize, key: u32) -> bool
+pub fn too_long(
+    rows: &[u8; 480],
+    places: usize,
+    unbalanced: usize,
+    balanced: usize,
+    key: u32,
+) -> bool
     requires { ⌜ (places ≤ 6) × (unbalanced ≤ 4) × (balanced ≤ 16) ⌝ }
     ensures { λ r. ⌜ r ≡ any places (λ p. ltb 200 (lengthAt (now (rows .entry)) unbalanced balanced key p)) ⌝ }
 {
@@ -105,7 +118,15 @@ pub fn too_long(rows: &[u8; 480], places: usize, unbalanced: usize, balanced: us
 }
 
 // The constants in the value at the place: each, ascending, as often as its taken row says.
-fn put_constants(rows: &[u8; 480], constants: &[u8; 4], unbalanced: usize, key: u32, place: usize, out: &mut [u8], at: usize) -> usize
+fn put_constants(
+    rows: &[u8; 480],
+    constants: &[u8; 4],
+    unbalanced: usize,
+    key: u32,
+    place: usize,
+    out: &mut [u8],
+    at: usize,
+) -> usize
     requires { ⌜ (unbalanced ≤ 4) × (place < 6) ⌝ }
     requires { ⌜ at + total unbalanced (constantTimes (now rows) key place) ≤ length (now out) ⌝ }
     ensures { λ r. ⌜ Put (now (out .entry)) at (runs unbalanced (constantTimes (now (rows .entry)) key place) (constantAt (now (constants .entry)))) r
@@ -122,7 +143,14 @@ fn put_constants(rows: &[u8; 480], constants: &[u8; 4], unbalanced: usize, key: 
 }
 
 // The new variables in the value at the place: each, ascending, as often as its row says, if that is taken.
-fn put_new(rows: &[u8; 480], balanced: usize, key: u32, place: usize, out: &mut [u8], at: usize) -> usize
+fn put_new(
+    rows: &[u8; 480],
+    balanced: usize,
+    key: u32,
+    place: usize,
+    out: &mut [u8],
+    at: usize,
+) -> usize
     requires { ⌜ (balanced ≤ 16) × (place < 6) ⌝ }
     requires { ⌜ at + total balanced (balancedTimes (now rows) key place) ≤ length (now out) ⌝ }
     ensures { λ r. ⌜ Put (now (out .entry)) at (runs balanced (balancedTimes (now (rows .entry)) key place) newAt) r (now (out .exit)) ⌝ }
@@ -133,6 +161,68 @@ fn put_new(rows: &[u8; 480], balanced: usize, key: u32, place: usize, out: &mut 
         let times = balanced_times(rows, key, place, wide(i));
         next = put_repeated(out, next, NEW + i, times);
         i += 1;
+    }
+    next
+}
+
+// A variable with its value: its byte, the count and the atoms.
+fn put_binding(
+    rows: &[u8; 480],
+    constants: &[u8; 4],
+    variable: u8,
+    unbalanced: usize,
+    balanced: usize,
+    key: u32,
+    place: usize,
+    out: &mut [u8],
+    at: usize,
+) -> usize
+    requires { ⌜ (unbalanced ≤ 4) × (balanced ≤ 16) × (place < 6) ⌝ }
+    requires { ⌜ lengthAt (now rows) unbalanced balanced key place ≤ 200 ⌝ }
+    requires { ⌜ at + 202 ≤ length (now out) ⌝ }
+    ensures { λ r. ⌜ Put (now (out .entry)) at
+        (variable ∷ lengthAt (now (rows .entry)) unbalanced balanced key place ∷ atomsAt (now (rows .entry)) (now (constants .entry)) unbalanced balanced key place) r
+        (now (out .exit)) ⌝ }
+{
+    out[at] = variable;
+    out[at + 1] = value_length(rows, unbalanced, balanced, key, place) as u8;
+    let next = put_constants(rows, constants, unbalanced, key, place, out, at + 2);
+    put_new(rows, balanced, key, place, out, next)
+}
+
+// The variables, ascending, each with its value.
+pub fn put_bindings(
+    rows: &[u8; 480],
+    constants: &[u8; 4],
+    variables: &[u8; 6],
+    places: usize,
+    unbalanced: usize,
+    balanced: usize,
+    key: u32,
+    out: &mut [u8],
+) -> usize
+    requires { ⌜ (places ≤ 6) × (unbalanced ≤ 4) × (balanced ≤ 16) ⌝ }
+    requires { ⌜ any places (λ p. ltb 200 (lengthAt (now rows) unbalanced balanced key p)) ≡ false ⌝ }
+    requires { ⌜ 1212 ≤ length (now out) ⌝ }
+    ensures { λ r. ⌜ Put (now (out .entry)) 0
+        (laidOut (bindingsBelow (now (variables .entry)) (atomsAt (now (rows .entry)) (now (constants .entry)) unbalanced balanced key) places)) r
+        (now (out .exit)) ⌝ }
+{
+    let mut next: usize = 0;
+    let mut place: usize = 0;
+    while place < places {
+        next = put_binding(
+            rows,
+            constants,
+            variables[place],
+            unbalanced,
+            balanced,
+            key,
+            place,
+            out,
+            next,
+        );
+        place += 1;
     }
     next
 }

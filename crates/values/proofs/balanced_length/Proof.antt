@@ -6,9 +6,6 @@ use Rattle.values.specs.Runs.{total, balancedTimes}
 use Rattle.values.proofs.Totals.{total-next}
 use Rattle.values.proofs.balanced_length.Statement.{statement}
 use Rattle.values.proofs.balanced_length.Tie as tie
-use Rattle.values.proofs.balanced_length.Reads as reads
-use Rattle.values.proofs.balanced_length.Lts as lts
-use Rattle.values.proofs.balanced_times.Reads as balanced-times-reads
 
 abbrev Inv-loop : tie.InvT-loop
 Inv-loop rows balanced key place length₀ i₀ length i = (i ≤ balanced) × (length ≡ total i (balancedTimes rows key place)) × (length ≤ 255 * i)
@@ -16,36 +13,29 @@ Inv-loop rows balanced key place length₀ i₀ length i = (i ≤ balanced) × (
 abbrev μ-loop : tie.MeasureT-loop
 μ-loop rows balanced key place length₀ i₀ length i = balanced - i
 
--- src/lib.rt:76:5
 loop-holds : tie.Need-loop-holds Inv-loop μ-loop
 loop-holds c = (omega arith, refl, omega arith)
 
--- src/lib.rt:77:19
 balanced-times-requires : tie.Need-balanced-times-requires Inv-loop μ-loop
 balanced-times-requires c κs = omega arith
 
--- src/lib.rt:77:9
 add-length : tie.Need-add-length Inv-loop μ-loop
 add-length c = omega (arith, c .balanced-times .ensures .1)
 
--- src/lib.rt:78:9
 add-i : tie.Need-add-i Inv-loop μ-loop
 add-i c = omega arith
 
--- src/lib.rt:76:5
 loop-less : tie.Need-loop-less Inv-loop μ-loop
 loop-less c = omega arith
 
--- src/lib.rt:76:5
 loop-again : tie.Need-loop-again Inv-loop μ-loop
-loop-again c = 
+loop-again c =
     let a = c .before .before .before .args in
     let l = c .before .before .loop in
     (omega arith, total-next (balancedTimes (a .rows .now) (a .key) (a .place)) (l .inv .1) (c .balanced-times .ensures .0), omega (arith, c .balanced-times .ensures .1))
 
--- src/lib.rt:69:1
 returns : tie.Need-returns Inv-loop μ-loop
-returns c = 
+returns c =
     let a = c .before .before .args in
     let l = c .before .loop in
     let same : l .i ≡ a .balanced = omega arith in

@@ -7,41 +7,32 @@ use lib.ListN.{getD}
 use borrow.Author.Needs.{needs}
 use Rattle.values.proofs.balanced_times.Statement.{statement}
 use Rattle.values.proofs.balanced_times.Tie as tie
-use Rattle.values.proofs.balanced_times.Reads as reads
-use Rattle.values.proofs.balanced_times.Lts as lts
-use Rattle.keys.proofs.takes.Reads as takes-reads
-use Rattle.values.proofs.wide.Reads as wide-reads
 
--- src/lib.rt:46:8
 takes-requires : tie.Need-takes-requires
 takes-requires c κs = search needs
 
--- src/lib.rt:47:19
 mul-wide : tie.Need-mul-wide
 mul-wide c = search needs
 
--- src/lib.rt:47:19
 add-wide : tie.Need-add-wide
 add-wide c = search needs
 
--- src/lib.rt:47:14
 element-copy-out-wide : tie.Need-element-copy-out-wide
 element-copy-out-wide c = search needs
 
--- src/lib.rt:47:9
 wide-requires : tie.Need-wide-requires
 wide-requires c κs = search needs
 
--- src/lib.rt:41:1
 returns : tie.Need-returns
-returns c = 
-    let a = c .before .before .before .before .args in
-    (c .wide .ensures .0
-    ∙ ap (λ (b : Bool). cond b (getD (a .rows .now) (6 * a .i + a .place) 0) 0) (sym (c .before .before .if1 .taken) ∙ c .before .before .before .takes .ensures), c .wide .ensures .1)
+returns c =
+    let a = c .before .before .before .before .args in (
+      c .wide .ensures .0
+          ∙ ap (λ (b : Bool). cond b (getD (a .rows .now) (6 * a .i + a .place) 0) 0) (sym (c .before .before .if1 .taken) ∙ c .before .before .before .takes .ensures),
+      c .wide .ensures .1,
+    )
 
--- src/lib.rt:41:1
 returns-2 : tie.Need-returns-2
-returns-2 c = 
+returns-2 c =
     let a = c .before .before .args in
     (ap (λ (b : Bool). cond b (getD (a .rows .now) (6 * a .i + a .place) 0) 0) (sym (c .if1 .left) ∙ c .before .takes .ensures), omega arith)
 

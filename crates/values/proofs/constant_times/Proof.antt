@@ -5,49 +5,38 @@ use lib.ListN.{getD}
 use borrow.Author.Needs.{needs}
 use Rattle.values.proofs.constant_times.Statement.{statement}
 use Rattle.values.proofs.constant_times.Tie as tie
-use Rattle.values.proofs.constant_times.Reads as reads
-use Rattle.values.proofs.constant_times.Lts as lts
-use Rattle.keys.proofs.index_at.Reads as index-at-reads
-use Rattle.values.proofs.wide.Reads as wide-reads
 
--- src/lib.rt:36:9
 index-at-requires : tie.Need-index-at-requires
 index-at-requires c κs = search needs
 
--- src/lib.rt:37:24
 add-wide : tie.Need-add-wide
 add-wide c = search needs
 
--- src/lib.rt:37:15
 mul-wide : tie.Need-mul-wide
 mul-wide c = search needs
 
--- src/lib.rt:37:33
 mul-wide-2 : tie.Need-mul-wide-2
 mul-wide-2 c = search needs
 
--- src/lib.rt:37:15
 add-wide-2 : tie.Need-add-wide-2
 add-wide-2 c = search needs
 
--- src/lib.rt:37:15
 add-wide-3 : tie.Need-add-wide-3
 add-wide-3 c = search needs
 
--- src/lib.rt:37:10
 element-copy-out-wide : tie.Need-element-copy-out-wide
 element-copy-out-wide c = search needs
 
--- src/lib.rt:37:5
 wide-requires : tie.Need-wide-requires
 wide-requires c κs = search needs
 
--- src/lib.rt:31:1
 returns : tie.Need-returns
-returns c = 
-    let a = c .before .before .before .args in
-    (c .wide .ensures .0
-    ∙ ap (λ (i : ℕ). getD (a .rows .now) (96 * (a .g + 1) + 6 * i + a .place) 0) (c .before .before .index-at .ensures), c .wide .ensures .1)
+returns c =
+    let a = c .before .before .before .args in (
+      c .wide .ensures .0
+          ∙ ap (λ (i : ℕ). getD (a .rows .now) (96 * (a .g + 1) + 6 * i + a .place) 0) (c .before .before .index-at .ensures),
+      c .wide .ensures .1,
+    )
 
 pub constant-times-spec : {M : Type 1} → statement M
 constant-times-spec =

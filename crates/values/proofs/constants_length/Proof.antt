@@ -6,9 +6,6 @@ use Rattle.values.specs.Runs.{total, constantTimes}
 use Rattle.values.proofs.Totals.{total-next}
 use Rattle.values.proofs.constants_length.Statement.{statement}
 use Rattle.values.proofs.constants_length.Tie as tie
-use Rattle.values.proofs.constants_length.Reads as reads
-use Rattle.values.proofs.constants_length.Lts as lts
-use Rattle.values.proofs.constant_times.Reads as constant-times-reads
 
 abbrev Inv-loop : tie.InvT-loop
 Inv-loop rows unbalanced key place length₀ g₀ length g = (g ≤ unbalanced) × (length ≡ total g (constantTimes rows key place)) × (length ≤ 255 * g)
@@ -16,36 +13,29 @@ Inv-loop rows unbalanced key place length₀ g₀ length g = (g ≤ unbalanced) 
 abbrev μ-loop : tie.MeasureT-loop
 μ-loop rows unbalanced key place length₀ g₀ length g = unbalanced - g
 
--- src/lib.rt:61:5
 loop-holds : tie.Need-loop-holds Inv-loop μ-loop
 loop-holds c = (omega arith, refl, omega arith)
 
--- src/lib.rt:62:19
 constant-times-requires : tie.Need-constant-times-requires Inv-loop μ-loop
 constant-times-requires c κs = omega arith
 
--- src/lib.rt:62:9
 add-length : tie.Need-add-length Inv-loop μ-loop
 add-length c = omega (arith, c .constant-times .ensures .1)
 
--- src/lib.rt:63:9
 add-g : tie.Need-add-g Inv-loop μ-loop
 add-g c = omega arith
 
--- src/lib.rt:61:5
 loop-less : tie.Need-loop-less Inv-loop μ-loop
 loop-less c = omega arith
 
--- src/lib.rt:61:5
 loop-again : tie.Need-loop-again Inv-loop μ-loop
-loop-again c = 
+loop-again c =
     let a = c .before .before .before .args in
     let l = c .before .before .loop in
     (omega arith, total-next (constantTimes (a .rows .now) (a .key) (a .place)) (l .inv .1) (c .constant-times .ensures .0), omega (arith, c .constant-times .ensures .1))
 
--- src/lib.rt:54:1
 returns : tie.Need-returns Inv-loop μ-loop
-returns c = 
+returns c =
     let a = c .before .before .args in
     let l = c .before .loop in
     let same : l .g ≡ a .unbalanced = omega arith in

@@ -8,10 +8,6 @@ use Rattle.values.specs.Runs.{runs, constantTimes, constantAt}
 use Rattle.values.proofs.Totals.{run-fits, put-run}
 use Rattle.values.proofs.put_constants.Statement.{statement}
 use Rattle.values.proofs.put_constants.Tie as tie
-use Rattle.values.proofs.put_constants.Reads as reads
-use Rattle.values.proofs.put_constants.Lts as lts
-use Rattle.buffer.proofs.put_repeated.Reads as put-repeated-reads
-use Rattle.values.proofs.constant_times.Reads as constant-times-reads
 
 abbrev Inv-loop : tie.InvT-loop
 Inv-loop rows constants unbalanced key place out₀ at next₀ g₀ out next g = (g ≤ unbalanced) × Put out₀ at (runs g (constantTimes rows key place) (constantAt constants)) next out
@@ -19,45 +15,36 @@ Inv-loop rows constants unbalanced key place out₀ at next₀ g₀ out next g =
 abbrev μ-loop : tie.MeasureT-loop
 μ-loop rows constants unbalanced key place out₀ at next₀ g₀ out next g = unbalanced - g
 
--- src/lib.rt:116:5
 loop-holds : tie.Need-loop-holds Inv-loop μ-loop
 loop-holds c = (omega arith, put-nothing _ _)
 
--- src/lib.rt:117:13
 constant-times-requires : tie.Need-constant-times-requires Inv-loop μ-loop
 constant-times-requires c κs = omega arith
 
--- src/lib.rt:118:40
 element-copy-out-put-repeated : tie.Need-element-copy-out-put-repeated Inv-loop μ-loop
 element-copy-out-put-repeated c = omega arith
 
--- src/lib.rt:118:9
 put-repeated-requires : tie.Need-put-repeated-requires Inv-loop μ-loop
 put-repeated-requires c κs =
     let a = c .before .before .before .before .before .before .args in
     run-fits (c .before .before .before .before .loop .g) (constantTimes (a .rows .now) (a .key) (a .place)) (constantAt (a .constants .now)) (c .before .before .before .before .loop .inv .1) (c .before .before .before .before .before .before .args .unbalanced) (omega arith) (c .before .before .before .before .before .before .pre .1) (c .before .before .constant-times .ensures .0)
 
--- src/lib.rt:119:9
 add-g : tie.Need-add-g Inv-loop μ-loop
 add-g c = omega arith
 
--- src/lib.rt:116:5
 loop-less : tie.Need-loop-less Inv-loop μ-loop
 loop-less c = omega arith
 
--- src/lib.rt:116:5
 loop-again : tie.Need-loop-again Inv-loop μ-loop
 loop-again c =
     let a = c .before .before .before .before .before .before .before .before .before .args in
     (omega arith, put-run (c .before .before .before .before .before .before .before .loop .g) (constantTimes (a .rows .now) (a .key) (a .place)) (constantAt (a .constants .now)) (c .before .before .before .before .before .before .before .loop .inv .1) (c .before .before .before .before .before .constant-times .ensures .0) refl (c .before .before .put-repeated .ensures))
 
--- src/lib.rt:108:1
 same-length : tie.Need-same-length Inv-loop μ-loop
 same-length c = put-length (c .before .loop .inv .1)
 
--- src/lib.rt:108:1
 returns : tie.Need-returns Inv-loop μ-loop
-returns c = 
+returns c =
     let a = c .before .before .before .args in
     let same : c .before .loop .g ≡ a .unbalanced = omega arith in
     put-as (ap (λ (n : ℕ). runs n (constantTimes (a .rows .now) (a .key) (a .place)) (constantAt (a .constants .now))) same) (c .before .loop .inv .1)

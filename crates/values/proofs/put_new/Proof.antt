@@ -1,19 +1,14 @@
 -- `values::put_new` meets its contract: before each turn the runs of the new variables before i have been put. Assumes nothing.
 use borrow.Author.Needs.{needs}
-use Prim.Native.Nat.{ℕ, _≤_, _<_, _-_, _+_}
+use Prim.Native.Nat.{ℕ, _≤_, _<_, _-_}
 use native.Mathlib.Omega.{arith}
-use mathlib.Core.Path.{_≡_, refl, ap, _∙_, subst}
+use mathlib.Core.Path.{_≡_, refl, ap, _∙_}
 use Rattle.buffer.specs.Put.{Put}
 use Rattle.buffer.proofs.Puts.{put-nothing, put-length, put-as}
 use Rattle.values.specs.Runs.{runs, balancedTimes, newAt}
 use Rattle.values.proofs.Totals.{run-fits, put-run}
 use Rattle.values.proofs.put_new.Statement.{statement}
 use Rattle.values.proofs.put_new.Tie as tie
-use Rattle.values.proofs.put_new.Reads as reads
-use Rattle.values.proofs.put_new.Lts as lts
-use Rattle.buffer.proofs.put_repeated.Reads as put-repeated-reads
-use Rattle.values.proofs.balanced_times.Reads as balanced-times-reads
-use Rattle.values.proofs.wide.Reads as wide-reads
 
 abbrev Inv-loop : tie.InvT-loop
 Inv-loop rows balanced key place out₀ at next₀ i₀ out next i = (i ≤ balanced) × Put out₀ at (runs i (balancedTimes rows key place) newAt) next out
@@ -21,57 +16,47 @@ Inv-loop rows balanced key place out₀ at next₀ i₀ out next i = (i ≤ bala
 abbrev μ-loop : tie.MeasureT-loop
 μ-loop rows balanced key place out₀ at next₀ i₀ out next i = balanced - i
 
--- src/lib.rt:132:5
 loop-holds : tie.Need-loop-holds Inv-loop μ-loop
 loop-holds c = (omega arith, put-nothing _ _)
 
--- src/lib.rt:132:11
 wide-requires : tie.Need-wide-requires Inv-loop μ-loop
 wide-requires c κs = search needs
 
--- src/lib.rt:133:54
 wide-requires-2 : tie.Need-wide-requires-2 Inv-loop μ-loop
 wide-requires-2 c κs = search needs
 
--- src/lib.rt:133:13
 balanced-times-requires : tie.Need-balanced-times-requires Inv-loop μ-loop
 balanced-times-requires c κs = omega (arith, c .wide2 .ensures .0, c .before .before .wide .ensures .0)
 
--- src/lib.rt:134:40
 add-put-repeated : tie.Need-add-put-repeated Inv-loop μ-loop
 add-put-repeated c = omega (arith, c .before .before .before .before .wide .ensures .0)
 
--- src/lib.rt:134:9
 put-repeated-requires : tie.Need-put-repeated-requires Inv-loop μ-loop
-put-repeated-requires c κs = 
+put-repeated-requires c κs =
     let a = c .before .before .before .before .before .before .before .args in
     let below : c .before .before .before .before .before .loop .i < a .balanced = omega (arith, c .before .before .before .before .wide .ensures .0) in
     run-fits (c .before .before .before .before .before .loop .i) (balancedTimes (a .rows .now) (a .key) (a .place)) newAt (c .before .before .before .before .before .loop .inv .1) (a .balanced) below (c .before .before .before .before .before .before .before .pre .1)
     (c .before .balanced-times .ensures .0 ∙ ap (balancedTimes (a .rows .now) (a .key) (a .place)) (c .before .before .wide2 .ensures .0))
 
--- src/lib.rt:135:9
 add-i : tie.Need-add-i Inv-loop μ-loop
 add-i c = omega (arith, c .before .before .before .before .before .before .before .wide .ensures .0)
 
--- src/lib.rt:132:5
 loop-less : tie.Need-loop-less Inv-loop μ-loop
 loop-less c = omega (arith, c .before .before .before .before .before .before .before .wide .ensures .0)
 
--- src/lib.rt:132:5
 loop-again : tie.Need-loop-again Inv-loop μ-loop
-loop-again c = 
-    let a = c .before .before .before .before .before .before .before .before .before .before .args in
-    (omega (arith, c .before .before .before .before .before .before .before .wide .ensures .0),
-     put-run (c .before .before .before .before .before .before .before .before .loop .i) (balancedTimes (a .rows .now) (a .key) (a .place)) newAt (c .before .before .before .before .before .before .before .before .loop .inv .1)
-     (c .before .before .before .before .balanced-times .ensures .0 ∙ ap (balancedTimes (a .rows .now) (a .key) (a .place)) (c .before .before .before .before .before .wide2 .ensures .0)) refl (c .before .before .put-repeated .ensures))
+loop-again c =
+    let a = c .before .before .before .before .before .before .before .before .before .before .args in (
+      omega (arith, c .before .before .before .before .before .before .before .wide .ensures .0),
+      put-run (c .before .before .before .before .before .before .before .before .loop .i) (balancedTimes (a .rows .now) (a .key) (a .place)) newAt (c .before .before .before .before .before .before .before .before .loop .inv .1)
+          (c .before .before .before .before .balanced-times .ensures .0 ∙ ap (balancedTimes (a .rows .now) (a .key) (a .place)) (c .before .before .before .before .before .wide2 .ensures .0)) refl (c .before .before .put-repeated .ensures),
+    )
 
--- src/lib.rt:125:1
 same-length : tie.Need-same-length Inv-loop μ-loop
 same-length c = put-length (c .before .before .loop .inv .1)
 
--- src/lib.rt:125:1
 returns : tie.Need-returns Inv-loop μ-loop
-returns c = 
+returns c =
     let a = c .before .before .before .before .args in
     let same : c .before .before .loop .i ≡ a .balanced = omega (arith, c .before .wide .ensures .0) in
     put-as (ap (λ (n : ℕ). runs n (balancedTimes (a .rows .now) (a .key) (a .place)) newAt) same) (c .before .before .loop .inv .1)

@@ -10,9 +10,6 @@ use Rattle.keys.proofs.Any.{any-found, any-more}
 use Rattle.values.specs.Runs.{lengthAt}
 use Rattle.values.proofs.too_long.Statement.{statement}
 use Rattle.values.proofs.too_long.Tie as tie
-use Rattle.values.proofs.too_long.Reads as reads
-use Rattle.values.proofs.too_long.Lts as lts
-use Rattle.values.proofs.value_length.Reads as value-length-reads
 
 abbrev Inv-loop : tie.InvT-loop
 Inv-loop rows places unbalanced balanced key place₀ place = (place ≤ places) × (any place (λ p. ltb 200 (lengthAt rows unbalanced balanced key p)) ≡ false)
@@ -20,17 +17,14 @@ Inv-loop rows places unbalanced balanced key place₀ place = (place ≤ places)
 abbrev μ-loop : tie.MeasureT-loop
 μ-loop rows places unbalanced balanced key place₀ place = places - place
 
--- src/lib.rt:98:5
 loop-holds : tie.Need-loop-holds Inv-loop μ-loop
 loop-holds c = (omega arith, refl)
 
--- src/lib.rt:99:22
 value-length-requires : tie.Need-value-length-requires Inv-loop μ-loop
 value-length-requires c κs = omega arith
 
--- src/lib.rt:100:13
 returns : tie.Need-returns Inv-loop μ-loop
-returns c = 
+returns c =
     let a = c .before .before .before .before .args in
     let p = c .before .before .before .loop .place in
     let long : 200 < lengthAt (a .rows .now) (a .unbalanced) (a .balanced) (a .key) p = subst (λ (n : ℕ). 200 < n) (c .before .value-length .ensures) (c .if1 .taken) in
@@ -38,27 +32,24 @@ returns c =
     (any-found (a .places) p (λ p. ltb 200 (lengthAt (a .rows .now) (a .unbalanced) (a .balanced) (a .key) p)) (omega arith)
     (lt-ltb 200 (lengthAt (a .rows .now) (a .unbalanced) (a .balanced) (a .key) p) long))
 
--- src/lib.rt:102:9
 add-place : tie.Need-add-place Inv-loop μ-loop
 add-place c = omega arith
 
--- src/lib.rt:98:5
 loop-less : tie.Need-loop-less Inv-loop μ-loop
 loop-less c = omega arith
 
--- src/lib.rt:98:5
 loop-again : tie.Need-loop-again Inv-loop μ-loop
-loop-again c = 
+loop-again c =
     let a = c .before .before .before .before .args in
     let p = c .before .before .before .loop .place in
-    let short : lengthAt (a .rows .now) (a .unbalanced) (a .balanced) (a .key) p ≤ 200 = subst (λ (n : ℕ). n ≤ 200) (c .before .value-length .ensures) (c .if1 .left) in
-    (omega arith,
-     any-more p (λ p. ltb 200 (lengthAt (a .rows .now) (a .unbalanced) (a .balanced) (a .key) p)) (c .before .before .before .loop .inv .1)
-     (le-ltb 200 (lengthAt (a .rows .now) (a .unbalanced) (a .balanced) (a .key) p) short))
+    let short : lengthAt (a .rows .now) (a .unbalanced) (a .balanced) (a .key) p ≤ 200 = subst (λ (n : ℕ). n ≤ 200) (c .before .value-length .ensures) (c .if1 .left) in (
+      omega arith,
+      any-more p (λ p. ltb 200 (lengthAt (a .rows .now) (a .unbalanced) (a .balanced) (a .key) p)) (c .before .before .before .loop .inv .1)
+          (le-ltb 200 (lengthAt (a .rows .now) (a .unbalanced) (a .balanced) (a .key) p) short),
+    )
 
--- src/lib.rt:93:1
 returns-2 : tie.Need-returns-2 Inv-loop μ-loop
-returns-2 c = 
+returns-2 c =
     let a = c .before .before .args in
     let same : c .before .loop .place ≡ a .places = omega arith in
     sym (c .before .loop .inv .1) ∙ ap (λ (n : ℕ). any n (λ p. ltb 200 (lengthAt (a .rows .now) (a .unbalanced) (a .balanced) (a .key) p))) same

@@ -73,10 +73,10 @@ dot-add f g [] v = omega arith
 dot-add f g (x ∷ xs) [] = omega arith
 dot-add f g (x ∷ xs) (n ∷ v) = omega (arith, dot-add f g xs v)
 
-pub dot-zero : (xs v : List ℕ) → dot (map (λ x. 0) xs) v ≡ 0
-dot-zero [] v = refl
-dot-zero (x ∷ xs) [] = refl
-dot-zero (x ∷ xs) (n ∷ v) = omega (arith, dot-zero xs v)
+pub zero-dot : (xs v : List ℕ) → dot (map (λ x. 0) xs) v ≡ 0
+zero-dot [] v = refl
+zero-dot (x ∷ xs) [] = refl
+zero-dot (x ∷ xs) (n ∷ v) = omega (arith, zero-dot xs v)
 
 -- the product with the coefficients that are 1 at a and 0 elsewhere
 pub dot-none : (a : ℕ) (xs v : List ℕ) → (List·Memᴰ a xs → ⊥) → dot (map (λ x. same x a) xs) v ≡ 0
@@ -127,7 +127,7 @@ module _ (moves : ℕ → Bool) (θ : Replacement) (b : ℕ) {xs : List ℕ} (as
 
   pub count-put : (side : List ℕ) → ((a : ℕ) → List·Memᴰ a side → moves a ≡ true → List·Memᴰ a xs)
       → count b (put moves θ side) ≡ dot (map (λ x. count x side) xs) (occurrences θ xs b) + staying moves b side
-  count-put [] moving = omega (arith, dot-zero xs (occurrences θ xs b), cond-add (moves b) 0 0)
+  count-put [] moving = omega (arith, zero-dot xs (occurrences θ xs b), cond-add (moves b) 0 0)
   count-put (a ∷ side) moving =
       let here = count-put-atom a (moving a (List·Memᴰ·head refl)) in
       let rest = count-put side (λ c m. moving c (List·Memᴰ·tail m)) in

@@ -2,3 +2,5 @@ pub mod Places
 pub mod Counts
 pub mod Taken
 pub mod Replaced
+pub mod Facts
+pub mod Sound

@@ -19,6 +19,11 @@ getD-member [] i d h = absurd (let z : ⊥ = omega arith in z)
 getD-member (x ∷ xs) zero d h = List·Memᴰ·head refl
 getD-member (x ∷ xs) (suc i) d h = List·Memᴰ·tail (getD-member xs i d (omega arith))
 
+pub getD-map {ℓ κ} : {A : Type ℓ} {B : Type κ} (f : A → B) (xs : List A) (i : ℕ) (d : A) (e : B) → i < length xs → getD (map f xs) i e ≡ f (getD xs i d)
+getD-map f [] i d e h = absurd (let z : ⊥ = omega arith in z)
+getD-map f (x ∷ xs) zero d e h = refl
+getD-map f (x ∷ xs) (suc i) d e h = getD-map f xs i d e (omega arith)
+
 -- the numbers from k on are those from k up to, and not with, k + n
 pub from-bounds : (k n : ℕ) (a : ℕ) → List·Memᴰ a (from k n) → (k ≤ a) × (a < k + n)
 from-bounds k (suc n) a (List·Memᴰ·head e) = omega arith

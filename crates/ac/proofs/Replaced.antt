@@ -15,6 +15,11 @@ use Rattle.ac.specs.Replacement.{Replacement, put}
 use Rattle.ac.proofs.Places.{from-bounds, from-member, filter-cases, filter-member, filter-from-ascending}
 use Rattle.ac.proofs.Counts.{count-some, count-member, count-none, occurrences, staying, count-put}
 
+-- Each atom is an unbalanced constant, all of which stay, or as many of it stay on the left as on the right.
+pub data Kind (M : Mode) (L R : List ℕ) (b : ℕ) : Type 0 where
+  constant : List·Memᴰ b (unbalanced M L R) → staying (M .moves) b L ≡ count b L → staying (M .moves) b R ≡ count b R → Kind M L R b
+  other : (List·Memᴰ b (unbalanced M L R) → ⊥) → staying (M .moves) b L ≡ staying (M .moves) b R → Kind M L R b
+
 module _ (M : Mode) (L R : List ℕ) where
   -- the variables' occurrences on the left and on the right
   abbrev pub onLeft : List ℕ
@@ -68,16 +73,22 @@ module _ (M : Mode) (L R : List ℕ) where
         go (no n) (yes r) = right b (count-member b R r)
         go (no n) (no n′) = absurd (differ (omega arith))
 
-    -- Each atom is an unbalanced constant, or as many of it stay on the left as on the right.
-    pub unbalanced-or-stays : (b : ℕ)
-        → List·Memᴰ b (unbalanced M L R) ⊎ ((List·Memᴰ b (unbalanced M L R) → ⊥) × (staying (M .moves) b L ≡ staying (M .moves) b R))
-    unbalanced-or-stays b = go (M .moves b) refl (ℕ-discrete (count b L) (count b R))
+    pub kind-of : (b : ℕ) → Kind M L R b
+    kind-of b = go (M .moves b) refl (ℕ-discrete (count b L) (count b R))
       where
-        go : (t : Bool) → M .moves b ≡ t → Dec (count b L ≡ count b R)
-            → List·Memᴰ b (unbalanced M L R) ⊎ ((List·Memᴰ b (unbalanced M L R) → ⊥) × (cond t 0 (count b L) ≡ cond t 0 (count b R)))
-        go true e d = inr (λ (m : List·Memᴰ b (unbalanced M L R)). true≢false (sym e ∙ unbalanced-cases b m .1), refl)
-        go false e (yes q) = inr (λ (m : List·Memᴰ b (unbalanced M L R)). unbalanced-cases b m .2 q, q)
-        go false e (no differ) = inl (unbalanced-member b (differ-small b differ) e differ)
+        stay : (t : Bool) → M .moves b ≡ t → (side : List ℕ) → staying (M .moves) b side ≡ cond t 0 (count b side)
+        stay t e side = ap (λ (u : Bool). cond u 0 (count b side)) e
+
+        go : (t : Bool) → M .moves b ≡ t → Dec (count b L ≡ count b R) → Kind M L R b
+        go true e d =
+            other
+            (λ (m : List·Memᴰ b (unbalanced M L R)). true≢false (sym e ∙ unbalanced-cases b m .1))
+            (stay true e L ∙ sym (stay true e R))
+        go false e (yes q) =
+            other
+            (λ (m : List·Memᴰ b (unbalanced M L R)). unbalanced-cases b m .2 q)
+            (stay false e L ∙ q ∙ sym (stay false e R))
+        go false e (no differ) = constant (unbalanced-member b (differ-small b differ) e differ) (stay false e L) (stay false e R)
 
     module _ (θ : Replacement) (b : ℕ) where
       pub count-left : count b (put (M .moves) θ L) ≡ dot onLeft (occurrences θ (variables M L R) b) + staying (M .moves) b L

@@ -9,9 +9,9 @@ use native.Mathlib.Nat.{mul-le-mul-right, eq-or-lt-of-le, le-of-suc-le-suc}
 use lib.ListN.{length, getD, replicate, length-append, length-replicate}
 use lib.Dec.{leb, ltb}
 use borrow.Author.Tests.{ltb-true, ltb-false}
-use Rattle.ac.specs.Pair.{same, count}
+use Rattle.ac.specs.Pair.{Mode, same, count, variables}
 use Rattle.ac.specs.Rows.{Group, Groups}
-use Rattle.ac.specs.Selection.{Taken, Within, none, index, takenRows, takenBalanced, valueAt, reached, allReached}
+use Rattle.ac.specs.Selection.{Selection, Taken, Within, none, index, takenRows, takenBalanced, taken, valueAt, reached, allReached, allTaken, admissible}
 use Rattle.ac.specs.Replacement.{Replacement, put, isNew}
 use Rattle.ac.proofs.Counts.{same-self, same-other, count-append, count-replicate, put-append}
 
@@ -95,3 +95,11 @@ allReached-reached ts (suc k) all i h =
 pub reached-allReached : (ts : List Taken) (k : ℕ) → ((i : ℕ) → i < k → reached ts i ≡ true) → allReached ts k ≡ true
 reached-allReached ts zero each = refl
 reached-allReached ts (suc k) each = rw (reached-allReached ts k (λ i h. each i (omega arith))) (each k (omega arith))
+
+-- What admissible says where a value may not be empty, and where it may.
+module _ (M : Mode) (new : ℕ) (L R : List ℕ) (G : Groups) (s : Selection) where
+  pub admissible-reaches : M .empties ≡ false → admissible M new L R G s ≡ allReached (taken new G s) (length (variables M L R))
+  admissible-reaches e = ap (λ (b : Bool). elim b [ true ↦ allTaken (s .takes) | false ↦ allReached (taken new G s) (length (variables M L R)) ]) e
+
+  pub admissible-takes : M .empties ≡ true → admissible M new L R G s ≡ allTaken (s .takes)
+  admissible-takes e = ap (λ (b : Bool). elim b [ true ↦ allTaken (s .takes) | false ↦ allReached (taken new G s) (length (variables M L R)) ]) e

@@ -1,3 +1,5 @@
 pub mod Vectors
+pub mod Order
 pub mod Bridge
 pub mod Sums
+pub mod Groups

@@ -1,6 +1,12 @@
+pub mod Vectors
+pub mod Order
+pub mod Bridge
+pub mod Sums
+pub mod Pigeonhole
+pub mod Bound
+pub mod Groups
 pub mod Places
 pub mod Counts
 pub mod Taken
 pub mod Replaced
-pub mod Facts
 pub mod Sound

@@ -19,7 +19,7 @@ use Rattle.ac.proofs.Places.{getD-map, getD-member, placeOf-getD, place
 use Rattle.ac.proofs.Counts.{same-self, same-other, count-none, count-once, occurrences, staying}
 use Rattle.ac.proofs.Taken.{total, count-valueAt, reached-value, allReached-reached, admissible-reaches}
 use Rattle.ac.proofs.Replaced.{onLeft, onRight, variables-ascending, unbalanced-ascending, unbalanced-cases, Kind, constant, other, kind-of, count-left, count-right}
-use Rattle.ac.proofs.Facts.{Facts}
+use Rattle.ac.proofs.Bridge.{weight-zero, weight-of-constant}
 
 -- a vector, read at the variables' places, is itself
 pub vector-at-places : {xs : List ℕ} → Ascending _<_ xs → (v : List ℕ) → length v ≡ length xs → map (λ x. getD v (placeOf x xs) 0) xs ≡ v
@@ -108,17 +108,17 @@ module _ (Row : List ℕ → Type 0) where
   takenBalanced-rows n (v ∷ vs) (true ∷ ts) rows t (List·Memᴰ·tail m) = takenBalanced-rows (suc n) vs ts (λ u k. rows u (List·Memᴰ·tail k)) t m
   takenBalanced-rows n (v ∷ vs) (false ∷ ts) rows t m = takenBalanced-rows (suc n) vs ts (λ u k. rows u (List·Memᴰ·tail k)) t m
 
-module _ (M : Mode) (L R : List ℕ) (left : IsSide L) (right : IsSide R) (G : Groups) (groups : GroupsOf M L R G) (facts : Facts M L R G) where
+module _ (M : Mode) (L R : List ℕ) (left : IsSide L) (right : IsSide R) (G : Groups) (groups : GroupsOf M L R G) where
   rows-solve : (g : Group) → List·Memᴰ g (G .constants) → (v : List ℕ) → List·Memᴰ v (g .rows)
       → dot (onLeft M L R) v + count (g .constant) L ≡ dot (onRight M L R) v + count (g .constant) R
   rows-solve g m v n =
       let row = groups .constant-rows g m .only v n in
-      facts .weight-of-constant (g .constant) v (row .vector) .0 (row .least .has)
+      weight-of-constant M L R (g .constant) v (row .vector) .0 (row .least .has)
 
   balanced-solve : (v : List ℕ) → List·Memᴰ v (G .balanced) → dot (onLeft M L R) v ≡ dot (onRight M L R) v
   balanced-solve v m =
       let row = groups .balanced-rows .only v m in
-      facts .weight-zero v (row .vector) .0 (row .least .has .1)
+      weight-zero M L R v (row .vector) .0 (row .least .has .1)
 
   module _ (new : ℕ) (s : Selection) (selection : SelectionOf G s) where
     taken-vectors : (t : Taken) → List·Memᴰ t (taken new G s) → length (t .row) ≡ length (variables M L R)

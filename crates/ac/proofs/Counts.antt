@@ -11,7 +11,7 @@ use borrow.Author.Tests.{eq-eqb, ne-eqb, lt-ltb}
 use Rattle.ac.specs.Lists.{filter, Ascending, none, next}
 use Rattle.ac.specs.Pair.{Mode, IsSide, same, count, occurs, atoms, variables}
 use Rattle.ac.specs.Equation.{dot}
-use Rattle.ac.specs.Replacement.{Replacement, put}
+use Rattle.ac.specs.Replacement.{Replacement, put, occurrences}
 use Rattle.ac.proofs.Places.{filter-cases, filter-member, from-member, from-bounds, filter-from-ascending}
 
 -- an atom is the same as itself, and as no other
@@ -91,10 +91,6 @@ dot-one a (next {a = x} {rest} before ascending) f (List·Memᴰ·head e) =
     (omega (arith, ap f e, dot-none a rest (map f rest) (λ (m : List·Memᴰ a rest). omega (arith, before a m))))
 dot-one a (next {a = x} {rest} before ascending) f (List·Memᴰ·tail m) =
     rw (same-other x a (λ (e : x ≡ a). omega (arith, before a m))) (omega (arith, dot-one a ascending f m))
-
--- how often b stands in what each of the variables is replaced by: a vector
-abbrev pub occurrences : Replacement → List ℕ → ℕ → List ℕ
-occurrences θ xs b = map (λ x. count b (θ x)) xs
 
 -- how often b stands on a side as an atom that is not replaced
 abbrev pub staying : (ℕ → Bool) → ℕ → List ℕ → ℕ

@@ -10,3 +10,4 @@ pub mod Counts
 pub mod Taken
 pub mod Replaced
 pub mod Sound
+pub mod Balances

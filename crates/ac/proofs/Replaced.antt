@@ -11,9 +11,9 @@ use borrow.Author.Tests.{eqb-false, not-true, eq-eqb, ne-eqb, lt-ltb}
 use Rattle.ac.specs.Lists.{Ascending}
 use Rattle.ac.specs.Pair.{Mode, IsSide, count, occurs, atoms, variables, unbalanced}
 use Rattle.ac.specs.Equation.{dot}
-use Rattle.ac.specs.Replacement.{Replacement, put}
+use Rattle.ac.specs.Replacement.{Replacement, put, occurrences}
 use Rattle.ac.proofs.Places.{from-bounds, from-member, filter-cases, filter-member, filter-from-ascending}
-use Rattle.ac.proofs.Counts.{count-some, count-member, count-none, occurrences, staying, count-put}
+use Rattle.ac.proofs.Counts.{count-some, count-member, staying, count-put}
 
 -- Each atom is an unbalanced constant, all of which stay, or as many of it stay on the left as on the right.
 pub data Kind (M : Mode) (L R : List ℕ) (b : ℕ) : Type 0 where

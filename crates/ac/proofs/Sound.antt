@@ -14,9 +14,9 @@ use Rattle.ac.specs.Pair.{Mode, IsSide, same, count, variables, unbalanc
 use Rattle.ac.specs.Rows.{Group, Groups, GroupsOf}
 use Rattle.ac.specs.Equation.{dot}
 use Rattle.ac.specs.Selection.{Selection, SelectionOf, Within, none, index, Taken, takenRows, takenBalanced, taken, valueAt, placeOf, admissible, value}
-use Rattle.ac.specs.Replacement.{Replacement, put, Unifies}
+use Rattle.ac.specs.Replacement.{put, occurrences, Unifies}
 use Rattle.ac.proofs.Places.{getD-map, getD-member, placeOf-getD, placeOf-lt}
-use Rattle.ac.proofs.Counts.{same-self, same-other, count-none, count-once, occurrences, staying}
+use Rattle.ac.proofs.Counts.{same-self, same-other, count-none, count-once, staying}
 use Rattle.ac.proofs.Taken.{total, count-valueAt, reached-value, allReached-reached, admissible-reaches}
 use Rattle.ac.proofs.Replaced.{onLeft, onRight, variables-ascending, unbalanced-ascending, unbalanced-cases, Kind, constant, other, kind-of, count-left, count-right}
 use Rattle.ac.proofs.Bridge.{weight-zero, weight-of-constant}

@@ -14,8 +14,9 @@ use Rattle.ac.specs.Pair.{Mode}
 use Rattle.ac.specs.Rows.{Group, Groups}
 use Rattle.ac.specs.Selection.{Selection, SelectionOf, Within, none, index, admissible}
 use Rattle.ac.specs.Keys.{Layout, Fits, Candidate, Listed, fields, mask, bits, keyOf, selectionAt, tuples, selections, listed, keys}
-use Rattle.ac.proofs.Members.{below-members, members-below, map-members, members-map, flatMap-members, members-flatMap, filter-members}
-use Rattle.ac.proofs.Members.{members-filter, ascending-from, ascending-filter, ascending-map, ascending-flatMap, ascending-in}
+use Rattle.ac.proofs.Places.{filter-cases, filter-member}
+use Rattle.ac.proofs.Members.{below-members, members-below, map-members, members-map, flatMap-members, members-flatMap}
+use Rattle.ac.proofs.Members.{ascending-from, ascending-filter, ascending-map, ascending-flatMap, ascending-in}
 use Rattle.ac.proofs.Keys.{Few, bits-mask, mask-bits, mask-below, length-bits, fields-below, taken-apart, packed, candidate-selection}
 use Rattle.ac.proofs.Keys.{selection-candidate}
 
@@ -120,14 +121,15 @@ module _ {lay : Layout} {G : Groups} (fits : Fits lay G) where
         only : List·Memᴰ key (keys M lay L R G) → Listed M lay L R G key
         only m =
             let one = map-members (keyOf lay) (listed M lay L R G) m in
-            let admitted = filter-members (admissible M (lay .new) L R G) (selections G) (one .1) in
+            let admitted = filter-cases (admissible M (lay .new) L R G) (selections G) (one .0) (one .1) in
             record { selection = one .0; of-the-groups = selections-are G .0 (admitted .0); is-admissible = admitted .1; its-key = one .2 }
 
         all : Listed M lay L R G key → List·Memᴰ key (keys M lay L R G)
         all names =
             Memᴰ·cast (names .its-key)
             (members-map (keyOf lay)
-            (members-filter (admissible M (lay .new) L R G) (selections-are G .1 (names .of-the-groups)) (names .is-admissible)))
+            (filter-member (admissible M (lay .new) L R G) (selections G) (names .selection)
+            (selections-are G .1 (names .of-the-groups)) (names .is-admissible)))
 
     -- A number is on the list exactly if it is a candidate whose selection is admissible.
     pub listed-candidates : {key : ℕ}

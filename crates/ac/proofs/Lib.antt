@@ -16,3 +16,4 @@ pub mod Keys
 pub mod Fields
 pub mod Listed
 pub mod Pages
+pub mod Fages

@@ -7,3 +7,4 @@ pub mod Selection
 pub mod Keys
 pub mod Replacement
 pub mod Pages
+pub mod Fages

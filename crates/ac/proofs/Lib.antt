@@ -3,5 +3,7 @@ pub mod Order
 pub mod Bridge
 pub mod Sums
 pub mod Pigeonhole
+pub mod Walk
 pub mod Bound
+pub mod Search
 pub mod Groups

@@ -26,16 +26,18 @@ without b (also {x = x} {xs = xs} new distinct) = by-head (ℕ-discrete x b) (wi
     by-head (yes e) w =
         record { rest = xs; shorter = omega arith; distinct = distinct; members = λ y m. List·Memᴰ·tail m; gone = λ m. new (Memᴰ·cast e m) }
     by-head (no other) w =
-        record
-        { rest = x ∷ w .rest
-        ; shorter = omega (arith, w .shorter)
-        ; distinct = also (λ m. new (w .members x m)) (w .distinct)
-        ; members = kept
-        ; gone = still-gone }
+        record {
+          rest = x ∷ w .rest;
+          shorter = omega (arith, w .shorter);
+          distinct = also (λ m. new (w .members x m)) (w .distinct);
+          members = kept;
+          gone = still-gone;
+        }
       where
         kept : (y : ℕ) → List·Memᴰ y (x ∷ w .rest) → List·Memᴰ y (x ∷ xs)
         kept y (List·Memᴰ·head e) = List·Memᴰ·head e
         kept y (List·Memᴰ·tail m) = List·Memᴰ·tail (w .members y m)
+
         still-gone : List·Memᴰ b (x ∷ w .rest) → ⊥
         still-gone (List·Memᴰ·head e) = other (sym e)
         still-gone (List·Memᴰ·tail m) = w .gone m

@@ -3,7 +3,10 @@ pub mod Order
 pub mod Bridge
 pub mod Sums
 pub mod Pigeonhole
+pub mod Walk
 pub mod Bound
+pub mod Search
+pub mod Regions
 pub mod Groups
 pub mod Places
 pub mod Counts

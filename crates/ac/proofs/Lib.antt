@@ -20,3 +20,4 @@ pub mod Fields
 pub mod Listed
 pub mod Pages
 pub mod Fages
+pub mod Worked

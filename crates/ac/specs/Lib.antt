@@ -9,3 +9,4 @@ pub mod Keys
 pub mod Replacement
 pub mod Pages
 pub mod Fages
+pub mod Worked

@@ -1,7 +1,6 @@
 -- The list of a pair: it holds every admissible selection, only those, once each and ascending by key.
 use Prim.Native.Nat.{ℕ, zero, suc, _+_, _*_, _^_, _<_, _≤_}
 use native.Mathlib.Omega.{arith}
-use native.Mathlib.Nat.{mod-eq-of-lt}
 use lib.Pow.{pow-mono}
 use mathlib.Core.Path.{_≡_, refl, sym, ap, subst, subst₂, _∙_}
 use mathlib.Core.Logic.{_↔_}
@@ -17,7 +16,7 @@ use Rattle.ac.specs.Keys.{Layout, Fits, Candidate, Listed, fields, mask,
 use Rattle.ac.proofs.Places.{filter-cases, filter-member}
 use Rattle.ac.proofs.Members.{below-members, members-below, map-members, members-map, flatMap-members, members-flatMap}
 use Rattle.ac.proofs.Members.{ascending-from, ascending-filter, ascending-map, ascending-flatMap, ascending-in}
-use Rattle.ac.proofs.Keys.{Few, bits-mask, mask-bits, mask-below, length-bits, fields-below, taken-apart, packed, candidate-selection}
+use Rattle.ac.proofs.Keys.{Few, bits-mask-below, mask-bits, mask-below, length-bits, fields-below, taken-apart, packed, candidate-selection}
 use Rattle.ac.proofs.Keys.{selection-candidate}
 
 -- the tuples are exactly the lists of an index for each constant, below the number of its rows
@@ -55,13 +54,8 @@ selections-are G {s} = (only, all)
     all : SelectionOf G s → List·Memᴰ s (selections G)
     all of =
         members-flatMap (allMasked G) (within-tuples (of .a-row-each))
-        (Memᴰ·cast (λ i. record { indexes = s .indexes; takes = its-bits i }) (members-map (masked G (s .indexes)) (members-below mask-fits)))
-      where
-        its-bits : s .takes ≡ bits (length (G .balanced)) (mask (s .takes))
-        its-bits = sym (mask-bits (s .takes)) ∙ ap (λ (n : ℕ). bits n (mask (s .takes))) (of .a-truth-each)
-
-        mask-fits : mask (s .takes) < 2 ^ length (G .balanced)
-        mask-fits = subst (λ (n : ℕ). mask (s .takes) < 2 ^ n) (of .a-truth-each) (mask-below (s .takes))
+        (Memᴰ·cast (λ i. record { indexes = s .indexes; takes = sym (mask-bits (length (G .balanced)) (s .takes) (of .a-truth-each)) i })
+        (members-map (masked G (s .indexes)) (members-below (mask-below (length (G .balanced)) (s .takes) (of .a-truth-each)))))
 
 -- the tuples ascend by their fields
 pub tuples-ascending : (lay : Layout) (k : ℕ) (gs : List Group) → length gs ≤ k → Few lay gs
@@ -94,7 +88,7 @@ module _ {lay : Layout} {G : Groups} (fits : Fits lay G) where
       (tuples-ascending lay (lay .constants) (G .constants) (fits .few-constants) (fits .few-rows)))
     where
       its-mask : (m : ℕ) → List·Memᴰ m (below (2 ^ length (G .balanced))) → mask (bits (length (G .balanced)) m) ≡ m
-      its-mask m at = bits-mask (length (G .balanced)) m ∙ mod-eq-of-lt (below-members (2 ^ length (G .balanced)) at)
+      its-mask m at = bits-mask-below (length (G .balanced)) m (below-members (2 ^ length (G .balanced)) at)
 
       mask-decides : (is : List ℕ) (a b : ℕ) → List·Memᴰ a (below (2 ^ length (G .balanced))) → List·Memᴰ b (below (2 ^ length (G .balanced))) → a < b
           → keyOf lay (masked G is a) < keyOf lay (masked G is b)

@@ -13,8 +13,11 @@ use Rattle.ac.proofs.Bridge.{weight-zero, weight-of-constant}
 use Rattle.ac.proofs.Sums.{balanced-sum, unbalanced-sum}
 use Rattle.ac.proofs.Replaced.{onLeft, onRight, Kind, constant, other, kind-of, count-left, count-right}
 
--- the constant of a group is one of the groups' constants
-pub constant-member : {g : Group} {gs : List Group} → List·Memᴰ g gs → List·Memᴰ (g .constant) (map (λ (h : Group). h .constant) gs)
+-- the constants of the groups
+abbrev pub constantsOf : List Group → List ℕ
+constantsOf gs = map (λ (g : Group). g .constant) gs
+
+pub constant-member : {g : Group} {gs : List Group} → List·Memᴰ g gs → List·Memᴰ (g .constant) (constantsOf gs)
 constant-member (List·Memᴰ·head e) = List·Memᴰ·head (ap (λ (h : Group). h .constant) e)
 constant-member (List·Memᴰ·tail m) = List·Memᴰ·tail (constant-member m)
 

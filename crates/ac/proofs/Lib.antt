@@ -11,3 +11,5 @@ pub mod Taken
 pub mod Replaced
 pub mod Sound
 pub mod Balances
+pub mod Fill
+pub mod Complete

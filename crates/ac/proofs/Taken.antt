@@ -8,7 +8,7 @@ use mathlib.Core.Logic.{⊎-elim}
 use native.Mathlib.Nat.{mul-le-mul-right, eq-or-lt-of-le, le-of-suc-le-suc}
 use lib.ListN.{length, getD, replicate, length-append, length-replicate}
 use lib.Dec.{leb, ltb}
-use borrow.Author.Tests.{ltb-true, ltb-false}
+use borrow.Author.Tests.{ltb-true, ltb-false, le-leb, lt-leb}
 use Rattle.ac.specs.Pair.{Mode, same, count, variables}
 use Rattle.ac.specs.Rows.{Group, Groups}
 use Rattle.ac.specs.Selection.{Selection, Taken, Within, none, index, takenRows, takenBalanced, taken, valueAt, reached, allReached, allTaken, admissible}
@@ -45,6 +45,13 @@ count-valueAt b i (t ∷ ts) =
 -- how often b stands in what an atom becomes when the new variables are filled
 abbrev pub filledCount : ℕ → Replacement → ℕ → ℕ → ℕ
 filledCount new fill b a = count b (cond (isNew new a) (fill a) (a ∷ []))
+
+-- a new variable becomes what it is filled with, any other atom stays
+pub filledCount-new : (new : ℕ) (fill : Replacement) (b a : ℕ) → new ≤ a → filledCount new fill b a ≡ count b (fill a)
+filledCount-new new fill b a h = ap (λ (t : Bool). count b (cond t (fill a) (a ∷ []))) (le-leb new a h)
+
+pub filledCount-other : (new : ℕ) (fill : Replacement) (b a : ℕ) → a < new → filledCount new fill b a ≡ same b a
+filledCount-other new fill b a h = ap (λ (t : Bool). count b (cond t (fill a) (a ∷ []))) (lt-leb new a h) ∙ omega arith
 
 -- how often b stands in a value when the new variables are filled
 module _ (new : ℕ) (fill : Replacement) (b : ℕ) where

@@ -18,24 +18,10 @@ use Rattle.ac.specs.Selection.{Selection, SelectionOf, Within, Within.no
 use Rattle.ac.specs.Replacement.{Replacement, put, SameSum, NonEmpty, occurrences, Balances, isNew, Unifies, ComesFrom}
 use Rattle.ac.proofs.Places.{from-bounds, from-member, getD-member, placeOf-lt, placeOf-getD, getD-placeOf}
 use Rattle.ac.proofs.Counts.{same-self, same-other, count-append, count-replicate, count-none, count-some}
-use Rattle.ac.proofs.Taken.{total, total-append, total-agrees, total-zero, total-reached, filledCount, filledCount-other, count-filled, reached-allReached, admissible-reaches, admissible-takes}
+use Rattle.ac.proofs.Taken.{constantsOf, takenRows-atoms, takenRows-none, takenRows-first, takenRows-later, total, total-append, total-agrees, total-reached, filledCount, filledCount-other, count-filled, reached-allReached, admissible-reaches, admissible-takes}
 use Rattle.ac.proofs.Replaced.{variables-ascending, unbalanced-ascending, unbalanced-cases, Kind, constant, other, kind-of}
 use Rattle.ac.proofs.Fill.{spread, count-spread, count-spread-none, member-flatMap, member-le-sum, takesFrom, length-takesFrom, all-takesFrom, takenBalanced-filled, filled-combined}
-use Rattle.ac.proofs.Balances.{constantsOf, group-unbalanced, made-of-rows}
-
--- the atoms of the constants' taken rows are the constants
-pub takenRows-atoms : {gs : List Group} {is : List ℕ} → Within gs is → (t : Taken) → List·Memᴰ t (takenRows gs is)
-    → List·Memᴰ (t .atom) (constantsOf gs)
-takenRows-atoms (index h within) t (List·Memᴰ·head e) = List·Memᴰ·head (ap (λ (u : Taken). u .atom) e)
-takenRows-atoms (index h within) t (List·Memᴰ·tail m) = List·Memᴰ·tail (takenRows-atoms within t m)
-
--- an atom that is none of the constants has nothing from their rows
-pub takenRows-none : {gs : List Group} {is : List ℕ} → Within gs is → (b i : ℕ) → (List·Memᴰ b (constantsOf gs) → ⊥)
-    → total i (same b) (takenRows gs is) ≡ 0
-takenRows-none {gs} {is} within b i absent =
-    total-zero i (same b) (takenRows gs is)
-    (λ t m. same-other b (t .atom)
-    (λ (e : b ≡ t .atom). absent (subst (λ (a : ℕ). List·Memᴰ a (constantsOf gs)) (sym e) (takenRows-atoms within t m))))
+use Rattle.ac.proofs.Balances.{made-of-rows}
 
 -- The rows of the constants, chosen group by group. `vectorOf b` is b's vector of occurrences.
 module _ (balanced : List (List ℕ)) (vectorOf : ℕ → List ℕ) where
@@ -49,26 +35,6 @@ module _ (balanced : List (List ℕ)) (vectorOf : ℕ → List ℕ) where
     pub within : Within gs indexes
     pub remainder : (b : ℕ) → List·Memᴰ b (constantsOf gs) → Remainder (takenRows gs indexes) b
 
-  module _ {g : Group} {gs : List Group} {is : List ℕ} (first : RowAndSum (g .rows) balanced (vectorOf (g .constant))) (within : Within gs is)
-      (absent : List·Memᴰ (g .constant) (constantsOf gs) → ⊥) where
-    -- the first constant has its own row, and nothing from the others
-    first-remainder : (b : ℕ) → b ≡ g .constant → Remainder (takenRows (g ∷ gs) (first .index ∷ is)) b
-    first-remainder b e = record { times = first .times; adds-up = adds-up }
-      where
-        adds-up : (i : ℕ) → getD (vectorOf b) i 0 ≡ total i (same b) (takenRows (g ∷ gs) (first .index ∷ is)) + combined (first .times) balanced i
-        adds-up i =
-            omega
-            (arith, first .adds-up i, ap (λ c. getD (vectorOf c) i 0) e, ap (λ z. z * getD (getD (g .rows) (first .index) []) i 0) (same-self b (g .constant) e), takenRows-none within b i (λ (m : List·Memᴰ b (constantsOf gs)). absent (subst (λ (c : ℕ). List·Memᴰ c (constantsOf gs)) e m)))
-
-    -- a later constant has nothing from the first row
-    later-remainder : (b : ℕ) → List·Memᴰ b (constantsOf gs) → Remainder (takenRows gs is) b → Remainder (takenRows (g ∷ gs) (first .index ∷ is)) b
-    later-remainder b m rest = record { times = rest .times; adds-up = adds-up }
-      where
-        adds-up : (i : ℕ) → getD (vectorOf b) i 0 ≡ total i (same b) (takenRows (g ∷ gs) (first .index ∷ is)) + combined (rest .times) balanced i
-        adds-up i =
-            omega
-            (arith, rest .adds-up i, ap (λ z. z * getD (getD (g .rows) (first .index) []) i 0) (same-other b (g .constant) (λ (e : b ≡ g .constant). absent (subst (λ (c : ℕ). List·Memᴰ c (constantsOf gs)) e m))))
-
   pub choose : (gs : List Group) → Ascending _<_ (constantsOf gs)
       → ((g : Group) → List·Memᴰ g gs → RowAndSum (g .rows) balanced (vectorOf (g .constant))) → Chosen gs
   choose [] ascending rows = record { indexes = []; within = none; remainder = λ b m. elim m [ ] }
@@ -79,13 +45,22 @@ module _ (balanced : List (List ℕ)) (vectorOf : ℕ → List ℕ) where
       absent m = omega (arith, before (g .constant) m)
 
       extend : RowAndSum (g .rows) balanced (vectorOf (g .constant)) → Chosen gs → Chosen (g ∷ gs)
-      extend first rest =
-          record
-          { indexes = first .index ∷ rest .indexes; within = index (first .within) (rest .within); remainder = remainders }
+      extend first rest = record { indexes = is; within = index (first .within) (rest .within); remainder = remainders }
         where
-          remainders : (b : ℕ) → List·Memᴰ b (constantsOf (g ∷ gs)) → Remainder (takenRows (g ∷ gs) (first .index ∷ rest .indexes)) b
-          remainders b (List·Memᴰ·head e) = first-remainder first (rest .within) absent b e
-          remainders b (List·Memᴰ·tail m) = later-remainder first (rest .within) absent b m (rest .remainder b m)
+          is : List ℕ
+          is = first .index ∷ rest .indexes
+
+          remainders : (b : ℕ) → List·Memᴰ b (constantsOf (g ∷ gs)) → Remainder (takenRows (g ∷ gs) is) b
+          remainders b (List·Memᴰ·head e) =
+              record {
+                times = first .times;
+                adds-up = λ i. omega (arith, first .adds-up i, ap (λ c. getD (vectorOf c) i 0) e, takenRows-first g (rest .within) absent (first .index) b e i);
+              }
+          remainders b (List·Memᴰ·tail m) =
+              record {
+                times = rest .remainder b m .times;
+                adds-up = λ i. omega (arith, rest .remainder b m .adds-up i, takenRows-later g gs (rest .indexes) (first .index) b (λ (e : b ≡ g .constant). omega (arith, before b m)) i);
+              }
 
 -- the atoms of a value belong to taken rows
 pub valueAt-atoms : (ts : List Taken) (i n : ℕ) → List·Memᴰ n (valueAt ts i) → (t : Taken) × List·Memᴰ t ts × (n ≡ t .atom)

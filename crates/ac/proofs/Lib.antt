@@ -13,3 +13,4 @@ pub mod Sound
 pub mod Balances
 pub mod Fill
 pub mod Complete
+pub mod Independent

@@ -9,12 +9,13 @@ use Rattle.ac.specs.Rows.{Group, Groups, GroupsOf, IsVector}
 use Rattle.ac.specs.Equation.{dot, SumOf, RowAndSum}
 use Rattle.ac.specs.Replacement.{Replacement, put, SameSum, occurrences, Balances}
 use Rattle.ac.proofs.Counts.{staying}
+use Rattle.ac.proofs.Taken.{constantsOf}
 use Rattle.ac.proofs.Bridge.{weight-zero, weight-of-constant}
 use Rattle.ac.proofs.Sums.{balanced-sum, unbalanced-sum}
 use Rattle.ac.proofs.Replaced.{onLeft, onRight, Kind, constant, other, kind-of, count-left, count-right}
 
--- the constant of a group is one of the groups' constants
-pub constant-member : {g : Group} {gs : List Group} → List·Memᴰ g gs → List·Memᴰ (g .constant) (map (λ (h : Group). h .constant) gs)
+-- the constant of a group is one of them
+pub constant-member : {g : Group} {gs : List Group} → List·Memᴰ g gs → List·Memᴰ (g .constant) (constantsOf gs)
 constant-member (List·Memᴰ·head e) = List·Memᴰ·head (ap (λ (h : Group). h .constant) e)
 constant-member (List·Memᴰ·tail m) = List·Memᴰ·tail (constant-member m)
 

@@ -14,6 +14,9 @@ pub mod Taken
 pub mod Replaced
 pub mod Sound
 pub mod Balances
+pub mod Fill
+pub mod Complete
+pub mod Independent
 pub mod Members
 pub mod Keys
 pub mod Fields

@@ -1,6 +1,6 @@
 -- Taken rows and the values that they give, as sums of numbers: `total i weigh ts` adds up, over the taken rows, a weight of the atom times the entry at i.
 use Prim.Native.Nat.{ℕ, zero, suc, _+_, _*_, _≤_, _<_}
-use mathlib.Core.Path.{_≡_, refl, sym, ap, ap₂, _∙_}
+use mathlib.Core.Path.{_≡_, refl, sym, ap, ap₂, _∙_, subst}
 use mathlib.Core.Bool.{Bool, true, false, cond, _&&_, _||_, false≢true, and-eq-true-iff}
 use mathlib.Core.List.{List, [], _∷_, _++_, map, List·Memᴰ, List·Memᴰ·head, List·Memᴰ·tail}
 use native.Mathlib.Omega.{arith}
@@ -8,7 +8,7 @@ use mathlib.Core.Logic.{⊎-elim}
 use native.Mathlib.Nat.{mul-le-mul-right, eq-or-lt-of-le, le-of-suc-le-suc}
 use lib.ListN.{length, getD, replicate, length-append, length-replicate}
 use lib.Dec.{leb, ltb}
-use borrow.Author.Tests.{ltb-true, ltb-false}
+use borrow.Author.Tests.{ltb-true, ltb-false, le-leb, lt-leb}
 use Rattle.ac.specs.Pair.{Mode, same, count, variables}
 use Rattle.ac.specs.Rows.{Group, Groups}
 use Rattle.ac.specs.Selection.{Selection, Taken, Within, none, index, takenRows, takenBalanced, taken, valueAt, reached, allReached, allTaken, admissible}
@@ -45,6 +45,13 @@ count-valueAt b i (t ∷ ts) =
 -- how often b stands in what an atom becomes when the new variables are filled
 abbrev pub filledCount : ℕ → Replacement → ℕ → ℕ → ℕ
 filledCount new fill b a = count b (cond (isNew new a) (fill a) (a ∷ []))
+
+-- a new variable becomes what it is filled with, any other atom stays
+pub filledCount-new : (new : ℕ) (fill : Replacement) (b a : ℕ) → new ≤ a → filledCount new fill b a ≡ count b (fill a)
+filledCount-new new fill b a h = ap (λ (t : Bool). count b (cond t (fill a) (a ∷ []))) (le-leb new a h)
+
+pub filledCount-other : (new : ℕ) (fill : Replacement) (b a : ℕ) → a < new → filledCount new fill b a ≡ same b a
+filledCount-other new fill b a h = ap (λ (t : Bool). count b (cond t (fill a) (a ∷ []))) (lt-leb new a h) ∙ omega arith
 
 -- how often b stands in a value when the new variables are filled
 module _ (new : ℕ) (fill : Replacement) (b : ℕ) where
@@ -103,3 +110,32 @@ module _ (M : Mode) (new : ℕ) (L R : List ℕ) (G : Groups) (s : Selection) wh
 
   pub admissible-takes : M .empties ≡ true → admissible M new L R G s ≡ allTaken (s .takes)
   admissible-takes e = ap (λ (b : Bool). elim b [ true ↦ allTaken (s .takes) | false ↦ allReached (taken new G s) (length (variables M L R)) ]) e
+
+-- the constants of the groups
+abbrev pub constantsOf : List Group → List ℕ
+constantsOf gs = map (λ (g : Group). g .constant) gs
+
+-- the atoms of the constants' taken rows are the constants
+pub takenRows-atoms : {gs : List Group} {is : List ℕ} → Within gs is → (t : Taken) → List·Memᴰ t (takenRows gs is)
+    → List·Memᴰ (t .atom) (constantsOf gs)
+takenRows-atoms (index h within) t (List·Memᴰ·head e) = List·Memᴰ·head (ap (λ (u : Taken). u .atom) e)
+takenRows-atoms (index h within) t (List·Memᴰ·tail m) = List·Memᴰ·tail (takenRows-atoms within t m)
+
+-- an atom that is none of the constants has nothing from their rows
+pub takenRows-none : {gs : List Group} {is : List ℕ} → Within gs is → (b i : ℕ) → (List·Memᴰ b (constantsOf gs) → ⊥)
+    → total i (same b) (takenRows gs is) ≡ 0
+takenRows-none {gs} {is} within b i absent =
+    total-zero i (same b) (takenRows gs is)
+    (λ t m. same-other b (t .atom)
+    (λ (e : b ≡ t .atom). absent (subst (λ (a : ℕ). List·Memᴰ a (constantsOf gs)) (sym e) (takenRows-atoms within t m))))
+
+-- a constant has its own row, and nothing from the others
+pub takenRows-first : (g : Group) {gs : List Group} {is : List ℕ} → Within gs is → (List·Memᴰ (g .constant) (constantsOf gs) → ⊥) → (k c : ℕ)
+    → c ≡ g .constant → (i : ℕ) → total i (same c) (takenRows (g ∷ gs) (k ∷ is)) ≡ getD (getD (g .rows) k []) i 0
+takenRows-first g {gs} within absent k c e i =
+    rw (same-self c (g .constant) e)
+    (omega (arith, takenRows-none within c i (λ (m : List·Memᴰ c (constantsOf gs)). absent (subst (λ (a : ℕ). List·Memᴰ a (constantsOf gs)) e m))))
+
+pub takenRows-later : (g : Group) (gs : List Group) (is : List ℕ) (k c : ℕ) → (c ≡ g .constant → ⊥)
+    → (i : ℕ) → total i (same c) (takenRows (g ∷ gs) (k ∷ is)) ≡ total i (same c) (takenRows gs is)
+takenRows-later g gs is k c differs i = rw (same-other c (g .constant) differs) (omega arith)

@@ -13,6 +13,7 @@ use Rattle.ac.specs.Pair.{Mode, IsSide, count, variables}
 use Rattle.ac.specs.Replacement.{Replacement, put, SameSum, Unifies, ComesFrom, isNew}
 use Rattle.ac.specs.Fages.{Substitution, apply, _=AC_, commutative, associative, congruent, reflexive, symmetric, transitive, ACUnifier, MoreGeneral}
 use Rattle.ac.specs.Fages.{Pure}
+use Rattle.ac.specs.Fages.{anyVariable, variablesOf, comb, tree}
 use Rattle.ac.proofs.Members.{member-splits}
 use Rattle.ac.proofs.Counts.{same-self, count-append, count-some, count-member, put-append}
 use Rattle.ac.proofs.Replaced.{moving-variable}
@@ -27,11 +28,6 @@ same-atoms (congruent {s = s} {s′ = s′} {t = t} {t′ = t′} left right) b 
 same-atoms (reflexive s) b = refl
 same-atoms (symmetric equal) b = sym (same-atoms equal b)
 same-atoms (transitive first second) b = same-atoms first b ∙ same-atoms second b
-
--- the tree of a list that is not empty, leaning to the right
-abbrev pub comb : ℕ → List ℕ → Term
-comb a [] = atom a
-comb a (b ∷ rest) = plus (atom a) (comb b rest)
 
 pub flatten-comb : (a : ℕ) (rest : List ℕ) → flatten (comb a rest) ≡ a ∷ rest
 flatten-comb a [] = refl
@@ -65,18 +61,13 @@ swapped : (s t u : Term) → plus s (plus t u) =AC plus t (plus s u)
 swapped s t u =
     transitive (symmetric (associative s t u)) (transitive (congruent (commutative s t) (reflexive u)) (associative t s u))
 
--- an atom of a comb can stand first
 first-instead : (b : ℕ) (before : List ℕ) (a : ℕ) (behind : List ℕ) → comb b (before ++ a ∷ behind) =AC plus (atom a) (comb b (before ++ behind))
 first-instead b [] a [] = commutative (atom b) (atom a)
 first-instead b [] a (c ∷ behind) = swapped (atom b) (atom a) (comb c behind)
 first-instead b (c ∷ before) a behind =
     transitive (congruent (reflexive (atom b)) (first-instead c before a behind)) (swapped (atom b) (atom a) (comb c (before ++ behind)))
 
--- the tree of a list; of the empty one, which is no term's, any
-abbrev pub tree : List ℕ → Term
-tree [] = atom 0
-tree (a ∷ rest) = comb a rest
-
+-- an atom of a tree's list can stand first
 tree-first : (before : List ℕ) (a : ℕ) (behind : List ℕ) → tree (before ++ a ∷ behind) =AC comb a (before ++ behind)
 tree-first [] a behind = reflexive (comb a behind)
 tree-first (b ∷ before) a behind = first-instead b before a behind
@@ -172,47 +163,55 @@ put-agrees moves θ θ′ (a ∷ side) agree =
     here true agrees = agrees refl
     here false agrees = refl
 
--- Where no value may be empty, every replacement that unifies is, on the pair's variables, that of a substitution, and that is a unifier.
-pub record Planted (M : Mode) (s t : Term) (θ : Replacement) : Type 0 where
-  pub substitution : Substitution
-  pub its-replacement : (x : ℕ) → List·Memᴰ x (variables M (flatten s) (flatten t)) → flatten (substitution x) ≡ θ x
-  pub unifier : ACUnifier M s t substitution
+-- the two replacements agree on the variables
+abbrev pub Agree : List ℕ → Replacement → Replacement → Type 0
+Agree over θ θ′ = (x : ℕ) → List·Memᴰ x over → θ x ≡ θ′ x
 
-module _ (M : Mode) (s t : Term) (left : IsSide (flatten s)) (right : IsSide (flatten t)) where
-  pub unifies-unifier : M .empties ≡ false → (θ : Replacement) → Unifies M (flatten s) (flatten t) θ → Planted M s t θ
-  unifies-unifier some θ unifies =
+-- What replaces the pair's variables alike unifies alike, and comes from the same.
+module _ (M : Mode) (L R : List ℕ) (left : IsSide L) (right : IsSide R) where
+  pub unifies-alike : {θ θ′ : Replacement} → Agree (variables M L R) θ θ′ → Unifies M L R θ → Unifies M L R θ′
+  unifies-alike {θ} {θ′} agree unifies =
       record {
-        substitution = planted θ;
-        its-replacement = its-values;
-        unifier =
-            unifier-unifies M s t (planted θ) .1
-            (record {
-              non-empty = λ x m e. flatten-some (planted θ x);
-              equal = λ b. ap (count b) (same-put (flatten s) on-left) ∙ unifies .equal b ∙ sym (ap (count b) (same-put (flatten t) on-right));
-            });
+        non-empty = λ x m some. subst (λ (l : List ℕ). 0 < length l) (agree x m) (unifies .non-empty x m some);
+        equal = λ b. sym (ap (count b) (same-put L on-left)) ∙ unifies .equal b ∙ ap (count b) (same-put R on-right);
       }
     where
-      its-values : (x : ℕ) → List·Memᴰ x (variables M (flatten s) (flatten t)) → flatten (planted θ x) ≡ θ x
-      its-values x m = flatten-tree (θ x) (unifies .non-empty x m some)
+      on-left : (a : ℕ) → List·Memᴰ a L → M .moves a ≡ true → List·Memᴰ a (variables M L R)
+      on-left a m = moving-variable M L R a (left a m) (omega (arith, count-some a L m))
 
-      on-left : (a : ℕ) → List·Memᴰ a (flatten s) → M .moves a ≡ true → List·Memᴰ a (variables M (flatten s) (flatten t))
-      on-left a m = moving-variable M (flatten s) (flatten t) a (left a m) (omega (arith, count-some a (flatten s) m))
+      on-right : (a : ℕ) → List·Memᴰ a R → M .moves a ≡ true → List·Memᴰ a (variables M L R)
+      on-right a m = moving-variable M L R a (right a m) (omega (arith, count-some a R m))
 
-      on-right : (a : ℕ) → List·Memᴰ a (flatten t) → M .moves a ≡ true → List·Memᴰ a (variables M (flatten s) (flatten t))
-      on-right a m = moving-variable M (flatten s) (flatten t) a (right a m) (omega (arith, count-some a (flatten t) m))
+      same-put : (side : List ℕ) → ((a : ℕ) → List·Memᴰ a side → M .moves a ≡ true → List·Memᴰ a (variables M L R))
+          → put (M .moves) θ side ≡ put (M .moves) θ′ side
+      same-put side moving = put-agrees (M .moves) θ θ′ side (λ a m moves. agree a (moving a m moves))
 
-      same-put : (side : List ℕ) → ((a : ℕ) → List·Memᴰ a side → M .moves a ≡ true → List·Memᴰ a (variables M (flatten s) (flatten t)))
-          → put (M .moves) (flattened (planted θ)) side ≡ put (M .moves) θ side
-      same-put side moving = put-agrees (M .moves) (flattened (planted θ)) θ side (λ a m moves. its-values a (moving a m moves))
+pub comes-alike : (M : Mode) (new : ℕ) (L R : List ℕ) {σ σ′ θ θ′ : Replacement} → Agree (variables M L R) σ σ′ → Agree (variables M L R) θ θ′
+    → ComesFrom M new L R σ θ → ComesFrom M new L R σ′ θ′
+comes-alike M new L R same same′ comes =
+    record {
+      fill = comes .fill;
+      filled = λ x n m k. comes .filled x n m (subst (List·Memᴰ n) (sym (same x m)) k);
+      agrees = λ x m b. sym (ap (count b) (same′ x m)) ∙ comes .agrees x m b ∙ ap (λ (l : List ℕ). count b (put (isNew new) (comes .fill) l)) (same x m);
+    }
+
+-- Where no value may be empty, every replacement that unifies is, on the pair's variables, that of a substitution, and that is a unifier.
+pub unifies-unifier : (M : Mode) (s t : Term) → IsSide (flatten s) → IsSide (flatten t) → M .empties ≡ false → (θ : Replacement)
+    → Unifies M (flatten s) (flatten t) θ → (σ : Substitution) × Agree (variablesOf M s t) (flattened σ) θ × ACUnifier M s t σ
+unifies-unifier M s t left right some θ unifies =
+    (planted θ, its-values, unifier-unifies M s t (planted θ) .1 (unifies-alike M (flatten s) (flatten t) left right (λ x m. sym (its-values x m)) unifies))
+  where
+    its-values : Agree (variablesOf M s t) (flattened (planted θ)) θ
+    its-values x m = flatten-tree (θ x) (unifies .non-empty x m some)
 
 -- ---- more general is "comes from"
 
 -- Where no value may be empty, σ is more general than σ′ on the pair's variables exactly if the replacement of σ′ comes from that of σ.
 pub more-general : (M : Mode) (new : ℕ) (s t : Term) → M .empties ≡ false → (σ σ′ : Substitution)
-    → MoreGeneral (isNew new) (variables M (flatten s) (flatten t)) σ σ′ ↔ ComesFrom M new (flatten s) (flatten t) (flattened σ) (flattened σ′)
+    → MoreGeneral (isNew new) (variablesOf M s t) σ σ′ ↔ ComesFrom M new (flatten s) (flatten t) (flattened σ) (flattened σ′)
 more-general M new s t some σ σ′ = (there, back)
   where
-    there : MoreGeneral (isNew new) (variables M (flatten s) (flatten t)) σ σ′ → ComesFrom M new (flatten s) (flatten t) (flattened σ) (flattened σ′)
+    there : MoreGeneral (isNew new) (variablesOf M s t) σ σ′ → ComesFrom M new (flatten s) (flatten t) (flattened σ) (flattened σ′)
     there general =
         record {
           fill = flattened (general .η);
@@ -221,7 +220,7 @@ more-general M new s t some σ σ′ = (there, back)
               λ x m b. sym (same-atoms (general .instances x m) b) ∙ ap (count b) (flatten-apply (isNew new) (general .η) (σ x));
         }
 
-    back : ComesFrom M new (flatten s) (flatten t) (flattened σ) (flattened σ′) → MoreGeneral (isNew new) (variables M (flatten s) (flatten t)) σ σ′
+    back : ComesFrom M new (flatten s) (flatten t) (flattened σ) (flattened σ′) → MoreGeneral (isNew new) (variablesOf M s t) σ σ′
     back comes =
         record {
           η = planted (comes .fill);
@@ -232,7 +231,7 @@ more-general M new s t some σ σ′ = (there, back)
               ap (count b) (flatten-apply (isNew new) (planted (comes .fill)) (σ x) ∙ same-fill x m) ∙ sym (comes .agrees x m b));
         }
       where
-        same-fill : (x : ℕ) → List·Memᴰ x (variables M (flatten s) (flatten t))
+        same-fill : (x : ℕ) → List·Memᴰ x (variablesOf M s t)
             → put (isNew new) (flattened (planted (comes .fill))) (flatten (σ x)) ≡ put (isNew new) (comes .fill) (flatten (σ x))
         same-fill x m =
             put-agrees (isNew new) (flattened (planted (comes .fill))) (comes .fill) (flatten (σ x))
@@ -246,15 +245,15 @@ apply-agrees variable variable′ η (plus s t) agree =
     ap₂ plus (apply-agrees variable variable′ η s (λ a m. agree a (Memᴰ·append-left (flatten t) m)))
     (apply-agrees variable variable′ η t (λ a m. agree a (Memᴰ·append-right (flatten s) m)))
 
--- For a pure σ it makes no difference whether η may move the pair's variables as well as the new ones.
-pub every-variable : (moves new : ℕ → Bool) (over : List ℕ) (σ σ′ : Substitution) → Pure moves over σ
-    → MoreGeneral (λ a. moves a || new a) over σ σ′ ↔ MoreGeneral new over σ σ′
-every-variable moves new over σ σ′ pure = (
+-- For a pure σ it makes no difference whether η may move every variable or the new ones alone.
+pub every-variable : (M : Mode) (new : ℕ) (over : List ℕ) (σ σ′ : Substitution) → Pure (M .moves) over σ
+    → MoreGeneral (anyVariable M new) over σ σ′ ↔ MoreGeneral (isNew new) over σ σ′
+every-variable M new over σ σ′ pure = (
   λ general.
       record { η = general .η; instances = λ x m. subst (λ (t : Term). t =AC σ′ x) (same (general .η) x m) (general .instances x m) },
   λ general.
       record { η = general .η; instances = λ x m. subst (λ (t : Term). t =AC σ′ x) (sym (same (general .η) x m)) (general .instances x m) },
 )
   where
-    same : (η : Substitution) (x : ℕ) → List·Memᴰ x over → apply (λ a. moves a || new a) η (σ x) ≡ apply new η (σ x)
-    same η x m = apply-agrees (λ a. moves a || new a) new η (σ x) (λ a k. ap (λ b. b || new a) (pure x a m k))
+    same : (η : Substitution) (x : ℕ) → List·Memᴰ x over → apply (anyVariable M new) η (σ x) ≡ apply (isNew new) η (σ x)
+    same η x m = apply-agrees (anyVariable M new) (isNew new) η (σ x) (λ a k. ap (λ b. b || isNew new a) (pure x a m k))

@@ -24,3 +24,4 @@ pub mod Listed
 pub mod Pages
 pub mod Fages
 pub mod Worked
+pub mod MinimalSet

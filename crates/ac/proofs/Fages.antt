@@ -82,17 +82,17 @@ comb-rest a [] (y ∷ ys) same equal = absurd (no-atoms y ys same)
 comb-rest a (x ∷ xs) [] same equal = absurd (no-atoms x xs (λ b. sym (same b)))
 comb-rest a (x ∷ xs) (y ∷ ys) same equal = congruent (reflexive (atom a)) equal
 
+-- an atom taken out of both of two lists with the same atoms
+one-less : (a : ℕ) (xs before behind : List ℕ) → SameSum (a ∷ xs) (before ++ a ∷ behind) → SameSum xs (before ++ behind)
+one-less a xs before behind same b = omega (arith, same b, count-append b before (a ∷ behind), count-append b before behind)
+
 -- trees of lists with the same atoms are equal: the first atom of the one stands somewhere in the other, and can stand first there
 tree-same : (xs ys : List ℕ) → SameSum xs ys → tree xs =AC tree ys
 tree-same [] [] same = reflexive (atom 0)
 tree-same [] (y ∷ ys) same = absurd (no-atoms y ys same)
 tree-same (a ∷ xs) ys same =
-    let stands : 0 < count a ys = omega (arith, same a, same-self a a refl) in
-    let at = member-splits (count-member a ys stands) in
-    let less : SameSum xs (at .0 ++ at .1) =
-    λ b.
-    omega
-    (arith, same b, ap (count b) (at .2), count-append b (at .0) (a ∷ at .1), count-append b (at .0) (at .1)) in
+    let at = member-splits (count-member a ys (omega (arith, same a, same-self a a refl))) in
+    let less = one-less a xs (at .0) (at .1) (subst (SameSum (a ∷ xs)) (at .2) same) in
     transitive (comb-rest a xs (at .0 ++ at .1) less (tree-same xs (at .0 ++ at .1) less))
     (symmetric (subst (λ (l : List ℕ). tree l =AC comb a (at .0 ++ at .1)) (sym (at .2)) (tree-first (at .0) a (at .1))))
 
@@ -151,6 +151,10 @@ pub flatten-tree : (xs : List ℕ) → 0 < length xs → flatten (tree xs) ≡ x
 flatten-tree [] h = absurd (omega arith)
 flatten-tree (a ∷ xs) h = flatten-comb a xs
 
+-- Every replacement is, where its values are not empty, that of a substitution.
+pub planted-replacement : (θ : Replacement) (x : ℕ) → 0 < length (θ x) → flattened (planted θ) x ≡ θ x
+planted-replacement θ x h = flatten-tree (θ x) h
+
 -- a side is the same after two replacements that agree on the atoms that stand there and move
 pub put-agrees : (moves : ℕ → Bool) (θ θ′ : Replacement) (side : List ℕ) → ((a : ℕ) → List·Memᴰ a side → moves a ≡ true → θ a ≡ θ′ a)
     → put moves θ side ≡ put moves θ′ side
@@ -202,7 +206,7 @@ unifies-unifier M s t left right some θ unifies =
     (planted θ, its-values, unifier-unifies M s t (planted θ) .1 (unifies-alike M (flatten s) (flatten t) left right (λ x m. sym (its-values x m)) unifies))
   where
     its-values : Agree (variablesOf M s t) (flattened (planted θ)) θ
-    its-values x m = flatten-tree (θ x) (unifies .non-empty x m some)
+    its-values x m = planted-replacement θ x (unifies .non-empty x m some)
 
 -- ---- more general is "comes from"
 
@@ -235,7 +239,7 @@ more-general M new s t some σ σ′ = (there, back)
             → put (isNew new) (flattened (planted (comes .fill))) (flatten (σ x)) ≡ put (isNew new) (comes .fill) (flatten (σ x))
         same-fill x m =
             put-agrees (isNew new) (flattened (planted (comes .fill))) (comes .fill) (flatten (σ x))
-            (λ n k above. flatten-tree (comes .fill n) (comes .filled x n m k (leb-true new n above) some))
+            (λ n k above. planted-replacement (comes .fill) n (comes .filled x n m k (leb-true new n above) some))
 
 -- a substitution does the same to a term whichever of two sets of variables it moves, if they agree on the term's atoms
 apply-agrees : (variable variable′ : ℕ → Bool) (η : Substitution) (t : Term) → ((a : ℕ) → List·Memᴰ a (flatten t) → variable a ≡ variable′ a)

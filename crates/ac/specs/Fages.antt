@@ -53,7 +53,9 @@ Pure moves over σ = (x a : ℕ) → List·Memᴰ x over → List·Memᴰ a (fla
 abbrev pub variablesOf : Mode → Term → Term → List ℕ
 variablesOf M s t = variables M (flatten s) (flatten t)
 
--- A complete set of minimal unifiers of s and t away from the variables of terms (section 1.2.2, a to d).
+-- A complete set of minimal unifiers of s and t away from W (section 1.2.2), where W is every variable of terms:
+-- a) D(σ) ⊆ V and R(σ) ∩ W = ∅ (purity), b) each is a unifier (correctness), c) each unifier ρ has one that is more general over V
+-- (completeness), d) none is more general over V than another (minimality), V being the variables of s and t.
 pub record MinimalSet (M : Mode) (new : ℕ) (s t : Term) (unifiers : List Substitution) : Type 0 where
   pub domain : (σ : Substitution) → List·Memᴰ σ unifiers → (x : ℕ) → (List·Memᴰ x (variablesOf M s t) → ⊥) → σ x ≡ atom x
   pub purity : (σ : Substitution) → List·Memᴰ σ unifiers → Pure (M .moves) (variablesOf M s t) σ

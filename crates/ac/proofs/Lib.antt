@@ -9,8 +9,11 @@ pub mod Places
 pub mod Counts
 pub mod Taken
 pub mod Replaced
+pub mod Constants
+pub mod Balanced
 pub mod Sound
 pub mod Balances
 pub mod Fill
 pub mod Complete
 pub mod Independent
+pub mod Theorems

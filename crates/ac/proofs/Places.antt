@@ -1,13 +1,12 @@
 -- Places in lists: what stands where, which members pass a test, and the place of a variable among the variables.
 use Prim.Native.Nat.{ℕ, zero, suc, _+_, _≤_, _<_}
-use mathlib.Core.Path.{_≡_, refl, sym, ap, _∙_, subst}
+use mathlib.Core.Path.{_≡_, refl, sym, ap, _∙_}
 use mathlib.Core.Bool.{Bool, true, false}
 use mathlib.Core.List.{List, [], _∷_, map, List·Memᴰ, List·Memᴰ·head, List·Memᴰ·tail}
 use mathlib.Core.Logic.{_⊎_, inl, inr, ⊎-elim}
 use native.Mathlib.Nat.{eq-or-lt-of-le}
 use native.Mathlib.Omega.{arith}
 use lib.ListN.{length, getD}
-use lib.Dec.{eqb}
 use native.Mathlib.Decide.{ℕ-discrete}
 use borrow.Author.Tests.{eq-eqb, ne-eqb}
 use Rattle.ac.specs.Lists.{from, keep, filter, Ascending, none, next}
@@ -15,12 +14,12 @@ use Rattle.ac.specs.Selection.{placeOf}
 
 -- what stands at a place of a list is a member of it
 pub getD-member {ℓ} : {A : Type ℓ} (xs : List A) (i : ℕ) (d : A) → i < length xs → List·Memᴰ (getD xs i d) xs
-getD-member [] i d h = absurd (let z : ⊥ = omega arith in z)
+getD-member [] i d h = absurd (omega arith)
 getD-member (x ∷ xs) zero d h = List·Memᴰ·head refl
 getD-member (x ∷ xs) (suc i) d h = List·Memᴰ·tail (getD-member xs i d (omega arith))
 
 pub getD-map {ℓ κ} : {A : Type ℓ} {B : Type κ} (f : A → B) (xs : List A) (i : ℕ) (d : A) (e : B) → i < length xs → getD (map f xs) i e ≡ f (getD xs i d)
-getD-map f [] i d e h = absurd (let z : ⊥ = omega arith in z)
+getD-map f [] i d e h = absurd (omega arith)
 getD-map f (x ∷ xs) zero d e h = refl
 getD-map f (x ∷ xs) (suc i) d e h = getD-map f xs i d e (omega arith)
 
@@ -30,7 +29,7 @@ from-bounds k (suc n) a (List·Memᴰ·head e) = omega arith
 from-bounds k (suc n) a (List·Memᴰ·tail m) = omega (arith, from-bounds (suc k) n a m)
 
 pub from-member : (k n : ℕ) (a : ℕ) → k ≤ a → a < k + n → List·Memᴰ a (from k n)
-from-member k zero a low high = absurd (let z : ⊥ = omega arith in z)
+from-member k zero a low high = absurd (omega arith)
 from-member k (suc n) a low high =
     ⊎-elim (λ (e : k ≡ a). List·Memᴰ·head (sym e)) (λ (l : k < a). List·Memᴰ·tail (from-member (suc k) n a l (omega arith))) (eq-or-lt-of-le low)
 
@@ -95,7 +94,7 @@ getD-placeOf f (y ∷ ys) x (List·Memᴰ·tail m) = go (ℕ-discrete x y) (getD
 
 -- in an ascending list each member stands at one place only
 pub placeOf-getD : {xs : List ℕ} → Ascending _<_ xs → (i : ℕ) → i < length xs → placeOf (getD xs i 0) xs ≡ i
-placeOf-getD none i h = absurd (let z : ⊥ = omega arith in z)
+placeOf-getD none i h = absurd (omega arith)
 placeOf-getD (next {a} {rest} before ascending) zero h = placeOf-here a a rest refl
 placeOf-getD (next {a} {rest} before ascending) (suc i) h =
     let l : i < length rest = omega arith in

@@ -1,6 +1,7 @@
 pub mod Vectors
 pub mod Order
 pub mod Bridge
+pub mod Nets
 pub mod Sums
 pub mod Pigeonhole
 pub mod Walk

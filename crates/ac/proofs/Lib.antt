@@ -1,9 +1,13 @@
 pub mod Vectors
 pub mod Order
 pub mod Bridge
+pub mod Nets
 pub mod Sums
 pub mod Pigeonhole
+pub mod Walk
 pub mod Bound
+pub mod Search
+pub mod Regions
 pub mod Groups
 pub mod Places
 pub mod Counts

@@ -21,3 +21,4 @@ pub mod Fill
 pub mod Complete
 pub mod Independent
 pub mod Theorems
+pub mod WrongSelections

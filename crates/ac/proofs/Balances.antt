@@ -1,7 +1,7 @@
 -- Whatever replacement makes the sides equal is made of rows, whether or not it leaves a variable empty.
 use Prim.Native.Nat.{ℕ, _+_}
-use mathlib.Core.Path.{_≡_, refl, sym, ap, _∙_, subst}
-use mathlib.Core.List.{List, [], _∷_, map, List·Memᴰ, List·Memᴰ·head, List·Memᴰ·tail}
+use mathlib.Core.Path.{_≡_, sym, _∙_}
+use mathlib.Core.List.{List, List·Memᴰ}
 use native.Mathlib.Omega.{arith}
 use lib.ListN.{length-map}
 use Rattle.ac.specs.Pair.{Mode, IsSide, count, variables, unbalanced}
@@ -9,21 +9,12 @@ use Rattle.ac.specs.Rows.{Group, Groups, GroupsOf, IsVector}
 use Rattle.ac.specs.Equation.{dot, SumOf, RowAndSum}
 use Rattle.ac.specs.Replacement.{Replacement, put, SameSum, occurrences, Balances}
 use Rattle.ac.proofs.Counts.{staying}
-use Rattle.ac.proofs.Taken.{constantsOf}
+use Rattle.ac.proofs.Constants.{constant-member, constant-unbalanced}
 use Rattle.ac.proofs.Bridge.{weight-zero, weight-of-constant}
 use Rattle.ac.proofs.Sums.{balanced-sum, unbalanced-sum}
 use Rattle.ac.proofs.Replaced.{onLeft, onRight, Kind, constant, other, kind-of, count-left, count-right}
 
--- the constant of a group is one of them
-pub constant-member : {g : Group} {gs : List Group} → List·Memᴰ g gs → List·Memᴰ (g .constant) (constantsOf gs)
-constant-member (List·Memᴰ·head e) = List·Memᴰ·head (ap (λ (h : Group). h .constant) e)
-constant-member (List·Memᴰ·tail m) = List·Memᴰ·tail (constant-member m)
-
 module _ (M : Mode) (L R : List ℕ) (left : IsSide L) (right : IsSide R) {G : Groups} (groups : GroupsOf M L R G) where
-  -- the constant of a group is unbalanced
-  pub group-unbalanced : (g : Group) → List·Memᴰ g (G .constants) → List·Memᴰ (g .constant) (unbalanced M L R)
-  group-unbalanced g m = subst (λ (cs : List ℕ). List·Memᴰ (g .constant) cs) (groups .the-constants) (constant-member m)
-
   module _ (θ : Replacement) (same : SameSum (put (M .moves) θ L) (put (M .moves) θ R)) where
     -- b's occurrences in the values
     abbrev its : ℕ → List ℕ
@@ -43,7 +34,7 @@ module _ (M : Mode) (L R : List ℕ) (left : IsSide L) (right : IsSide R) {G : G
         go (constant n l r) =
             unbalanced-sum M L R groups m (its (g .constant)) (vector (g .constant))
             (weight-of-constant M L R (g .constant) (its (g .constant)) (vector (g .constant)) .1 (omega (arith, solves (g .constant))))
-        go (other n e) = absurd (n (group-unbalanced g m))
+        go (other n e) = absurd (n (constant-unbalanced M L R groups (g .constant) (constant-member m)))
 
     other-sums : (b : ℕ) → (List·Memᴰ b (unbalanced M L R) → ⊥) → SumOf (G .balanced) (its b)
     other-sums b n = go (kind-of M L R left right b)

@@ -1,25 +1,24 @@
 -- Complete: every unifier comes from the values of an admissible selection.
-use Prim.Native.Nat.{ℕ, zero, suc, _+_, _*_, _-_, _<_, _≤_}
+use Prim.Native.Nat.{ℕ, suc, _+_, _-_, _<_, _≤_}
 use mathlib.Core.Path.{_≡_, refl, sym, ap, ap₂, _∙_, subst}
-use mathlib.Core.Bool.{Bool, true, false, cond, _||_, false≢true}
-use mathlib.Core.List.{List, [], _∷_, _++_, map, List·Memᴰ, List·Memᴰ·head, List·Memᴰ·tail, List·Memᴰ·append-cases, Memᴰ·append-left, Memᴰ·append-right}
-use mathlib.Core.Logic.{_⊎_, inl, inr, ⊎-elim}
+use mathlib.Core.Bool.{Bool, true, false}
+use mathlib.Core.List.{List, [], _∷_, List·Memᴰ, List·Memᴰ·head, List·Memᴰ·tail, List·Memᴰ·append-cases}
+use mathlib.Core.Logic.{⊎-elim}
 use native.Mathlib.Omega.{arith}
 use native.Mathlib.Nat.{le-refl}
 use native.Mathlib.Decide.{decLt}
-use lib.ListN.{length, getD, replicate, length-map}
-use lib.Dec.{ltb}
-use borrow.Author.Tests.{ltb-true, ltb-false, lt-leb, le-leb}
-use Rattle.ac.specs.Lists.{from, below, flatMap, sum, Ascending, none, next}
-use Rattle.ac.specs.Pair.{Mode, IsSide, same, count, variables, unbalanced}
+use lib.ListN.{length, getD}
+use Rattle.ac.specs.Lists.{from, flatMap, sum, Ascending, none, next}
+use Rattle.ac.specs.Pair.{Mode, IsSide, same, count, variables}
 use Rattle.ac.specs.Rows.{Group, Groups, GroupsOf}
-use Rattle.ac.specs.Equation.{combined, SumOf, RowAndSum}
-use Rattle.ac.specs.Selection.{Selection, SelectionOf, Within, Within.none, index, Taken, takenRows, takenBalanced, taken, valueAt, reached, placeOf, allTaken, admissible, value}
+use Rattle.ac.specs.Equation.{combined, RowAndSum}
+use Rattle.ac.specs.Selection.{Selection, SelectionOf, Within, Within.none, index, Taken, takenRows, takenBalanced, taken, reached, placeOf, admissible, value}
 use Rattle.ac.specs.Replacement.{Replacement, put, SameSum, NonEmpty, occurrences, Balances, isNew, Unifies, ComesFrom}
-use Rattle.ac.proofs.Places.{from-bounds, from-member, getD-member, placeOf-lt, placeOf-getD, getD-placeOf}
-use Rattle.ac.proofs.Counts.{same-self, same-other, count-append, count-replicate, count-none, count-some}
-use Rattle.ac.proofs.Taken.{constantsOf, takenRows-atoms, takenRows-none, takenRows-first, takenRows-later, total, total-append, total-agrees, total-reached, filledCount, filledCount-other, count-filled, reached-allReached, admissible-reaches, admissible-takes}
-use Rattle.ac.proofs.Replaced.{variables-ascending, unbalanced-ascending, unbalanced-cases, Kind, constant, other, kind-of}
+use Rattle.ac.proofs.Places.{from-bounds, from-member, getD-member, placeOf-getD, getD-placeOf}
+use Rattle.ac.proofs.Counts.{count-none, count-some}
+use Rattle.ac.proofs.Taken.{total, total-append, total-reached, filledCount, valueAt-atoms, count-filled, reached-allReached, admissible-reaches, admissible-takes}
+use Rattle.ac.proofs.Replaced.{variables-ascending, Kind, constant, other, kind-of}
+use Rattle.ac.proofs.Constants.{constantsOf, constants-ascending, constant-unbalanced, unbalanced-constant, constant-old, takenRows-atoms, takenRows-none, takenRows-first, takenRows-later, takenRows-stay}
 use Rattle.ac.proofs.Fill.{spread, count-spread, count-spread-none, member-flatMap, member-le-sum, takesFrom, length-takesFrom, all-takesFrom, takenBalanced-filled, filled-combined}
 use Rattle.ac.proofs.Balances.{made-of-rows}
 
@@ -62,38 +61,7 @@ module _ (balanced : List (List ℕ)) (vectorOf : ℕ → List ℕ) where
                 adds-up = λ i. omega (arith, rest .remainder b m .adds-up i, takenRows-later g gs (rest .indexes) (first .index) b (λ (e : b ≡ g .constant). omega (arith, before b m)) i);
               }
 
--- the atoms of a value belong to taken rows
-pub valueAt-atoms : (ts : List Taken) (i n : ℕ) → List·Memᴰ n (valueAt ts i) → (t : Taken) × List·Memᴰ t ts × (n ≡ t .atom)
-valueAt-atoms [] i n m = elim m [ ]
-valueAt-atoms (t ∷ ts) i n m =
-    ⊎-elim
-    (λ (h : List·Memᴰ n (replicate (getD (t .row) i 0) (t .atom))). (t, List·Memᴰ·head refl, repeated (getD (t .row) i 0) h))
-    (λ (h : List·Memᴰ n (valueAt ts i)). let u = valueAt-atoms ts i n h in (u .0, List·Memᴰ·tail (u .1), u .2))
-    (List·Memᴰ·append-cases (replicate (getD (t .row) i 0) (t .atom)) m)
-  where
-    repeated : (k : ℕ) → List·Memᴰ n (replicate k (t .atom)) → n ≡ t .atom
-    repeated zero h = elim h [ ]
-    repeated (suc k) (List·Memᴰ·head e) = e
-    repeated (suc k) (List·Memᴰ·tail h) = repeated k h
-
 module _ (M : Mode) (new : ℕ) (L R : List ℕ) (left : IsSide L) (right : IsSide R) (above : 128 ≤ new) {G : Groups} (groups : GroupsOf M L R G) where
-  -- the atoms of the constants' taken rows are no new variables
-  pub takenRows-old : {is : List ℕ} → Within (G .constants) is → (t : Taken) → List·Memᴰ t (takenRows (G .constants) is) → t .atom < new
-  takenRows-old within t m =
-      omega
-      (arith, unbalanced-cases M L R (t .atom) (subst (λ (cs : List ℕ). List·Memᴰ (t .atom) cs) (groups .the-constants) (takenRows-atoms within t m)) .0)
-
-  -- filling the new variables leaves the constants' rows as they are
-  pub takenRows-stay : {is : List ℕ} → Within (G .constants) is → (fill : Replacement) (b i : ℕ)
-      → total i (filledCount new fill b) (takenRows (G .constants) is) ≡ total i (same b) (takenRows (G .constants) is)
-  takenRows-stay {is} within fill b i =
-      total-agrees
-      i
-      (filledCount new fill b)
-      (same b)
-      (takenRows (G .constants) is)
-      (λ t m. filledCount-other new fill b (t .atom) (takenRows-old within t m))
-
   module _ (θ : Replacement) (unifies : Unifies M L R θ) where
     abbrev vectorOf : ℕ → List ℕ
     vectorOf b = occurrences θ (variables M L R) b
@@ -107,21 +75,21 @@ module _ (M : Mode) (new : ℕ) (L R : List ℕ) (left : IsSide L) (right : IsSi
         (G .balanced)
         vectorOf
         (G .constants)
-        (subst (Ascending _<_) (sym (groups .the-constants)) (unbalanced-ascending M L R))
+        (constants-ascending M L R groups)
         (rows .constants)
 
     remainder : (b : ℕ) → Remainder (G .balanced) vectorOf (takenRows (G .constants) (chosen .indexes)) b
     remainder b = go (kind-of M L R left right b)
       where
         go : Kind M L R b → Remainder (G .balanced) vectorOf (takenRows (G .constants) (chosen .indexes)) b
-        go (constant m l r) = chosen .remainder b (subst (λ (cs : List ℕ). List·Memᴰ b cs) (sym (groups .the-constants)) m)
+        go (constant m l r) = chosen .remainder b (unbalanced-constant M L R groups b m)
         go (other n e) =
             record {
               times = rows .others b n .times;
               adds-up =
                   λ i.
                   omega
-                  (arith, rows .others b n .adds-up i, takenRows-none (chosen .within) b i (λ (m : List·Memᴰ b (constantsOf (G .constants))). n (subst (λ (cs : List ℕ). List·Memᴰ b cs) (groups .the-constants) m)));
+                  (arith, rows .others b n .adds-up i, takenRows-none (chosen .within) b i (λ (m : List·Memᴰ b (constantsOf (G .constants))). n (constant-unbalanced M L R groups b m)));
             }
 
     -- above all atoms of the values
@@ -164,7 +132,7 @@ module _ (M : Mode) (new : ℕ) (L R : List ℕ) (left : IsSide L) (right : IsSi
         (takenBalanced new (G .balanced) (takesFrom (M .empties) filling new (length (G .balanced))))
         ∙ ap₂
         (λ x y. x + y)
-        (takenRows-stay (chosen .within) filling b i)
+        (takenRows-stay M L R groups new above (chosen .within) filling b i)
         (filled-combined (M .empties) filling new b i new (le-refl new) (G .balanced) times (λ j h. counts j))
 
     -- the values of the selection, filled, are the unifier's
@@ -212,7 +180,7 @@ module _ (M : Mode) (new : ℕ) (L R : List ℕ) (left : IsSide L) (right : IsSi
             let t = valueAt-atoms (taken new G selected) (placeOf x (variables M L R)) n v in
             subst (λ a. 0 < length (filling a)) (sym (t .2))
             (⊎-elim
-            (λ (k : List·Memᴰ (t .0) (takenRows (G .constants) (chosen .indexes))). absurd (let z : ⊥ = omega (arith, t .2, takenRows-old (chosen .within) (t .0) k) in z))
+            (λ (k : List·Memᴰ (t .0) (takenRows (G .constants) (chosen .indexes))). absurd (let z : ⊥ = omega (arith, t .2, constant-old M L R groups new above (t .0 .atom) (takenRows-atoms (chosen .within) (t .0) k)) in z))
             (takenBalanced-filled (M .empties) filling e new (G .balanced) (t .0))
             (List·Memᴰ·append-cases (takenRows (G .constants) (chosen .indexes)) (t .1)))
 

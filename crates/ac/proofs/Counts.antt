@@ -1,18 +1,16 @@
 -- Counting occurrences: in joined and repeated lists, in ascending lists, and in a side after a replacement.
-use Prim.Native.Nat.{ℕ, zero, suc, _+_, _*_, _≤_, _<_}
+use Prim.Native.Nat.{ℕ, zero, suc, _+_, _*_, _<_}
 use mathlib.Core.Path.{_≡_, refl, sym, ap, _∙_}
-use mathlib.Core.Bool.{Bool, true, false, cond, _&&_, true≢false}
+use mathlib.Core.Bool.{Bool, true, false, cond, true≢false}
 use mathlib.Core.List.{List, [], _∷_, _++_, append-assoc, map, List·Memᴰ, List·Memᴰ·head, List·Memᴰ·tail}
 use native.Mathlib.Omega.{arith}
 use native.Mathlib.Decide.{ℕ-discrete}
-use lib.ListN.{length, getD, replicate}
-use lib.Dec.{eqb, ltb}
-use borrow.Author.Tests.{eq-eqb, ne-eqb, lt-ltb}
-use Rattle.ac.specs.Lists.{filter, Ascending, none, next}
-use Rattle.ac.specs.Pair.{Mode, IsSide, same, count, occurs, atoms, variables}
+use lib.ListN.{replicate}
+use borrow.Author.Tests.{eq-eqb, ne-eqb}
+use Rattle.ac.specs.Lists.{Ascending, next}
+use Rattle.ac.specs.Pair.{same, count}
 use Rattle.ac.specs.Equation.{dot}
 use Rattle.ac.specs.Replacement.{Replacement, put, occurrences}
-use Rattle.ac.proofs.Places.{filter-cases, filter-member, from-member, from-bounds, filter-from-ascending}
 
 -- an atom is the same as itself, and as no other
 pub same-self : (a b : ℕ) → a ≡ b → same a b ≡ 1
@@ -53,7 +51,7 @@ count-some b (a ∷ s) (List·Memᴰ·head e) = omega (arith, same-self b a e)
 count-some b (a ∷ s) (List·Memᴰ·tail m) = omega (arith, count-some b s m)
 
 pub count-member : (b : ℕ) (s : List ℕ) → 0 < count b s → List·Memᴰ b s
-count-member b [] h = absurd (let z : ⊥ = omega arith in z)
+count-member b [] h = absurd (omega arith)
 count-member b (a ∷ s) h = go (ℕ-discrete b a) (count-member b s)
   where
     go : Dec (b ≡ a) → (0 < count b s → List·Memᴰ b s) → List·Memᴰ b (a ∷ s)

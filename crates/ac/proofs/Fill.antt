@@ -1,17 +1,17 @@
 -- Filling the new variables: each gets every atom as often as that atom's multiplicities say; the rows whose new variable is not left empty are taken.
-use Prim.Native.Nat.{ℕ, zero, suc, _+_, _*_, _-_, _<_, _≤_}
+use Prim.Native.Nat.{ℕ, zero, suc, _+_, _*_, _<_, _≤_}
 use mathlib.Core.Path.{_≡_, refl, sym, ap, ap₂, _∙_, subst}
 use mathlib.Core.Bool.{Bool, true, false, _||_, true≢false, and-eq-true-iff}
-use mathlib.Core.List.{List, [], _∷_, _++_, map, List·Memᴰ, List·Memᴰ·head, List·Memᴰ·tail, Memᴰ·append-left, Memᴰ·append-right}
+use mathlib.Core.List.{List, [], _∷_, map, List·Memᴰ, List·Memᴰ·head, List·Memᴰ·tail, Memᴰ·append-left, Memᴰ·append-right}
 use native.Mathlib.Omega.{arith}
-use lib.ListN.{length, getD, replicate, length-map}
+use lib.ListN.{length, getD, replicate}
 use lib.Dec.{ltb}
-use borrow.Author.Tests.{ltb-true, ltb-false, le-leb}
-use Rattle.ac.specs.Lists.{from, below, flatMap, sum}
+use borrow.Author.Tests.{ltb-true, ltb-false}
+use Rattle.ac.specs.Lists.{from, flatMap, sum}
 use Rattle.ac.specs.Pair.{same, count}
 use Rattle.ac.specs.Equation.{combined}
 use Rattle.ac.specs.Selection.{Taken, takenBalanced, allTaken}
-use Rattle.ac.specs.Replacement.{Replacement, isNew}
+use Rattle.ac.specs.Replacement.{Replacement}
 use Rattle.ac.proofs.Places.{from-bounds}
 use Rattle.ac.proofs.Counts.{same-self, same-other, count-append, count-replicate}
 use Rattle.ac.proofs.Taken.{total, filledCount, filledCount-new}

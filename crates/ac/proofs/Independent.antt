@@ -1,25 +1,25 @@
 -- Independent: no listed selection's values come from another's.
 use Prim.Native.Nat.{ℕ, zero, suc, _+_, _*_, _<_, _≤_}
 use mathlib.Core.Path.{_≡_, refl, sym, ap, ap₂, _∙_, subst}
-use mathlib.Core.Bool.{Bool, true, false, _&&_, true≢false, false≢true, and-eq-true-iff}
-use mathlib.Core.List.{List, [], _∷_, _++_, map, List·Memᴰ, List·Memᴰ·head, List·Memᴰ·tail}
-use mathlib.Core.Logic.{⊎-elim}
+use mathlib.Core.Bool.{Bool, true, false, and-eq-true-iff}
+use mathlib.Core.List.{List, [], _∷_, List·Memᴰ, List·Memᴰ·head, List·Memᴰ·tail}
 use native.Mathlib.Omega.{arith}
-use native.Mathlib.Nat.{mul-le-mul-right, mul-pos}
-use native.Mathlib.Decide.{ℕ-discrete, decLt}
+use native.Mathlib.Nat.{mul-le-mul-right}
+use native.Mathlib.Decide.{decLt}
 use lib.ListN.{length, getD}
 use lib.Seq.{ext-getD}
 use Rattle.ac.specs.Lists.{sum, Ascending, none, next}
-use Rattle.ac.specs.Pair.{Mode, IsSide, same, count, variables, unbalanced}
-use Rattle.ac.specs.Rows.{_≼_, _≼_.none, place, _≺_, here, later, Least, Exactly, BalancedRow, RowOf, Group, Groups, GroupsOf}
+use Rattle.ac.specs.Pair.{Mode, same, count, variables}
+use Rattle.ac.specs.Rows.{_≼_, _≼_.none, place, _≺_, Least, Exactly, BalancedRow, RowOf, Group, Groups, GroupsOf}
 use Rattle.ac.specs.Selection.{Selection, SelectionOf, Within, Within.none, index, Taken, takenRows, takenBalanced, taken, valueAt, placeOf, allTaken, admissible, value}
-use Rattle.ac.specs.Replacement.{Replacement, ComesFrom}
+use Rattle.ac.specs.Replacement.{ComesFrom}
 use Rattle.ac.proofs.Places.{getD-member, placeOf-getD}
-use Rattle.ac.proofs.Counts.{same-self, same-other, same-positive, count-some, count-member}
-use Rattle.ac.proofs.Taken.{constantsOf, takenRows-none, takenRows-first, takenRows-later, total, total-append, filledCount, filledCount-new, count-valueAt, count-filled, admissible-takes}
+use Rattle.ac.proofs.Counts.{same-self, same-positive, count-some, count-member}
+use Rattle.ac.proofs.Taken.{total, total-append, filledCount, filledCount-new, count-valueAt, count-filled, admissible-takes}
 use Rattle.ac.proofs.Order.{≺-asymmetric}
-use Rattle.ac.proofs.Replaced.{variables-ascending, unbalanced-ascending, unbalanced-cases}
-use Rattle.ac.proofs.Complete.{takenRows-stay}
+use Rattle.ac.proofs.Replaced.{variables-ascending}
+use Rattle.ac.proofs.Constants.{constantsOf, constants-ascending, constant-old, takenRows-first, takenRows-later, takenRows-stay}
+use Rattle.ac.proofs.Balanced.{Weighing, takenBalanced-each, takenBalanced-weighs, takenBalanced-some, takenBalanced-none, takenBalanced-own}
 
 -- at or below, by places
 pub below-by-places : (u v : List ℕ) → length u ≡ length v → ((i : ℕ) → i < length v → getD u i 0 ≤ getD v i 0) → u ≼ v
@@ -108,74 +108,6 @@ module _ (M : Mode) (L R : List ℕ) where
           omega
           (arith, lower c (List·Memᴰ·tail m) k l, takenRows-later g gs is i c differs k, takenRows-later g gs js j c differs k)
 
--- a taken balanced row whose atom weighs something
-pub record Weighing (weigh : ℕ → ℕ) (n : ℕ) (rows : List (List ℕ)) (ts : List Bool) : Type 0 where
-  pub at : ℕ
-  pub within : at < length rows
-  pub is-taken : getD ts at false ≡ true
-  pub weighs : 0 < weigh (n + at)
-
-later-weighing : {weigh : ℕ → ℕ} {n : ℕ} {r : List ℕ} {rows : List (List ℕ)} {ts : List Bool} (t : Bool) → Weighing weigh (suc n) rows ts
-    → Weighing weigh n (r ∷ rows) (t ∷ ts)
-later-weighing {weigh} {n} t w =
-    record {
-      at = suc (w .at);
-      within = omega (arith, w .within);
-      is-taken = w .is-taken;
-      weighs = subst (λ m. 0 < weigh m) (let z : suc n + w .at ≡ n + suc (w .at) = omega arith in z) (w .weighs);
-    }
-
--- The balanced rows: what the taken ones of them add up to.
-module _ (i : ℕ) where
-  -- each taken row counts
-  pub takenBalanced-each : (weigh : ℕ → ℕ) (n : ℕ) (rows : List (List ℕ)) (ts : List Bool) (a j : ℕ) → a ≡ n + j → j < length rows → getD ts j false ≡ true
-      → weigh a * getD (getD rows j []) i 0 ≤ total i weigh (takenBalanced n rows ts)
-  takenBalanced-each weigh n [] ts a j e h t = absurd (omega arith)
-  takenBalanced-each weigh n (r ∷ rows) [] a j e h t = absurd (false≢true t)
-  takenBalanced-each weigh n (r ∷ rows) (true ∷ ts) a zero e h t = rw (let z : a ≡ n = omega arith in z) (omega arith)
-  takenBalanced-each weigh n (r ∷ rows) (true ∷ ts) a (suc j) e h t =
-      omega (arith, takenBalanced-each weigh (suc n) rows ts a j (omega arith) (omega arith) t)
-  takenBalanced-each weigh n (r ∷ rows) (false ∷ ts) a zero e h t = absurd (false≢true t)
-  takenBalanced-each weigh n (r ∷ rows) (false ∷ ts) a (suc j) e h t = takenBalanced-each weigh (suc n) rows ts a j (omega arith) (omega arith) t
-
-  pub takenBalanced-weighs : (weigh : ℕ → ℕ) (n : ℕ) (rows : List (List ℕ)) (ts : List Bool) (j : ℕ) → j < length rows → getD ts j false ≡ true
-      → 0 < weigh (n + j) → 0 < getD (getD rows j []) i 0 → 0 < total i weigh (takenBalanced n rows ts)
-  takenBalanced-weighs weigh n rows ts j h is-taken weighs entry = omega (arith, mul-pos weighs entry, takenBalanced-each weigh n rows ts (n + j) j refl h is-taken)
-
-  -- a sum above 0 has a taken row whose atom weighs something
-  pub takenBalanced-some : (weigh : ℕ → ℕ) (n : ℕ) (rows : List (List ℕ)) (ts : List Bool) → 0 < total i weigh (takenBalanced n rows ts)
-      → Weighing weigh n rows ts
-  takenBalanced-some weigh n [] ts h = absurd (omega arith)
-  takenBalanced-some weigh n (r ∷ rows) [] h = absurd (omega arith)
-  takenBalanced-some weigh n (r ∷ rows) (true ∷ ts) h = go (decLt 0 (weigh n)) (takenBalanced-some weigh (suc n) rows ts)
-    where
-      go : Dec (0 < weigh n) → (0 < total i weigh (takenBalanced (suc n) rows ts) → Weighing weigh (suc n) rows ts) → Weighing weigh n (r ∷ rows) (true ∷ ts)
-      go (yes p) rest =
-          record { at = 0; within = omega arith; is-taken = refl; weighs = subst (λ m. 0 < weigh m) (let z : n ≡ n + 0 = omega arith in z) p }
-      go (no p) rest =
-          let nothing : weigh n * getD r i 0 ≡ 0 = rw (let z : weigh n ≡ 0 = omega arith in z) (omega arith) in
-          later-weighing true (rest (omega arith))
-  takenBalanced-some weigh n (r ∷ rows) (false ∷ ts) h = later-weighing false (takenBalanced-some weigh (suc n) rows ts h)
-
-  -- an atom that is no new variable from n on is in none of the rows
-  takenBalanced-none : (b n : ℕ) (rows : List (List ℕ)) (ts : List Bool) → b < n → total i (same b) (takenBalanced n rows ts) ≡ 0
-  takenBalanced-none b n [] ts h = refl
-  takenBalanced-none b n (r ∷ rows) [] h = refl
-  takenBalanced-none b n (r ∷ rows) (true ∷ ts) h =
-      rw (same-other b n (λ (e : b ≡ n). omega arith)) (omega (arith, takenBalanced-none b (suc n) rows ts (omega arith)))
-  takenBalanced-none b n (r ∷ rows) (false ∷ ts) h = takenBalanced-none b (suc n) rows ts (omega arith)
-
-  -- a new variable stands in its own row only
-  pub takenBalanced-own : (b j n : ℕ) (rows : List (List ℕ)) (ts : List Bool) → b ≡ n + j → total i (same b) (takenBalanced n rows ts) ≤ getD (getD rows j []) i 0
-  takenBalanced-own b j n [] ts e = omega arith
-  takenBalanced-own b j n (r ∷ rows) [] e = omega arith
-  takenBalanced-own b zero n (r ∷ rows) (true ∷ ts) e =
-      rw (same-self b n (omega arith)) (omega (arith, takenBalanced-none b (suc n) rows ts (omega arith)))
-  takenBalanced-own b (suc j) n (r ∷ rows) (true ∷ ts) e =
-      rw (same-other b n (λ (q : b ≡ n). omega arith)) (omega (arith, takenBalanced-own b j (suc n) rows ts (omega arith)))
-  takenBalanced-own b zero n (r ∷ rows) (false ∷ ts) e = omega (arith, takenBalanced-none b (suc n) rows ts (omega arith))
-  takenBalanced-own b (suc j) n (r ∷ rows) (false ∷ ts) e = takenBalanced-own b j (suc n) rows ts (omega arith)
-
 -- lists of truth values
 all-taken : (ts : List Bool) → allTaken ts ≡ true → (j : ℕ) → j < length ts → getD ts j false ≡ true
 all-taken [] all j h = absurd (omega arith)
@@ -187,7 +119,7 @@ truth-equal true b to back = sym (to refl)
 truth-equal false true to back = back refl
 truth-equal false false to back = refl
 
-module _ (M : Mode) (new : ℕ) (L R : List ℕ) (left : IsSide L) (right : IsSide R) (above : 128 ≤ new) {G : Groups} (groups : GroupsOf M L R G) where
+module _ (M : Mode) (new : ℕ) (L R : List ℕ) (above : 128 ≤ new) {G : Groups} (groups : GroupsOf M L R G) where
   -- a balanced row at or below another is that one
   balanced-equal : (i j : ℕ) → i < length (G .balanced) → j < length (G .balanced)
       → ((p : ℕ) → p < length (variables M L R) → getD (getD (G .balanced) i []) p 0 ≤ getD (getD (G .balanced) j []) p 0) → i ≡ j
@@ -230,7 +162,7 @@ module _ (M : Mode) (new : ℕ) (L R : List ℕ) (left : IsSide L) (right : IsSi
         ∙ total-append i (filledCount new (comes .fill) b) (constantRows s) (balancedRows s)
         ∙ ap
         (λ n. n + total i (filledCount new (comes .fill) b) (balancedRows s))
-        (takenRows-stay M new L R left right above groups (of-s .a-row-each) (comes .fill) b i)
+        (takenRows-stay M L R groups new above (of-s .a-row-each) (comes .fill) b i)
 
     -- the indexes first: no constant is a new variable, so its row in s is at or below its row in t
     same-indexes : s .indexes ≡ t .indexes
@@ -240,14 +172,11 @@ module _ (M : Mode) (new : ℕ) (L R : List ℕ) (left : IsSide L) (right : IsSi
         L
         R
         (G .constants)
-        (subst (Ascending _<_) (sym (groups .the-constants)) (unbalanced-ascending M L R))
+        (constants-ascending M L R groups)
         (groups .constant-rows)
         (of-s .a-row-each)
         (of-t .a-row-each)
-        (λ c m k h. omega (arith, by-kind c k h, takenBalanced-none k c new (G .balanced) (t .takes) (constant-old c m)))
-      where
-        constant-old : (c : ℕ) → List·Memᴰ c (constantsOf (G .constants)) → c < new
-        constant-old c m = omega (arith, unbalanced-cases M L R c (subst (λ (cs : List ℕ). List·Memᴰ c cs) (groups .the-constants) m) .0)
+        (λ c m k h. omega (arith, by-kind c k h, takenBalanced-none k c new (G .balanced) (t .takes) (constant-old M L R groups new above c m)))
 
     -- then the constants' rows cancel
     balanced-agree : (b i : ℕ) → i < length (variables M L R)

@@ -1,13 +1,13 @@
 -- Members of the lists that the definitions build, and lists in ascending order.
-use Prim.Native.Nat.{ℕ, zero, suc, _<_}
+use Prim.Native.Nat.{ℕ, _<_}
 use native.Mathlib.Omega.{arith}
 use mathlib.Core.Path.{_≡_, refl, sym, ap, ap₂, subst}
 use mathlib.Core.Logic.{⊎-elim}
-use mathlib.Core.Bool.{Bool, true, false}
+use mathlib.Core.Bool.{Bool, true}
 use mathlib.Core.List.{List, [], _∷_, _++_, map, List·Memᴰ, List·Memᴰ·head, List·Memᴰ·tail, List·Memᴰ·not-nil}
 use mathlib.Core.List.{List·Memᴰ·append-cases, Memᴰ·append-left, Memᴰ·append-right}
-use Rattle.ac.specs.Lists.{from, below, keep, filter, flatMap, Ascending, none, next}
-use Rattle.ac.proofs.Places.{from-bounds, from-member, filter-cases}
+use Rattle.ac.specs.Lists.{below, keep, filter, flatMap, Ascending, none, next}
+use Rattle.ac.proofs.Places.{from-bounds, from-member}
 
 -- the numbers below n
 pub below-members : (n : ℕ) {i : ℕ} → List·Memᴰ i (below n) → i < n
@@ -52,20 +52,8 @@ member-splits {A = A} (List·Memᴰ·tail {x = b} m) =
     let t = member-splits m in
     (b ∷ t .0, t .1, ap {B = List A} (λ l. b ∷ l) (t .2))
 
-pub ascending-from : (a n : ℕ) → Ascending _<_ (from a n)
-ascending-from a zero = none
-ascending-from a (suc n) = next (λ b m. from-bounds (suc a) n b m .0) (ascending-from (suc a) n)
-
 module _ {A : Type 0} {_before_ : A → A → Type 0} where
-  -- what stands in a filtered list stands there in the order of the whole
-  pub ascending-filter : (passes : A → Bool) {xs : List A} → Ascending _before_ xs → Ascending _before_ (filter passes xs)
-  ascending-filter passes none = none
-  ascending-filter passes (next {a = a} {rest = rest} first later) = go (passes a) (ascending-filter passes later)
-    where
-      go : (p : Bool) → Ascending _before_ (filter passes rest) → Ascending _before_ (keep p a (filter passes rest))
-      go true t = next (λ b m. first b (filter-cases passes rest b m .0)) t
-      go false t = t
-
+  -- two ascending lists, all of the one before all of the other
   pub ascending-append : {xs ys : List A} → Ascending _before_ xs → Ascending _before_ ys
       → ((a b : A) → List·Memᴰ a xs → List·Memᴰ b ys → _before_ a b) → Ascending _before_ (xs ++ ys)
   ascending-append none later between = later

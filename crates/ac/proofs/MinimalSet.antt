@@ -14,15 +14,14 @@ use Rattle.ac.specs.Selection.{Selection, SelectionOf, Taken, takenRows,
 use Rattle.ac.specs.Keys.{Layout, layout, selections, listed}
 use Rattle.ac.specs.Replacement.{Replacement, Unifies, ComesFrom}
 use Rattle.ac.specs.Fages.{Substitution, ACUnifier, MoreGeneral, Pure, anyVariable, variablesOf, tree, substitutionOf, MinimalSet}
-use Rattle.ac.proofs.Places.{filter-cases, filter-member}
+use Rattle.ac.proofs.Search.{filter-member, member-filter}
 use Rattle.ac.proofs.Members.{map-members, members-map}
 use Rattle.ac.proofs.Listed.{selections-are}
 use Rattle.ac.proofs.Counts.{count-some, count-none}
-use Rattle.ac.proofs.Taken.{takenRows-atoms}
+use Rattle.ac.proofs.Taken.{valueAt-atoms}
+use Rattle.ac.proofs.Constants.{takenRows-atoms}
 use Rattle.ac.proofs.Replaced.{unbalanced-cases}
-use Rattle.ac.proofs.Sound.{sound-selection}
-use Rattle.ac.proofs.Complete.{valueAt-atoms, complete-selection}
-use Rattle.ac.proofs.Independent.{independent-selections}
+use Rattle.ac.proofs.Theorems.{sound, complete, independent}
 use Rattle.ac.proofs.Fages.{Agree, flattened, flatten-tree, unifies-alike, comes-alike, unifier-unifies, more-general, every-variable}
 
 -- the atoms of taken balanced rows are new variables
@@ -46,7 +45,7 @@ module _ (M : Mode) (lay : Layout) (s t : Term) (left : IsSide (flatten s)) (rig
   Admitted k = SelectionOf G k × (admissible M (lay .new) (flatten s) (flatten t) G k ≡ true)
 
   unifies : {k : Selection} → Admitted k → Unifies M (flatten s) (flatten t) (values k)
-  unifies {k} ok = sound-selection M (flatten s) (flatten t) left right G groups (lay .new) k (ok .0) (ok .1)
+  unifies {k} ok = sound M (lay .new) (flatten s) (flatten t) left right groups (ok .0) (ok .1)
 
   -- on the pair's variables the substitution is that of the values, and elsewhere it moves nothing
   its-values : {k : Selection} → Admitted k → Agree (variablesOf M s t) (flattened (substitution k)) (values k)
@@ -85,11 +84,11 @@ module _ (M : Mode) (lay : Layout) (s t : Term) (left : IsSide (flatten s)) (rig
 
   listed-admitted : {k : Selection} → List·Memᴰ k (listed M lay (flatten s) (flatten t) G) → Admitted k
   listed-admitted {k} m =
-      let both = filter-cases (admissible M (lay .new) (flatten s) (flatten t) G) (selections G) k m in
+      let both = filter-member (admissible M (lay .new) (flatten s) (flatten t) G) (selections G) m in
       (selections-are G .0 (both .0), both .1)
 
   admitted-listed : {k : Selection} → Admitted k → List·Memᴰ k (listed M lay (flatten s) (flatten t) G)
-  admitted-listed {k} ok = filter-member (admissible M (lay .new) (flatten s) (flatten t) G) (selections G) k (selections-are G .1 (ok .0)) (ok .1)
+  admitted-listed {k} ok = member-filter (admissible M (lay .new) (flatten s) (flatten t) G) (selections-are G .1 (ok .0)) (ok .1)
 
   correct : {k : Selection} → Admitted k → ACUnifier M s t (substitution k)
   correct {k} ok =
@@ -99,14 +98,13 @@ module _ (M : Mode) (lay : Layout) (s t : Term) (left : IsSide (flatten s)) (rig
   minimal : {k l : Selection} → Admitted k → Admitted l
       → MoreGeneral (anyVariable M (lay .new)) (variablesOf M s t) (substitution k) (substitution l) → k ≡ l
   minimal {k} {l} ok ok′ more =
-      independent-selections M (lay .new) (flatten s) (flatten t) left right above groups k l (ok .0) (ok′ .0)
-      (comes-alike M (lay .new) (flatten s) (flatten t) (λ x m. refl) (its-values ok′) (general ok (substitution l) .0 more)) (ok .1) (ok′ .1)
+      independent M (lay .new) (flatten s) (flatten t) above groups (ok .0) (ok′ .0) (ok .1) (ok′ .1)
+      (comes-alike M (lay .new) (flatten s) (flatten t) (λ x m. refl) (its-values ok′) (general ok (substitution l) .0 more))
 
-  complete : (ρ : Substitution) → ACUnifier M s t ρ
+  covered : (ρ : Substitution) → ACUnifier M s t ρ
       → (k : Selection) × Admitted k × MoreGeneral (anyVariable M (lay .new)) (variablesOf M s t) (substitution k) ρ
-  complete ρ unifier =
-      let found =
-      complete-selection M (lay .new) (flatten s) (flatten t) left right above groups (flattened ρ) (unifier-unifies M s t ρ .0 unifier) in
+  covered ρ unifier =
+      let found = complete M (lay .new) (flatten s) (flatten t) left right above groups (unifier-unifies M s t ρ .0 unifier) in
       (found .0, (found .1, found .2), general (found .1, found .2) ρ .1 (found .3))
 
   -- The substitutions of the listed selections are a complete set of minimal unifiers of the two terms.
@@ -118,7 +116,7 @@ module _ (M : Mode) (lay : Layout) (s t : Term) (left : IsSide (flatten s)) (rig
         correctness = λ σ m. let k = of-selection m in subst (ACUnifier M s t) (sym (k .2)) (correct (listed-admitted (k .1)));
         completeness =
             λ ρ unifier.
-            let found = complete ρ unifier in
+            let found = covered ρ unifier in
             (substitution (found .0), members-map substitution (admitted-listed (found .1)), found .2);
         minimality =
             λ σ σ′ m m′ more.

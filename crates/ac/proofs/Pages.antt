@@ -15,8 +15,8 @@ use Rattle.ac.specs.Lists.{keep, filter, Ascending, next}
 use Rattle.ac.specs.Keys.{Begin, start, after, remaining}
 use Rattle.ac.specs.Pages.{page, more, Asked, no-more, one-more, together, WholeList, LeastFrom, NoneFrom, boundOf}
 use Rattle.ac.proofs.Order.{ascending-unique}
-use Rattle.ac.proofs.Places.{filter-cases, filter-member}
-use Rattle.ac.proofs.Members.{filter-all, member-splits, ascending-filter}
+use Rattle.ac.proofs.Search.{filter-member, member-filter, filter-ascending}
+use Rattle.ac.proofs.Members.{filter-all, member-splits}
 
 -- a number that is below another is not above it
 one-way : (a b : ℕ) → a < b → b < a → ⊥
@@ -26,15 +26,15 @@ module _ {keys : List ℕ} where
   -- what remains after the beginning are the keys from its bound on
   pub remaining-members : (begin : Begin) {key : ℕ} → List·Memᴰ key (remaining begin keys) → List·Memᴰ key keys × (boundOf begin ≤ key)
   remaining-members start m = (m, omega arith)
-  remaining-members (after k) {key} m = let t = filter-cases (ltb k) keys key m in (t .0, omega (arith, ltb-true k key (t .1)))
+  remaining-members (after k) {key} m = let t = filter-member (ltb k) keys m in (t .0, omega (arith, ltb-true k key (t .1)))
 
   pub members-remaining : (begin : Begin) {key : ℕ} → List·Memᴰ key keys → boundOf begin ≤ key → List·Memᴰ key (remaining begin keys)
   members-remaining start m h = m
-  members-remaining (after k) {key} m h = filter-member (ltb k) keys key m (lt-ltb k key (omega arith))
+  members-remaining (after k) {key} m h = member-filter (ltb k) m (lt-ltb k key (omega arith))
 
   pub remaining-ascending : (begin : Begin) → Ascending _<_ keys → Ascending _<_ (remaining begin keys)
   remaining-ascending start ascending = ascending
-  remaining-ascending (after k) ascending = ascending-filter (ltb k) ascending
+  remaining-ascending (after k) ascending = filter-ascending (ltb k) ascending
 
 -- a number is above another exactly if their difference is above 0
 above-difference : (a b : ℕ) → ltb a b ≡ ltb 0 (b - a)

@@ -1,26 +1,24 @@
--- Places in lists: what stands where, which members pass a test, and the place of a variable among the variables.
+-- Places in lists: what stands where, and the place of a variable among the variables.
 use Prim.Native.Nat.{ℕ, zero, suc, _+_, _≤_, _<_}
-use mathlib.Core.Path.{_≡_, refl, sym, ap, _∙_, subst}
-use mathlib.Core.Bool.{Bool, true, false}
+use mathlib.Core.Path.{_≡_, refl, sym, ap, _∙_}
 use mathlib.Core.List.{List, [], _∷_, map, List·Memᴰ, List·Memᴰ·head, List·Memᴰ·tail}
-use mathlib.Core.Logic.{_⊎_, inl, inr, ⊎-elim}
+use mathlib.Core.Logic.{⊎-elim}
 use native.Mathlib.Nat.{eq-or-lt-of-le}
 use native.Mathlib.Omega.{arith}
 use lib.ListN.{length, getD}
-use lib.Dec.{eqb}
 use native.Mathlib.Decide.{ℕ-discrete}
 use borrow.Author.Tests.{eq-eqb, ne-eqb}
-use Rattle.ac.specs.Lists.{from, keep, filter, Ascending, none, next}
+use Rattle.ac.specs.Lists.{from, Ascending, none, next}
 use Rattle.ac.specs.Selection.{placeOf}
 
 -- what stands at a place of a list is a member of it
 pub getD-member {ℓ} : {A : Type ℓ} (xs : List A) (i : ℕ) (d : A) → i < length xs → List·Memᴰ (getD xs i d) xs
-getD-member [] i d h = absurd (let z : ⊥ = omega arith in z)
+getD-member [] i d h = absurd (omega arith)
 getD-member (x ∷ xs) zero d h = List·Memᴰ·head refl
 getD-member (x ∷ xs) (suc i) d h = List·Memᴰ·tail (getD-member xs i d (omega arith))
 
 pub getD-map {ℓ κ} : {A : Type ℓ} {B : Type κ} (f : A → B) (xs : List A) (i : ℕ) (d : A) (e : B) → i < length xs → getD (map f xs) i e ≡ f (getD xs i d)
-getD-map f [] i d e h = absurd (let z : ⊥ = omega arith in z)
+getD-map f [] i d e h = absurd (omega arith)
 getD-map f (x ∷ xs) zero d e h = refl
 getD-map f (x ∷ xs) (suc i) d e h = getD-map f xs i d e (omega arith)
 
@@ -30,43 +28,14 @@ from-bounds k (suc n) a (List·Memᴰ·head e) = omega arith
 from-bounds k (suc n) a (List·Memᴰ·tail m) = omega (arith, from-bounds (suc k) n a m)
 
 pub from-member : (k n : ℕ) (a : ℕ) → k ≤ a → a < k + n → List·Memᴰ a (from k n)
-from-member k zero a low high = absurd (let z : ⊥ = omega arith in z)
+from-member k zero a low high = absurd (omega arith)
 from-member k (suc n) a low high =
     ⊎-elim (λ (e : k ≡ a). List·Memᴰ·head (sym e)) (λ (l : k < a). List·Memᴰ·tail (from-member (suc k) n a l (omega arith))) (eq-or-lt-of-le low)
 
--- a member of a list with or without x in front is x, or a member of that list
-pub keep-cases {ℓ} : {A : Type ℓ} {a : A} (b : Bool) (x : A) (rest : List A) → List·Memᴰ a (keep b x rest) → ((b ≡ true) × (a ≡ x)) ⊎ List·Memᴰ a rest
-keep-cases true x rest (List·Memᴰ·head e) = inl (refl, e)
-keep-cases true x rest (List·Memᴰ·tail m) = inr m
-keep-cases false x rest m = inr m
-
-pub keep-rest {ℓ} : {A : Type ℓ} {a : A} (b : Bool) (x : A) (rest : List A) → List·Memᴰ a rest → List·Memᴰ a (keep b x rest)
-keep-rest true x rest m = List·Memᴰ·tail m
-keep-rest false x rest m = m
-
-module _ {ℓ} {A : Type ℓ} (passes : A → Bool) where
-  -- the members of a filtered list are the members that pass
-  pub filter-cases : (xs : List A) (a : A) → List·Memᴰ a (filter passes xs) → List·Memᴰ a xs × (passes a ≡ true)
-  filter-cases (x ∷ xs) a m =
-      ⊎-elim
-      (λ (h : (passes x ≡ true) × (a ≡ x)). (List·Memᴰ·head (h .1), rw (h .1) (h .0)))
-      (λ (n : List·Memᴰ a (filter passes xs)). (List·Memᴰ·tail (filter-cases xs a n .0), filter-cases xs a n .1))
-      (keep-cases (passes x) x (filter passes xs) m)
-
-  pub filter-member : (xs : List A) (a : A) → List·Memᴰ a xs → passes a ≡ true → List·Memᴰ a (filter passes xs)
-  filter-member (x ∷ xs) a (List·Memᴰ·head e) p =
-      let q : passes x ≡ true = rw (← e) p in
-      rw q (List·Memᴰ·head e)
-  filter-member (x ∷ xs) a (List·Memᴰ·tail m) p = keep-rest (passes x) x (filter passes xs) (filter-member xs a m p)
-
--- the numbers that pass stand in ascending order
-pub filter-from-ascending : (passes : ℕ → Bool) (k n : ℕ) → Ascending _<_ (filter passes (from k n))
-filter-from-ascending passes k zero = none
-filter-from-ascending passes k (suc n) = keep-ascending (passes k) (filter-from-ascending passes (suc k) n)
-  where
-    keep-ascending : (b : Bool) → Ascending _<_ (filter passes (from (suc k) n)) → Ascending _<_ (keep b k (filter passes (from (suc k) n)))
-    keep-ascending true rest = next (λ a m. from-bounds (suc k) n a (filter-cases passes (from (suc k) n) a m .0) .0) rest
-    keep-ascending false rest = rest
+-- they stand in ascending order
+pub from-ascending : (k n : ℕ) → Ascending _<_ (from k n)
+from-ascending k zero = none
+from-ascending k (suc n) = next (λ a m. from-bounds (suc k) n a m .0) (from-ascending (suc k) n)
 
 -- where a variable stands first
 pub placeOf-here : (x y : ℕ) (ys : List ℕ) → x ≡ y → placeOf x (y ∷ ys) ≡ 0
@@ -95,7 +64,7 @@ getD-placeOf f (y ∷ ys) x (List·Memᴰ·tail m) = go (ℕ-discrete x y) (getD
 
 -- in an ascending list each member stands at one place only
 pub placeOf-getD : {xs : List ℕ} → Ascending _<_ xs → (i : ℕ) → i < length xs → placeOf (getD xs i 0) xs ≡ i
-placeOf-getD none i h = absurd (let z : ⊥ = omega arith in z)
+placeOf-getD none i h = absurd (omega arith)
 placeOf-getD (next {a} {rest} before ascending) zero h = placeOf-here a a rest refl
 placeOf-getD (next {a} {rest} before ascending) (suc i) h =
     let l : i < length rest = omega arith in

@@ -12,10 +12,11 @@ use borrow.Author.Tests.{leb-true, leb-false, le-leb, ltb-true, ltb-false, not-f
 use Rattle.ac.specs.Lists.{from, below, keep, filter, flatMap, sum, Ascending, Ascending.none, Ascending.next}
 use Rattle.ac.specs.Rows.{Least, Exactly, _≼_, _≼_.place, _≺_, _≺_.here, _≺_.later}
 use Rattle.ac.specs.Equation.{dot, Equation, Solves, Minimal}
-use Rattle.ac.specs.Search.{kept, placed, box, solves, search, Enough, Carried, most, after, rests, start, solutions, largest, budgetUp, budgetDown, minimalSolutions}
+use Rattle.ac.specs.Search.{kept, placed, box, solves, search, Enough, Carried, most, after, rests, start, solutions, beyond, largest, budgetUp, budgetDown, minimalSolutions}
 use Rattle.ac.proofs.Vectors.{same-length, weighted, at, dot-weighted, Rest, rest-of}
 use Rattle.ac.proofs.Walk.{up, down}
 use Rattle.ac.proofs.Search.{both-true, Region, kept-exact, search-exact}
+use Rattle.ac.proofs.Nets.{beyond-entry}
 use Rattle.ac.proofs.Bound.{lambert-bound, huet-bound}
 
 -- Ascending lists put together.
@@ -288,12 +289,13 @@ module _ (E : Equation) (same : length (E .left) ≡ length (E .right)) (up′ d
 
 -- The least budgets are enough.
 
-largest-beyond : (ns ms : List ℕ) (i : ℕ) → getD ns i 0 ≤ getD ms i 0 + largest ns ms
-largest-beyond [] ms i = omega arith
-largest-beyond (n ∷ ns) [] zero = omega arith
-largest-beyond (n ∷ ns) [] (suc i) = omega (arith, largest-beyond ns [] i)
-largest-beyond (n ∷ ns) (m ∷ ms) zero = omega arith
-largest-beyond (n ∷ ns) (m ∷ ms) (suc i) = omega (arith, largest-beyond ns ms i)
+within-largest : (ns : List ℕ) (i : ℕ) → getD ns i 0 ≤ largest ns
+within-largest [] i = omega arith
+within-largest (n ∷ ns) zero = omega arith
+within-largest (n ∷ ns) (suc i) = omega (arith, within-largest ns i)
+
+largest-beyond : (ns ms : List ℕ) (i : ℕ) → getD ns i 0 ≤ getD ms i 0 + largest (beyond ns ms)
+largest-beyond ns ms i = omega (arith, within-largest (beyond ns ms) i, beyond-entry ns ms i)
 
 pub budgets-enough : (E : Equation) → Enough E (budgetUp E) (budgetDown E)
 budgets-enough E =

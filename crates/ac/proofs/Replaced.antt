@@ -1,18 +1,18 @@
 -- A replacement makes the sides equal exactly when each atom's occurrences in the values solve that atom's equation.
-use Prim.Native.Nat.{ℕ, _+_, _<_, _≤_}
+use Prim.Native.Nat.{ℕ, _+_, _<_}
 use mathlib.Core.Path.{_≡_, refl, sym, ap, _∙_}
 use mathlib.Core.Bool.{Bool, true, false, not, cond, _&&_, true≢false, and-eq-true-iff}
-use mathlib.Core.List.{List, [], _∷_, map, List·Memᴰ}
-use mathlib.Core.Logic.{_⊎_, inl, inr, _↔_}
+use mathlib.Core.List.{List, map, List·Memᴰ}
 use native.Mathlib.Omega.{arith}
 use native.Mathlib.Decide.{ℕ-discrete, decLt}
-use lib.Dec.{eqb, ltb}
-use borrow.Author.Tests.{eqb-false, not-true, eq-eqb, ne-eqb, lt-ltb}
+use lib.Dec.{eqb}
+use borrow.Author.Tests.{eqb-false, not-true, ne-eqb, lt-ltb}
 use Rattle.ac.specs.Lists.{Ascending}
 use Rattle.ac.specs.Pair.{Mode, IsSide, count, occurs, atoms, variables, unbalanced}
 use Rattle.ac.specs.Equation.{dot}
 use Rattle.ac.specs.Replacement.{Replacement, put, occurrences}
-use Rattle.ac.proofs.Places.{from-bounds, from-member, filter-cases, filter-member, filter-from-ascending}
+use Rattle.ac.proofs.Search.{filter-member, member-filter, filter-ascending}
+use Rattle.ac.proofs.Places.{from-bounds, from-member, from-ascending}
 use Rattle.ac.proofs.Counts.{count-some, count-member, staying, count-put}
 
 -- Each atom is an unbalanced constant, all of which stay, or as many of it stay on the left as on the right.
@@ -28,38 +28,37 @@ module _ (M : Mode) (L R : List ℕ) where
   abbrev pub onRight : List ℕ
   onRight = map (λ x. count x R) (variables M L R)
 
+  -- what makes an atom a variable, and what an unbalanced constant
+  abbrev isVariable : ℕ → Bool
+  isVariable a = M .moves a && occurs L R a
+
+  abbrev isUnbalanced : ℕ → Bool
+  isUnbalanced a = not (M .moves a) && not (eqb (count a L) (count a R))
+
   pub variables-ascending : Ascending _<_ (variables M L R)
-  variables-ascending = filter-from-ascending (λ a. M .moves a && occurs L R a) 0 128
+  variables-ascending = filter-ascending isVariable (from-ascending 0 128)
 
   pub unbalanced-ascending : Ascending _<_ (unbalanced M L R)
-  unbalanced-ascending = filter-from-ascending (λ a. not (M .moves a) && not (eqb (count a L) (count a R))) 0 128
+  unbalanced-ascending = filter-ascending isUnbalanced (from-ascending 0 128)
 
   pub variables-move : (x : ℕ) → List·Memᴰ x (variables M L R) → M .moves x ≡ true
-  variables-move x m = and-eq-true-iff (M .moves x) (occurs L R x) .0 (filter-cases (λ a. M .moves a && occurs L R a) atoms x m .1) .0
+  variables-move x m = and-eq-true-iff (M .moves x) (occurs L R x) .0 (filter-member isVariable atoms m .1) .0
 
   -- an atom of a side that moves is a variable
   pub moving-variable : (a : ℕ) → a < 128 → 0 < count a L + count a R → M .moves a ≡ true → List·Memᴰ a (variables M L R)
   moving-variable a small stands moves =
-      filter-member
-      (λ c. M .moves c && occurs L R c)
-      atoms
-      a
-      (from-member 0 128 a (omega arith) (omega arith))
+      member-filter isVariable (from-member 0 128 a (omega arith) (omega arith))
       (and-eq-true-iff (M .moves a) (occurs L R a) .1 (moves, lt-ltb 0 (count a L + count a R) stands))
 
-  -- a constant of the atoms whose counts differ is unbalanced, and such are all unbalanced ones
+  -- an atom that does not move and whose counts differ is an unbalanced constant, and all of these are such
   pub unbalanced-member : (c : ℕ) → c < 128 → M .moves c ≡ false → (count c L ≡ count c R → ⊥) → List·Memᴰ c (unbalanced M L R)
   unbalanced-member c small moves differ =
-      filter-member
-      (λ a. not (M .moves a) && not (eqb (count a L) (count a R)))
-      atoms
-      c
-      (from-member 0 128 c (omega arith) (omega arith))
+      member-filter isUnbalanced (from-member 0 128 c (omega arith) (omega arith))
       (and-eq-true-iff (not (M .moves c)) (not (eqb (count c L) (count c R))) .1 (ap not moves, ap not (ne-eqb (count c L) (count c R) differ)))
 
   pub unbalanced-cases : (c : ℕ) → List·Memᴰ c (unbalanced M L R) → (c < 128) × (M .moves c ≡ false) × (count c L ≡ count c R → ⊥)
   unbalanced-cases c m =
-      let both = filter-cases (λ a. not (M .moves a) && not (eqb (count a L) (count a R))) atoms c m in
+      let both = filter-member isUnbalanced atoms m in
       let tests = and-eq-true-iff (not (M .moves c)) (not (eqb (count c L) (count c R))) .0 (both .1) in
       (from-bounds 0 128 c (both .0) .1, not-true (M .moves c) (tests .0), eqb-false (count c L) (count c R) (not-true (eqb (count c L) (count c R)) (tests .1)))
 

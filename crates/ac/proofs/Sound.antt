@@ -1,9 +1,9 @@
 -- Sound: the values of an admissible selection unify.
-use Prim.Native.Nat.{ℕ, zero, suc, _+_, _*_, _<_, _≤_}
+use Prim.Native.Nat.{ℕ, suc, _+_, _*_, _<_}
 use mathlib.Core.Path.{_≡_, refl, sym, ap, ap₂, _∙_, fun-ext, subst}
 use mathlib.Core.Bool.{Bool, true, false}
 use mathlib.Core.List.{List, [], _∷_, _++_, map, List·Memᴰ, List·Memᴰ·head, List·Memᴰ·tail, List·Memᴰ·append-cases}
-use mathlib.Core.Logic.{_⊎_, inl, inr, ⊎-elim}
+use mathlib.Core.Logic.{⊎-elim}
 use native.Mathlib.Omega.{arith}
 use native.Mathlib.Decide.{ℕ-discrete}
 use native.Mathlib.Nat.{mul-left-comm}
@@ -13,12 +13,12 @@ use Rattle.ac.specs.Lists.{Ascending}
 use Rattle.ac.specs.Pair.{Mode, IsSide, same, count, variables, unbalanced}
 use Rattle.ac.specs.Rows.{Group, Groups, GroupsOf}
 use Rattle.ac.specs.Equation.{dot}
-use Rattle.ac.specs.Selection.{Selection, SelectionOf, Within, none, index, Taken, takenRows, takenBalanced, taken, valueAt, placeOf, admissible, value}
+use Rattle.ac.specs.Selection.{Selection, SelectionOf, Within, none, index, Taken, takenRows, takenBalanced, taken, placeOf, admissible, value}
 use Rattle.ac.specs.Replacement.{put, occurrences, Unifies}
 use Rattle.ac.proofs.Places.{getD-map, getD-member, placeOf-getD, placeOf-lt}
 use Rattle.ac.proofs.Counts.{same-self, same-other, count-none, count-once, staying}
 use Rattle.ac.proofs.Taken.{total, count-valueAt, reached-value, allReached-reached, admissible-reaches}
-use Rattle.ac.proofs.Replaced.{onLeft, onRight, variables-ascending, unbalanced-ascending, unbalanced-cases, Kind, constant, other, kind-of, count-left, count-right}
+use Rattle.ac.proofs.Replaced.{onLeft, onRight, variables-ascending, unbalanced-ascending, Kind, constant, other, kind-of, count-left, count-right}
 use Rattle.ac.proofs.Bridge.{weight-zero, weight-of-constant}
 
 -- a vector, read at the variables' places, is itself

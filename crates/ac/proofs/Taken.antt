@@ -1,19 +1,19 @@
 -- Taken rows and the values that they give, as sums of numbers: `total i weigh ts` adds up, over the taken rows, a weight of the atom times the entry at i.
 use Prim.Native.Nat.{ℕ, zero, suc, _+_, _*_, _≤_, _<_}
-use mathlib.Core.Path.{_≡_, refl, sym, ap, ap₂, _∙_, subst}
-use mathlib.Core.Bool.{Bool, true, false, cond, _&&_, _||_, false≢true, and-eq-true-iff}
-use mathlib.Core.List.{List, [], _∷_, _++_, map, List·Memᴰ, List·Memᴰ·head, List·Memᴰ·tail}
+use mathlib.Core.Path.{_≡_, refl, ap, ap₂, _∙_}
+use mathlib.Core.Bool.{Bool, true, false, cond, _||_, false≢true, and-eq-true-iff}
+use mathlib.Core.List.{List, [], _∷_, _++_, List·Memᴰ, List·Memᴰ·head, List·Memᴰ·tail, List·Memᴰ·append-cases}
 use native.Mathlib.Omega.{arith}
 use mathlib.Core.Logic.{⊎-elim}
-use native.Mathlib.Nat.{mul-le-mul-right, eq-or-lt-of-le, le-of-suc-le-suc}
+use native.Mathlib.Nat.{eq-or-lt-of-le, le-of-suc-le-suc}
 use lib.ListN.{length, getD, replicate, length-append, length-replicate}
-use lib.Dec.{leb, ltb}
+use lib.Dec.{ltb}
 use borrow.Author.Tests.{ltb-true, ltb-false, le-leb, lt-leb}
 use Rattle.ac.specs.Pair.{Mode, same, count, variables}
-use Rattle.ac.specs.Rows.{Group, Groups}
-use Rattle.ac.specs.Selection.{Selection, Taken, Within, none, index, takenRows, takenBalanced, taken, valueAt, reached, allReached, allTaken, admissible}
+use Rattle.ac.specs.Rows.{Groups}
+use Rattle.ac.specs.Selection.{Selection, Taken, taken, valueAt, reached, allReached, allTaken, admissible}
 use Rattle.ac.specs.Replacement.{Replacement, put, isNew}
-use Rattle.ac.proofs.Counts.{same-self, same-other, count-append, count-replicate, put-append}
+use Rattle.ac.proofs.Counts.{count-append, count-replicate, put-append}
 
 -- the sum over the taken rows of a weight of the atom times the entry at place i
 abbrev pub total : ℕ → (ℕ → ℕ) → List Taken → ℕ
@@ -69,7 +69,7 @@ module _ (new : ℕ) (fill : Replacement) (b : ℕ) where
 
 -- A place is reached where its value has an atom: whatever the atoms weigh, a sum above 0 reaches.
 pub total-reached : (i : ℕ) (weigh : ℕ → ℕ) (ts : List Taken) → 0 < total i weigh ts → reached ts i ≡ true
-total-reached i weigh [] h = absurd (let z : ⊥ = omega arith in z)
+total-reached i weigh [] h = absurd (omega arith)
 total-reached i weigh (t ∷ ts) h = go (ltb 0 (getD (t .row) i 0)) refl (total-reached i weigh ts)
   where
     go : (b : Bool) → ltb 0 (getD (t .row) i 0) ≡ b → (0 < total i weigh ts → reached ts i ≡ true) → reached (t ∷ ts) i ≡ true
@@ -94,7 +94,7 @@ reached-value i (t ∷ ts) h = go (ltb 0 (getD (t .row) i 0)) refl (reached-valu
 
 -- all places are reached: each place is
 pub allReached-reached : (ts : List Taken) (k : ℕ) → allReached ts k ≡ true → (i : ℕ) → i < k → reached ts i ≡ true
-allReached-reached ts zero all i h = absurd (let z : ⊥ = omega arith in z)
+allReached-reached ts zero all i h = absurd (omega arith)
 allReached-reached ts (suc k) all i h =
     let both = and-eq-true-iff (allReached ts k) (reached ts k) .0 all in
     ⊎-elim (λ (e : i ≡ k). rw e (both .1)) (λ (l : i < k). allReached-reached ts k (both .0) i l) (eq-or-lt-of-le (le-of-suc-le-suc h))
@@ -111,31 +111,16 @@ module _ (M : Mode) (new : ℕ) (L R : List ℕ) (G : Groups) (s : Selection) wh
   pub admissible-takes : M .empties ≡ true → admissible M new L R G s ≡ allTaken (s .takes)
   admissible-takes e = ap (λ (b : Bool). elim b [ true ↦ allTaken (s .takes) | false ↦ allReached (taken new G s) (length (variables M L R)) ]) e
 
--- the constants of the groups
-abbrev pub constantsOf : List Group → List ℕ
-constantsOf gs = map (λ (g : Group). g .constant) gs
-
--- the atoms of the constants' taken rows are the constants
-pub takenRows-atoms : {gs : List Group} {is : List ℕ} → Within gs is → (t : Taken) → List·Memᴰ t (takenRows gs is)
-    → List·Memᴰ (t .atom) (constantsOf gs)
-takenRows-atoms (index h within) t (List·Memᴰ·head e) = List·Memᴰ·head (ap (λ (u : Taken). u .atom) e)
-takenRows-atoms (index h within) t (List·Memᴰ·tail m) = List·Memᴰ·tail (takenRows-atoms within t m)
-
--- an atom that is none of the constants has nothing from their rows
-pub takenRows-none : {gs : List Group} {is : List ℕ} → Within gs is → (b i : ℕ) → (List·Memᴰ b (constantsOf gs) → ⊥)
-    → total i (same b) (takenRows gs is) ≡ 0
-takenRows-none {gs} {is} within b i absent =
-    total-zero i (same b) (takenRows gs is)
-    (λ t m. same-other b (t .atom)
-    (λ (e : b ≡ t .atom). absent (subst (λ (a : ℕ). List·Memᴰ a (constantsOf gs)) (sym e) (takenRows-atoms within t m))))
-
--- a constant has its own row, and nothing from the others
-pub takenRows-first : (g : Group) {gs : List Group} {is : List ℕ} → Within gs is → (List·Memᴰ (g .constant) (constantsOf gs) → ⊥) → (k c : ℕ)
-    → c ≡ g .constant → (i : ℕ) → total i (same c) (takenRows (g ∷ gs) (k ∷ is)) ≡ getD (getD (g .rows) k []) i 0
-takenRows-first g {gs} within absent k c e i =
-    rw (same-self c (g .constant) e)
-    (omega (arith, takenRows-none within c i (λ (m : List·Memᴰ c (constantsOf gs)). absent (subst (λ (a : ℕ). List·Memᴰ a (constantsOf gs)) e m))))
-
-pub takenRows-later : (g : Group) (gs : List Group) (is : List ℕ) (k c : ℕ) → (c ≡ g .constant → ⊥)
-    → (i : ℕ) → total i (same c) (takenRows (g ∷ gs) (k ∷ is)) ≡ total i (same c) (takenRows gs is)
-takenRows-later g gs is k c differs i = rw (same-other c (g .constant) differs) (omega arith)
+-- the atoms of a value belong to taken rows
+pub valueAt-atoms : (ts : List Taken) (i n : ℕ) → List·Memᴰ n (valueAt ts i) → (t : Taken) × List·Memᴰ t ts × (n ≡ t .atom)
+valueAt-atoms [] i n m = elim m [ ]
+valueAt-atoms (t ∷ ts) i n m =
+    ⊎-elim
+    (λ (h : List·Memᴰ n (replicate (getD (t .row) i 0) (t .atom))). (t, List·Memᴰ·head refl, repeated (getD (t .row) i 0) h))
+    (λ (h : List·Memᴰ n (valueAt ts i)). let u = valueAt-atoms ts i n h in (u .0, List·Memᴰ·tail (u .1), u .2))
+    (List·Memᴰ·append-cases (replicate (getD (t .row) i 0) (t .atom)) m)
+  where
+    repeated : (k : ℕ) → List·Memᴰ n (replicate k (t .atom)) → n ≡ t .atom
+    repeated zero h = elim h [ ]
+    repeated (suc k) (List·Memᴰ·head e) = e
+    repeated (suc k) (List·Memᴰ·tail h) = repeated k h

@@ -96,20 +96,35 @@ solutions E up down = rests (E .left) (E .right) (start E up down)
 
 -- The least budgets that are enough.
 
--- the largest of what the first numbers are beyond the second
-abbrev pub largest : List ℕ → List ℕ → ℕ
-largest [] ms = 0
-largest (n ∷ ns) [] = max n (largest ns [])
-largest (n ∷ ns) (m ∷ ms) = max (n - m) (largest ns ms)
+-- what the first numbers are beyond the second, place by place
+abbrev pub beyond : List ℕ → List ℕ → List ℕ
+beyond [] ms = []
+beyond (n ∷ ns) [] = n ∷ beyond ns []
+beyond (n ∷ ns) (m ∷ ms) = (n - m) ∷ beyond ns ms
+
+abbrev pub largest : List ℕ → ℕ
+largest [] = 0
+largest (n ∷ ns) = max n (largest ns)
 
 abbrev pub budgetUp : Equation → ℕ
-budgetUp E = max 1 (largest (E .right-offset ∷ E .right) (E .left-offset ∷ E .left))
+budgetUp E = max 1 (largest (beyond (E .right-offset ∷ E .right) (E .left-offset ∷ E .left)))
 
 abbrev pub budgetDown : Equation → ℕ
-budgetDown E = largest (E .left-offset ∷ E .left) (E .right-offset ∷ E .right)
+budgetDown E = largest (beyond (E .left-offset ∷ E .left) (E .right-offset ∷ E .right))
 
 abbrev pub minimalSolutions : Equation → List (List ℕ)
 minimalSolutions E = kept (solutions E (budgetUp E) (budgetDown E))
+
+-- The equation of net parts: left is what left is beyond right, and right what right is beyond left.
+abbrev pub netted : Equation → Equation
+netted E =
+    record {
+      left = beyond (E .left) (E .right);
+      right = beyond (E .right) (E .left);
+      left-offset = E .left-offset - E .right-offset;
+      right-offset = E .right-offset - E .left-offset;
+      homogeneous = E .homogeneous;
+    }
 
 -- The groups of a pair.
 

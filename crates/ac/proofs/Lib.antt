@@ -9,3 +9,5 @@ pub mod Bound
 pub mod Search
 pub mod Regions
 pub mod Groups
+pub mod WorkedRows
+pub mod WrongRows

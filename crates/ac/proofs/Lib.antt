@@ -11,3 +11,4 @@ pub mod Regions
 pub mod Groups
 pub mod WorkedRows
 pub mod WrongRows
+pub mod Keeping

@@ -1,16 +1,13 @@
 -- Laws of the search for programs that take it step by step: one row compared at a time, one candidate at a time, one number at a place at a time.
-use Prim.Native.Nat.{ℕ, zero, suc, _+_, _*_, _≤_, _<_}
+use Prim.Native.Nat.{ℕ, zero, suc, _≤_, _<_}
 use native.Mathlib.Omega.{arith}
-use native.Mathlib.Nat.{mul-le-mul-right}
 use mathlib.Core.Path.{_≡_, refl, sym, ap, ap₂, _∙_}
 use mathlib.Core.Bool.{Bool, true, false, cond, _&&_, _||_}
-use mathlib.Core.List.{List, [], _∷_, _++_, map, append-assoc, append-nil, List·Memᴰ, List·Memᴰ·head, List·Memᴰ·tail, List·Memᴰ·not-nil}
+use mathlib.Core.List.{List, [], _∷_, _++_, map, append-assoc, append-nil}
 use lib.ListN.{length, getD, length-append}
-use lib.Dec.{leb, ltb, eqb}
-use borrow.Author.Tests.{leb-true, leb-false, le-leb, lt-leb}
-use Rattle.ac.specs.Lists.{from, flatMap, Ascending, Ascending.none, Ascending.next}
-use Rattle.ac.specs.Rows.{_≺_}
-use Rattle.ac.specs.Search.{lower, someLower, keepOne, keepAll, kept, Carried, rests}
+use lib.Dec.{leb}
+use borrow.Author.Tests.{le-leb, lt-leb}
+use Rattle.ac.specs.Search.{lower, someLower, keepOne, keepAll, numbersFrom}
 
 -- One row compared with a vector, place by place.
 
@@ -71,9 +68,10 @@ keepAll-extends found (v ∷ vs) = joined (keepOne-extends found v) (keepAll-ext
   where
     joined : Extends found (keepOne found v) → Extends (keepOne found v) (keepAll (keepOne found v) vs) → Extends found (keepAll (keepOne found v) vs)
     joined a b =
-        record
-        { more = a .more ++ b .more
-        ; whole = b .whole ∙ ap (λ (rows : List (List ℕ)). rows ++ b .more) (a .whole) ∙ append-assoc found (a .more) (b .more) }
+        record {
+          more = a .more ++ b .more;
+          whole = b .whole ∙ ap (λ (rows : List (List ℕ)). rows ++ b .more) (a .whole) ∙ append-assoc found (a .more) (b .more);
+        }
 
 -- so the search may stop once too many are found
 pub keepAll-longer : (found vs : List (List ℕ)) → length found ≤ length (keepAll found vs)
@@ -94,10 +92,6 @@ behind-append chosen (v ∷ vs) ws = ap (λ (rows : List (List ℕ)). (chosen ++
 behind-number : (chosen : List ℕ) (x : ℕ) (vs : List (List ℕ)) → behind chosen (map (λ v. x ∷ v) vs) ≡ behind (chosen ++ (x ∷ [])) vs
 behind-number chosen x [] = refl
 behind-number chosen x (v ∷ vs) = ap₂ {C = List (List ℕ)} (λ w ws. w ∷ ws) (sym (append-assoc chosen (x ∷ []) v)) (behind-number chosen x vs)
-
--- the vectors with a number from x on, n of them, at the next place
-abbrev pub numbersFrom : (ℕ → List (List ℕ)) → ℕ → ℕ → List (List ℕ)
-numbersFrom tails x n = flatMap (λ x. map (λ v. x ∷ v) (tails x)) (from x n)
 
 pub one-number : (tails : ℕ → List (List ℕ)) (found : List (List ℕ)) (chosen : List ℕ) (x n : ℕ)
     → keepAll found (behind chosen (numbersFrom tails x (suc n)))

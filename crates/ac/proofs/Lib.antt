@@ -14,3 +14,4 @@ pub mod Sums
 pub mod Groups
 pub mod WorkedRows
 pub mod WrongRows
+pub mod Pruning

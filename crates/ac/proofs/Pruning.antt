@@ -1,17 +1,16 @@
 -- Where the walk for solutions may end early: the two sums can no longer meet, or the last place leaves one number.
-use Prim.Native.Nat.{ℕ, zero, suc, _+_, _*_, _-_, _≤_, _<_}
+use Prim.Native.Nat.{ℕ, suc, _+_, _*_, _-_, _≤_, _<_}
 use native.Mathlib.Omega.{arith}
-use native.Mathlib.Nat.{mul-le-mul-left, mul-le-mul-right, eq-of-mul-eq-mul-right, mul-assoc, mul-add}
+use native.Mathlib.Nat.{mul-le-mul-left, mul-le-mul-right, eq-of-mul-eq-mul-right}
 use native.Mathlib.Decide.{decLt}
-use mathlib.Core.Path.{_≡_, refl, sym, ap, ap₂, _∙_}
-use mathlib.Core.Logic.{_↔_, _≢_}
+use mathlib.Core.Path.{_≡_, refl, ap}
+use mathlib.Core.Logic.{_≢_}
 use mathlib.Core.Bool.{Bool, true, false, cond}
 use mathlib.Core.List.{List, [], _∷_, List·Memᴰ, List·Memᴰ·head, List·Memᴰ·not-nil, List·Memᴰ·eq-of-singleton, Memᴰ·cast}
 use lib.ListN.{length, getD}
 use lib.Dec.{leb}
 use borrow.Author.Tests.{leb-true, leb-false}
-use Rattle.ac.specs.Lists.{Ascending, Ascending.none, Ascending.next}
-use Rattle.ac.specs.Rows.{_≺_}
+use Rattle.ac.specs.Lists.{Ascending.none, Ascending.next}
 use Rattle.ac.specs.Search.{Carried, rests}
 use Rattle.ac.proofs.Vectors.{weighted, at}
 use Rattle.ac.proofs.Order.{≺-asymmetric, ascending-unique}

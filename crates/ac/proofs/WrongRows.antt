@@ -8,7 +8,7 @@ use mathlib.Core.List.{List, [], _∷_, _++_, map}
 use lib.ListN.{length, getD, drop}
 use lib.Dec.{eqb}
 use Rattle.ac.specs.Lists.{filter, sum}
-use Rattle.ac.specs.Pair.{Mode, unifying, count, atoms, occurs, variables, unbalanced}
+use Rattle.ac.specs.Pair.{Mode, unifying, count, variables, unbalanced}
 use Rattle.ac.specs.Equation.{Equation, balancedEquation, equationOf}
 use Rattle.ac.specs.Search.{lower, kept, solutions, budgetUp, budgetDown, minimalSolutions, groups}
 

@@ -1,14 +1,14 @@
 -- Keys and the list (document 01, "From sides to equations").
 use Prim.Native.Nat.{ℕ, zero, suc, _+_, _*_, _/_, _%_, _^_, _<_, _≤_, _-_}
 use mathlib.Core.Path.{_≡_}
-use mathlib.Core.Bool.{Bool, true, false, cond}
-use mathlib.Core.List.{List, [], _∷_, _++_, map, List·Memᴰ}
-use lib.ListN.{length, take}
+use mathlib.Core.Bool.{Bool, true, cond}
+use mathlib.Core.List.{List, [], _∷_, map, List·Memᴰ}
+use lib.ListN.{length}
 use lib.Dec.{ltb, eqb}
 use Rattle.ac.specs.Lists.{filter, flatMap, below}
 use Rattle.ac.specs.Pair.{Mode}
 use Rattle.ac.specs.Rows.{Group, Groups}
-use Rattle.ac.specs.Selection.{Selection, admissible}
+use Rattle.ac.specs.Selection.{Selection, SelectionOf, Within, admissible}
 
 -- How a key is laid out, and which byte is the first new variable. `rows` is how many balanced rows the low part of a key holds.
 pub record Layout : Type 0 where
@@ -44,7 +44,7 @@ bit m i = eqb (m / 2 ^ i % 2) 1
 abbrev pub bits : ℕ → ℕ → List Bool
 bits n m = map (bit m) (below n)
 
--- the index in each of the fields of a number, that of the lowest constant first; used is how many constants there are
+-- the index in the field of each constant, that of the lowest constant first, in a number of k fields
 abbrev pub fieldsOf : Layout → ℕ → List Group → ℕ → List ℕ
 fieldsOf lay k [] m = []
 fieldsOf lay zero (g ∷ gs) m = []
@@ -54,6 +54,18 @@ fieldsOf lay (suc k) (g ∷ gs) m = m / 2 ^ (lay .index-bits * k) % 2 ^ (lay .in
 abbrev pub selectionAt : Layout → Groups → ℕ → Selection
 selectionAt lay G key =
     record { indexes = fieldsOf lay (lay .constants) (G .constants) (key / 2 ^ (lay .rows)); takes = bits (length (G .balanced)) key }
+
+-- the field of a key that belongs to the constant at a place; the first constant's is the highest
+abbrev pub fieldAt : Layout → ℕ → ℕ → ℕ
+fieldAt lay key place = key / 2 ^ (lay .rows + lay .index-bits * (lay .constants - suc place)) % 2 ^ (lay .index-bits)
+
+-- A candidate has row indexes within their groups and no bit beyond the balanced rows: each field below its group's size, the unused fields, which
+-- are the lowest, 0, and nothing above the fields.
+pub record Candidate (lay : Layout) (G : Groups) (key : ℕ) : Type 0 where
+  pub indexes-within : Within (G .constants) (selectionAt lay G key .indexes)
+  pub unused-zero : key / 2 ^ (lay .rows) % 2 ^ (lay .index-bits * (lay .constants - length (G .constants))) ≡ 0
+  pub no-bit-beyond : key % 2 ^ (lay .rows) < 2 ^ length (G .balanced)
+  pub no-bit-above : key < 2 ^ (lay .index-bits * lay .constants + lay .rows)
 
 -- every tuple of row indexes, ascending
 abbrev pub tuples : List Group → List (List ℕ)
@@ -71,6 +83,13 @@ listed M lay L R G = filter (admissible M (lay .new) L R G) (selections G)
 
 abbrev pub keys : Mode → Layout → List ℕ → List ℕ → Groups → List ℕ
 keys M lay L R G = map (keyOf lay) (listed M lay L R G)
+
+-- the key of an admissible selection of the groups; proofs/Listed.antt shows that those are the keys of the list
+pub record Listed (M : Mode) (lay : Layout) (L R : List ℕ) (G : Groups) (key : ℕ) : Type 0 where
+  pub selection : Selection
+  pub of-the-groups : SelectionOf G selection
+  pub is-admissible : admissible M (lay .new) L R G selection ≡ true
+  pub its-key : key ≡ keyOf lay selection
 
 -- where to begin: the start, or after a key
 pub data Begin : Type 0 where

@@ -19,6 +19,7 @@ pub mod Sound
 pub mod Balances
 pub mod Fill
 pub mod Complete
+pub mod Entries
 pub mod Independent
 pub mod Theorems
 pub mod WrongSelections

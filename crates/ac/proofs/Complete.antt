@@ -199,7 +199,9 @@ module _ (M : Mode) (new : ℕ) (L R : List ℕ) (left : IsSide L) (right : IsSi
       t = valueAt-atoms (taken new G selected) (placeOf x (variables M L R)) n v
 
       constant-row : List·Memᴰ (t .0) constantRows → 0 < length (filling (t .0 .atom))
-      constant-row k = absurd (let z : ⊥ = omega (arith, t .2, constant-old M L R groups new above (t .0 .atom) (takenRows-atoms (chosen .within) (t .0) k)) in z)
+      constant-row k =
+          let old : t .0 .atom < new = constant-old M L R groups new above (t .0 .atom) (takenRows-atoms (chosen .within) (t .0) k) in
+          absurd (let z : ⊥ = omega (arith, t .2) in z)
 
   comes-from-selected : ComesFrom M new L R (value M new L R G selected) θ
   comes-from-selected = record { fill = filling; filled = λ x n m. selected-filled x n; agrees = agrees }

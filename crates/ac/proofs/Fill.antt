@@ -1,4 +1,4 @@
--- Filling the new variables: each gets every atom as often as that atom's multiplicities say; the rows whose new variable is not left empty are taken.
+-- Filling the new variables: each gets every atom as often as that atom's multiplicities say, and the rows whose new variable gets one are taken.
 use Prim.Native.Nat.{ℕ, zero, suc, _+_, _*_, _<_, _≤_}
 use mathlib.Core.Path.{_≡_, refl, sym, ap, ap₂, _∙_, subst}
 use mathlib.Core.Bool.{Bool, true, false, _||_, true≢false, and-eq-true-iff}

@@ -11,7 +11,7 @@ use Rattle.ac.specs.Lists.{Ascending}
 use Rattle.ac.specs.Pair.{Mode, IsSide, count, occurs, atoms, variables, unbalanced}
 use Rattle.ac.specs.Equation.{dot}
 use Rattle.ac.specs.Replacement.{Replacement, put, occurrences}
-use Rattle.ac.proofs.Search.{filter-member, member-filter, filter-ascending}
+use Rattle.ac.proofs.Order.{filter-member, member-filter, filter-ascending}
 use Rattle.ac.proofs.Places.{from-bounds, from-member, from-ascending}
 use Rattle.ac.proofs.Counts.{count-some, count-member, staying, count-put}
 

@@ -1,7 +1,6 @@
 pub mod Lists
 pub mod Telling
-pub mod Counts
-pub mod Moving
+pub mod Tables
 pub mod Lowest
 pub mod Collecting
 pub mod Gathering

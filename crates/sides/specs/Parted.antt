@@ -23,19 +23,19 @@ abbrev pub excess : List ℕ → List ℕ → ℕ → ℕ
 excess side other atom = count atom side - count atom other
 
 -- the atoms, how many they are, and by place the two parts of their net counts; unused places, up to the size, are 0
-pub record Held (size : ℕ) (left-part right-part : ℕ → ℕ) (found atoms : List ℕ) (number : ℕ) (left right : List ℕ) : Type 0 where
+pub record Held (size : ℕ) (L R found atoms : List ℕ) (number : ℕ) (left right : List ℕ) : Type 0 where
   pub how-many : number ≡ length found
   pub the-atoms : atoms ≡ padded size found
-  pub left-parts : left ≡ padded size (map left-part found)
-  pub right-parts : right ≡ padded size (map right-part found)
+  pub left-parts : left ≡ padded size (map (excess L R) found)
+  pub right-parts : right ≡ padded size (map (excess R L) found)
 
 -- the pair holds exactly these sides' variables and unbalanced constants
 pub record PairOf (limits : Limits) (M : Mode) (L R : List ℕ) (pair : Pair) : Type 0 where
   pub the-variables :
-      Held (limits .variables) (excess L R) (excess R L) (variables M L R)
+      Held (limits .variables) L R (variables M L R)
       (pair .variables .atoms) (pair .variables .count) (pair .variables .left) (pair .variables .right)
   pub the-constants :
-      Held (limits .constants) (excess L R) (excess R L) (unbalanced M L R)
+      Held (limits .constants) L R (unbalanced M L R)
       (pair .constants .atoms) (pair .constants .count) (pair .constants .left) (pair .constants .right)
 
 -- Refused with the first of the numbers that is given; accepted where none is, and then the pair is that of the sides.

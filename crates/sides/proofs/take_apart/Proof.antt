@@ -33,6 +33,13 @@ bytes : (c : tie.After-wrong-byte2)
     → Tells (WrongByte limits (left c) ⊎ WrongByte limits (right c)) (c .before .wrong-byte .result || c .wrong-byte2 .result)
 bytes c = tells-either (c .before .wrong-byte .result) (c .wrong-byte2 .result) (c .before .wrong-byte .ensures) (c .wrong-byte2 .ensures)
 
+-- where neither test refuses
+right-lengths : (c : tie.Else2) → WrongLength limits (left (c .before .before)) ⊎ WrongLength limits (right (c .before .before)) → ⊥
+right-lengths c = lengths (c .before .before) .if-false (c .before .if1 .left)
+
+right-bytes : (c : tie.Else2) → WrongByte limits (left (c .before .before)) ⊎ WrongByte limits (right (c .before .before)) → ⊥
+right-bytes c = bytes (c .before .before) .if-false (c .if2 .left)
+
 wrong-length-requires : tie.Need-wrong-length-requires
 wrong-length-requires c κs = tt
 
@@ -64,30 +71,24 @@ moving-variables-requires : tie.Need-moving-variables-requires
 moving-variables-requires c κs = tt
 
 occurrences-requires : tie.Need-occurrences-requires
-occurrences-requires c κs =
-    let tested = c .before .before .before in (
-      λ wrong. lengths tested .if-false (c .before .before .if1 .left) (inl wrong),
-      λ wrong. bytes tested .if-false (c .before .if2 .left) (inl wrong),
-    )
+occurrences-requires c κs = (λ wrong. right-lengths (c .before) (inl wrong), λ wrong. right-bytes (c .before) (inl wrong))
 
 occurrences-requires-2 : tie.Need-occurrences-requires-2
-occurrences-requires-2 c κs =
-    let tested = c .before .before .before .before in (
-      λ wrong. lengths tested .if-false (c .before .before .before .if1 .left) (inr wrong),
-      λ wrong. bytes tested .if-false (c .before .before .if2 .left) (inr wrong),
-    )
+occurrences-requires-2 c κs = (λ wrong. right-lengths (c .before .before) (inr wrong), λ wrong. right-bytes (c .before .before) (inr wrong))
 
 part-requires : tie.Need-part-requires
 part-requires c κs = tt
 
 returns-3 : tie.Need-returns-3
 returns-3 c =
-    let counted = c .before .before .before .before in
-    let settled = counted .before .before .before in
+    let settled = c .before .before .before .before in
     let tested = settled .before .before in
-    parted-after (lengths tested .if-false (settled .before .if1 .left)) (bytes tested .if-false (settled .if2 .left))
-    (c .part .ensures unifying (left tested) (right tested)
-    (counted .before .before .moving-variables .ensures) (counted .before .occurrences .ensures) (counted .occurrences2 .ensures))
+    parted-after (right-lengths settled) (right-bytes settled)
+    (c .part .ensures unifying (left tested) (right tested) (record {
+      moves = c .before .before .before .moving-variables .ensures;
+      on-left = c .before .before .occurrences .ensures;
+      on-right = c .before .occurrences2 .ensures;
+    }))
 
 pub take-apart-spec : {M : Type 1} → statement M
 take-apart-spec =

@@ -1,10 +1,10 @@
--- `sides::wanted` meets its contract: in each arm the kind is that arm's, and the tests say what passes. Assumes nothing.
+-- `sides::is_of` meets its contract: in each arm the kind is that arm's, and the tests say what passes. Assumes nothing.
 use borrow.Author.Needs.{needs}
 use borrow.Author.Tests.{lt-ltb}
 use native.Mathlib.Omega.{arith}
 use Rattle.sides.proofs.Collecting.{occurs-left, occurs-right}
-use Rattle.sides.proofs.wanted.Statement.{statement}
-use Rattle.sides.proofs.wanted.Tie as tie
+use Rattle.sides.proofs.is_of.Statement.{statement}
+use Rattle.sides.proofs.is_of.Tie as tie
 
 enum-told : tie.Need-enum-told
 enum-told c = search needs
@@ -27,6 +27,6 @@ returns-4 c = rw (c .before .enum-told2 .given .1, c .if3 .taken)
 returns-5 : tie.Need-returns-5
 returns-5 c = search needs
 
-pub wanted-spec : {M : Type 1} → statement M
-wanted-spec =
+pub is-of-spec : {M : Type 1} → statement M
+is-of-spec =
     tie.close (tie.spec enum-told enum-told-2 returns returns-2 returns-3 returns-4 returns-5)

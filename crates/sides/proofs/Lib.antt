@@ -1,0 +1,7 @@
+pub mod Lists
+pub mod Telling
+pub mod Tables
+pub mod Lowest
+pub mod Collecting
+pub mod Gathering
+pub mod Parting

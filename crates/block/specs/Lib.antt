@@ -1,0 +1,4 @@
+pub mod Front
+pub mod Block
+pub mod Table
+pub mod Read

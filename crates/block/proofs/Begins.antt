@@ -8,12 +8,14 @@ use lib.Seq.{take-at, drop-at, drop-drop, drop-length, drop-cons}
 use borrow.Rule.Slice.PartAt.{part-to-end}
 use borrow.Rule.Slice.PartMut.{putMid, post-is}
 use Rattle.ac.specs.Term.{Term, atom, plus, flatten}
-use Rattle.block.specs.Front.{encode, MayBeWritten, Writable, one, two}
+use Rattle.block.specs.Front.{encode, MayBeWritten, Writable, one, two, Writes}
+use Rattle.block.specs.Table.{NoTerm}
 use Rattle.block.specs.Read.{receives}
-use Rattle.block.specs.Flatten.{Classified, variable, constant, refused, Begins, Flattens, found, nothing}
+use Rattle.block.specs.Inner.{Classified, variable, constant, refused, Begins, Flattens, found, nothing, TakesApart, atoms}
 use Rattle.block.specs.declared.term.Kind.the-variants.{Variable, Constant, Plus, Refused}
 use Rattle.block.specs.declared.term.Flattened.{Flattened}
 use Rattle.block.specs.declared.term.Flattened.the-variants.{Found, Nothing}
+use Rattle.block.specs.declared.term.Side.the-variants.{Atoms}
 use Rattle.block.proofs.Terms.{plus-is-no-atom, one-reading, bytes-of-atoms}
 
 -- a term has at least a byte
@@ -128,6 +130,17 @@ pub when-nothing : {bytes buffer after : List ℕ} {r : Flattened} → Flattens 
 when-nothing (found b) e = absurd (let z : _≡_ {A = ℕ} 0 1 = cc e in omega arith)
 when-nothing (nothing none) e = none
 
+-- bytes that are a term begin with it
+writes-begins : {bytes : List ℕ} {t : Term} → Writes bytes t → Begins bytes t
+writes-begins {bytes} {t} w = record { rest = []; splits = w .exactly ∙ sym (append-nil (encode t)); writable = w .writable }
+
+pub nothing-is-no-term : {bytes : List ℕ} → ((t : Term) → Begins bytes t → ⊥) → NoTerm bytes
+nothing-is-no-term none t w = none t (writes-begins w)
+
+length-zero : (l : List ℕ) → length l ≡ 0 → l ≡ []
+length-zero [] e = refl
+length-zero (a ∷ l) e = absurd (omega (arith, e))
+
 module _ {bytes buffer after : List ℕ} {used filled : ℕ} (f : FoundTerm bytes buffer used filled after) where
   -- the bytes of the term are among the bytes, and n bytes are (n + 1) / 2 atoms
   pub found-sizes : (used ≤ length bytes) × (used + 1 ≡ 2 * filled)
@@ -139,6 +152,22 @@ module _ {bytes buffer after : List ℕ} {used filled : ℕ} (f : FoundTerm byte
       part-to-end bytes used
       ∙ ap (drop used) (f .begins .splits)
       ∙ drop-at (encode (f .term)) (f .begins .rest) used (sym (f .used-is))
+
+  -- the term uses exactly the bytes, or no term does
+  pub whole-is-term : length bytes ≤ used → TakesApart bytes buffer (Atoms filled) after
+  whole-is-term all =
+      let none : f .begins .rest ≡ [] = length-zero (f .begins .rest) (omega (arith, simp length-append at (ap length (f .begins .splits)), f .used-is)) in
+      let exact : Writes bytes (f .term) =
+      record {
+        exactly = f .begins .splits ∙ ap (λ (l : List ℕ). encode (f .term) ++ l) none ∙ append-nil (encode (f .term));
+        writable = f .begins .writable;
+      } in
+      rw (f .filled-is, f .after-is) (atoms exact)
+
+  pub left-over-is-no-term : used < length bytes → NoTerm bytes
+  left-over-is-no-term over t w =
+      let same : f .term ≡ t = one-reading (f .begins .writable) (w .writable) (sym (f .begins .splits) ∙ writes-begins w .splits) .0 in
+      omega (arith, ap length (w .exactly), ap (λ (u : Term). length (encode u)) same, f .used-is)
 
   -- the buffer's atoms, and what stands after them
   front-is : take filled after ≡ flatten (f .term)

@@ -2,4 +2,4 @@ pub mod Front
 pub mod Block
 pub mod Table
 pub mod Read
-pub mod Flatten
+pub mod Inner

@@ -33,6 +33,10 @@ pub data ReadGiven (block : List ℕ) (number : ℕ) (left right : List ℕ) : �
   -- a lent buffer is too short: two lent buffers of at least 64 bytes
   short-buffer : (length left < 64) ⊎ (length right < 64) → ReadGiven block number left right 16
 
+-- the numbers that the block alone decides
+abbrev pub blockNumbers : List ℕ
+blockNumbers = 1 ∷ 2 ∷ 3 ∷ 4 ∷ 5 ∷ 6 ∷ []
+
 -- Order: 16 first, then by number. Read gives 1 to 6 and 16.
 abbrev pub readNumbers : List ℕ
-readNumbers = 16 ∷ 1 ∷ 2 ∷ 3 ∷ 4 ∷ 5 ∷ 6 ∷ []
+readNumbers = 16 ∷ blockNumbers

@@ -3,7 +3,7 @@ ghost use Prim.Native.Nat.{ℕ, _+_, _*_, _<_};
 ghost use mathlib.Core.List.{List, _∷_};
 ghost use lib.ListN.{length};
 ghost use Rattle.block.specs.Front.{MayBeWritten};
-ghost use Rattle.block.specs.Flatten.{Classified, Flattens};
+ghost use Rattle.block.specs.Inner.{Classified, Flattens, TakesApart};
 
 // What a byte stands for where a term begins.
 pub enum Kind {
@@ -84,4 +84,25 @@ fn flatten_two(bytes: &[u8], buffer: &mut [u8]) -> Flattened
         bytes: 1 + used + used_next,
         atoms: filled + filled_next,
     }
+}
+
+// What a term's bytes are: a whole term, by how many atoms it has, or no term.
+pub enum Side {
+    Atoms(usize),
+    NoTerm,
+}
+
+// Takes apart the term that the bytes are: it must use all of them.
+pub fn take_apart(bytes: &[u8], buffer: &mut [u8]) -> Side
+    requires { ⌜ length (now bytes) < 2 * length (now buffer) ⌝ }
+    ensures { λ r. ⌜ TakesApart (now (bytes .entry)) (now (buffer .entry)) r (now (buffer .exit)) ⌝ }
+{
+    let flattened = flatten(bytes, buffer);
+    let Flattened::Found { bytes: used, atoms } = flattened else {
+        return Side::NoTerm;
+    };
+    if used < bytes.len() {
+        return Side::NoTerm;
+    }
+    Side::Atoms(atoms)
 }

@@ -2,7 +2,7 @@
 -- `flatten` looks at the first byte; `flatten_two` finds the two terms after a plus. Assumes nothing.
 use Prim.Native.Nat.{ℕ, _+_, _*_, _<_}
 use lib.ListN.{length}
-use Rattle.block.specs.Flatten.{found, nothing}
+use Rattle.block.specs.Inner.{found, nothing}
 use Rattle.block.proofs.Begins.{empty-begins-not, above-begins-not, after-first-byte, after-plus-byte, variable-may-be-written, constant-may-be-written, plus-is-128, refused-is-above, first-missing, when-found, when-nothing, found-sizes, filled-within, second-sizes, second-nothing, found-both}
 use borrow.Author.Needs.{needs}
 use native.Mathlib.Omega.{arith}

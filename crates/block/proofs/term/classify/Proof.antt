@@ -1,6 +1,6 @@
 -- `block::term::classify` meets its contract: each arm's tests place the byte. Assumes nothing.
 use native.Mathlib.Omega.{arith}
-use Rattle.block.specs.Flatten.{variable, constant, plus, refused}
+use Rattle.block.specs.Inner.{variable, constant, plus, refused}
 use Rattle.block.proofs.term.classify.Statement.{statement}
 use Rattle.block.proofs.term.classify.Tie as tie
 

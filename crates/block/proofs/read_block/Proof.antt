@@ -1,0 +1,178 @@
+use borrow.Author.Needs.{needs}
+use Rattle.block.proofs.read_block.Statement.{statement}
+use Rattle.block.proofs.read_block.Tie as tie
+use Rattle.block.proofs.read_block.Reads as reads
+use Rattle.block.proofs.read_block.Lts as lts
+use Rattle.block.proofs.all_zero.Reads as all-zero-reads
+use Rattle.block.proofs.header.read_header.Reads as read-header-reads
+use Rattle.block.proofs.term.take_apart.Reads as take-apart-reads
+
+-- src/lib.rt:55:9
+read-header-requires : tie.Need-read-header-requires
+read-header-requires c κs = search needs
+
+-- src/lib.rt:57:25
+enum-known-header : tie.Need-enum-known-header
+enum-known-header c = search needs
+
+-- src/lib.rt:59:19
+enum-known-header-2 : tie.Need-enum-known-header-2
+enum-known-header-2 c = search needs
+
+-- src/lib.rt:62:28
+add-left-end : tie.Need-add-left-end
+add-left-end c = ?
+
+-- src/lib.rt:63:29
+add-right-end : tie.Need-add-right-end
+add-right-end c = ?
+
+-- src/lib.rt:64:46
+sub-take-apart : tie.Need-sub-take-apart
+sub-take-apart c = search needs
+
+-- src/lib.rt:64:46
+part-take-apart-start : tie.Need-part-take-apart-start
+part-take-apart-start c = search needs
+
+-- src/lib.rt:64:46
+part-take-apart-end : tie.Need-part-take-apart-end
+part-take-apart-end c = ?
+
+-- src/lib.rt:64:17
+take-apart-requires : tie.Need-take-apart-requires
+take-apart-requires c κs = ?
+
+-- src/lib.rt:65:29
+enum-known-left-side : tie.Need-enum-known-left-side
+enum-known-left-side c = search needs
+
+-- src/lib.rt:66:44
+enum-told : tie.Need-enum-told
+enum-told c = search needs
+
+-- src/lib.rt:66:17
+same-length : tie.Need-same-length
+same-length c = search needs
+
+-- src/lib.rt:66:17
+returns : tie.Need-returns
+returns c = ?
+
+-- src/lib.rt:68:47
+sub-take-apart-2 : tie.Need-sub-take-apart-2
+sub-take-apart-2 c = search needs
+
+-- src/lib.rt:68:47
+part-take-apart-start-2 : tie.Need-part-take-apart-start-2
+part-take-apart-start-2 c = search needs
+
+-- src/lib.rt:68:47
+part-take-apart-end-2 : tie.Need-part-take-apart-end-2
+part-take-apart-end-2 c = ?
+
+-- src/lib.rt:68:17
+take-apart-requires-2 : tie.Need-take-apart-requires-2
+take-apart-requires-2 c κs = ?
+
+-- src/lib.rt:69:29
+enum-known-right-side : tie.Need-enum-known-right-side
+enum-known-right-side c = search needs
+
+-- src/lib.rt:70:44
+enum-told-2 : tie.Need-enum-told-2
+enum-told-2 c = search needs
+
+-- src/lib.rt:70:17
+same-length-2 : tie.Need-same-length-2
+same-length-2 c = search needs
+
+-- src/lib.rt:70:17
+same-length-3 : tie.Need-same-length-3
+same-length-3 c = search needs
+
+-- src/lib.rt:70:17
+returns-2 : tie.Need-returns-2
+returns-2 c = ?
+
+-- src/lib.rt:72:26
+sub-all-zero : tie.Need-sub-all-zero
+sub-all-zero c = ?
+
+-- src/lib.rt:72:26
+part-all-zero-start : tie.Need-part-all-zero-start
+part-all-zero-start c = ?
+
+-- src/lib.rt:72:26
+part-all-zero-end : tie.Need-part-all-zero-end
+part-all-zero-end c = ?
+
+-- src/lib.rt:72:17
+all-zero-requires : tie.Need-all-zero-requires
+all-zero-requires c κs = search needs
+
+-- src/lib.rt:73:17
+same-length-4 : tie.Need-same-length-4
+same-length-4 c = search needs
+
+-- src/lib.rt:73:17
+same-length-5 : tie.Need-same-length-5
+same-length-5 c = search needs
+
+-- src/lib.rt:73:17
+returns-3 : tie.Need-returns-3
+returns-3 c = ?
+
+-- src/lib.rt:50:1
+returns-4 : tie.Need-returns-4
+returns-4 c = ?
+
+-- src/lib.rt:50:1
+same-length-6 : tie.Need-same-length-6
+same-length-6 c = search needs
+
+-- src/lib.rt:50:1
+same-length-7 : tie.Need-same-length-7
+same-length-7 c = search needs
+
+-- src/lib.rt:50:1
+returns-5 : tie.Need-returns-5
+returns-5 c = ?
+
+pub read-block-spec : {M : Type 1} → statement M
+read-block-spec =
+    tie.close
+    (tie.spec
+    read-header-requires
+    enum-known-header
+    enum-known-header-2
+    add-left-end
+    add-right-end
+    sub-take-apart
+    part-take-apart-start
+    part-take-apart-end
+    take-apart-requires
+    enum-known-left-side
+    enum-told
+    same-length
+    returns
+    sub-take-apart-2
+    part-take-apart-start-2
+    part-take-apart-end-2
+    take-apart-requires-2
+    enum-known-right-side
+    enum-told-2
+    same-length-2
+    same-length-3
+    returns-2
+    sub-all-zero
+    part-all-zero-start
+    part-all-zero-end
+    all-zero-requires
+    same-length-4
+    same-length-5
+    returns-3
+    returns-4
+    same-length-6
+    same-length-7
+    returns-5)

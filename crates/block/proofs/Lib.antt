@@ -1,3 +1,4 @@
 pub mod Terms
 pub mod Begins
+pub mod Settled
 pub mod Determined

@@ -26,8 +26,8 @@ pub fn read_header(block: &[u8], number: u16) -> Header
     if two_bytes(block[0], block[1]) != number {
         return Header::Refused(Refusal::BlockNumber);
     }
-    let left = wide(block[2]);
-    let right = wide(block[3]);
+    let left = block[2] as usize;
+    let right = block[3] as usize;
     if !is_term_length(left) {
         return Header::Refused(Refusal::TermLength);
     }
@@ -61,12 +61,6 @@ fn two_bytes(high: u8, low: u8) -> u16
     ensures { λ r. ⌜ r ≡ twoBytes high low ⌝ }
 {
     (high as u16) * 256 + (low as u16)
-}
-
-fn wide(byte: u8) -> usize
-    ensures { λ r. ⌜ r ≡ byte ⌝ }
-{
-    byte as usize
 }
 
 // A term length is 1 to 127.

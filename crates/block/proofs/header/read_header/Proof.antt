@@ -1,3 +1,8 @@
+use mathlib.Core.Path.{sym, _∙_}
+use mathlib.Core.Logic.{inl, inr}
+use native.Mathlib.Omega.{arith}
+use Rattle.block.specs.Inner.{is-refused, is-good}
+use Rattle.block.proofs.Settled.{tested-outside, tested-within, block-length-first, check-first, block-number-first, term-length-first}
 use borrow.Author.Needs.{needs}
 use Rattle.block.proofs.header.read_header.Statement.{statement}
 use Rattle.block.proofs.header.read_header.Tie as tie
@@ -6,11 +11,10 @@ use Rattle.block.proofs.header.read_header.Lts as lts
 use Rattle.block.proofs.header.check_of.Reads as check-of-reads
 use Rattle.block.proofs.header.is_term_length.Reads as is-term-length-reads
 use Rattle.block.proofs.header.two_bytes.Reads as two-bytes-reads
-use Rattle.block.proofs.header.wide.Reads as wide-reads
 
 -- src/header.rt:21:9
 returns : tie.Need-returns
-returns c = ?
+returns c = is-refused (block-length-first (c .if1 .taken))
 
 -- src/header.rt:23:18
 shared-slice-read-two-bytes : tie.Need-shared-slice-read-two-bytes
@@ -30,7 +34,7 @@ check-of-requires c κs = search needs
 
 -- src/header.rt:24:9
 returns-2 : tie.Need-returns-2
-returns-2 c = ?
+returns-2 c = is-refused (check-first (c .before .before .before .before .before .if1 .left) (λ same. c .if2 .taken (c .before .before .two-bytes .ensures ∙ same ∙ sym (c .before .check-of .ensures))))
 
 -- src/header.rt:26:18
 shared-slice-read-two-bytes-3 : tie.Need-shared-slice-read-two-bytes-3
@@ -46,23 +50,25 @@ two-bytes-requires-2 c κs = search needs
 
 -- src/header.rt:27:9
 returns-3 : tie.Need-returns-3
-returns-3 c = ?
+returns-3 c = is-refused
+    (block-number-first (c .before .before .before .before .before .before .before .before .before .if1 .left) (sym (c .before .before .before .before .before .before .two-bytes .ensures) ∙ c .before .before .before .before .if2 .left ∙ c .before .before .before .before .before .check-of .ensures)
+    (λ same. c .if3 .taken (c .before .two-bytes2 .ensures ∙ same)))
 
--- src/header.rt:29:21
-shared-slice-read-wide : tie.Need-shared-slice-read-wide
-shared-slice-read-wide c = search needs
+-- src/header.rt:29:16
+shared-slice-read-left : tie.Need-shared-slice-read-left
+shared-slice-read-left c = search needs
 
--- src/header.rt:29:9
-wide-requires : tie.Need-wide-requires
-wide-requires c κs = search needs
+-- src/header.rt:29:16
+cast-left : tie.Need-cast-left
+cast-left c = omega (arith, c .shared-slice-known6 .given 2)
 
--- src/header.rt:30:22
-shared-slice-read-wide-2 : tie.Need-shared-slice-read-wide-2
-shared-slice-read-wide-2 c = search needs
+-- src/header.rt:30:17
+shared-slice-read-right : tie.Need-shared-slice-read-right
+shared-slice-read-right c = search needs
 
--- src/header.rt:30:9
-wide-requires-2 : tie.Need-wide-requires-2
-wide-requires-2 c κs = search needs
+-- src/header.rt:30:17
+cast-right : tie.Need-cast-right
+cast-right c = omega (arith, c .shared-slice-known7 .given 3)
 
 -- src/header.rt:31:9
 is-term-length-requires : tie.Need-is-term-length-requires
@@ -70,7 +76,12 @@ is-term-length-requires c κs = search needs
 
 -- src/header.rt:32:9
 returns-4 : tie.Need-returns-4
-returns-4 c = ?
+returns-4 c = is-refused
+    (term-length-first
+    (c .before .before .before .before .before .before .before .before .before .before .before .before .before .if1 .left)
+    (sym (c .before .before .before .before .before .before .before .before .before .before .two-bytes .ensures) ∙ c .before .before .before .before .before .before .before .before .if2 .left ∙ c .before .before .before .before .before .before .before .before .before .check-of .ensures)
+    (sym (c .before .before .before .before .before .two-bytes2 .ensures) ∙ c .before .before .before .before .if3 .left)
+    (inl (tested-outside (c .before .is-term-length .ensures) (c .if4 .taken))))
 
 -- src/header.rt:34:9
 is-term-length-requires-2 : tie.Need-is-term-length-requires-2
@@ -78,11 +89,23 @@ is-term-length-requires-2 c κs = search needs
 
 -- src/header.rt:35:9
 returns-5 : tie.Need-returns-5
-returns-5 c = ?
+returns-5 c = is-refused
+    (term-length-first
+    (c .before .before .before .before .before .before .before .before .before .before .before .before .before .before .before .if1 .left)
+    (sym (c .before .before .before .before .before .before .before .before .before .before .before .before .two-bytes .ensures) ∙ c .before .before .before .before .before .before .before .before .before .before .if2 .left ∙ c .before .before .before .before .before .before .before .before .before .before .before .check-of .ensures)
+    (sym (c .before .before .before .before .before .before .before .two-bytes2 .ensures) ∙ c .before .before .before .before .before .before .if3 .left)
+    (inr (tested-outside (c .before .is-term-length2 .ensures) (c .if5 .taken))))
 
 -- src/header.rt:17:1
 returns-6 : tie.Need-returns-6
-returns-6 c = ?
+returns-6 c = is-good
+    (record {
+      whole = c .before .before .before .before .before .before .before .before .before .before .before .before .before .before .before .if1 .left;
+      checked = sym (c .before .before .before .before .before .before .before .before .before .before .before .before .two-bytes .ensures) ∙ c .before .before .before .before .before .before .before .before .before .before .if2 .left ∙ c .before .before .before .before .before .before .before .before .before .before .before .check-of .ensures;
+      numbered = sym (c .before .before .before .before .before .before .before .two-bytes2 .ensures) ∙ c .before .before .before .before .before .before .if3 .left;
+      left-length = tested-within (c .before .before .before .is-term-length .ensures) (c .before .before .if4 .left);
+      right-length = tested-within (c .before .is-term-length2 .ensures) (c .if5 .left);
+    })
 
 pub read-header-spec : {M : Type 1} → statement M
 read-header-spec =
@@ -98,10 +121,10 @@ read-header-spec =
     shared-slice-read-two-bytes-4
     two-bytes-requires-2
     returns-3
-    shared-slice-read-wide
-    wide-requires
-    shared-slice-read-wide-2
-    wide-requires-2
+    shared-slice-read-left
+    cast-left
+    shared-slice-read-right
+    cast-right
     is-term-length-requires
     returns-4
     is-term-length-requires-2

@@ -1,7 +1,7 @@
 -- What the bytes of a library block say (document 01, "A library block").
 use Prim.Native.Nat.{ℕ, _+_, _*_, _-_, _%_}
 use mathlib.Core.List.{List}
-use lib.ListN.{getD, take, drop}
+use lib.ListN.{getD, take}
 use lib.Seq.{slice}
 use Rattle.ac.specs.Lists.{sum}
 
@@ -24,12 +24,12 @@ module _ (block : List ℕ) where
   abbrev pub rightLength : ℕ
   rightLength = byte block 3
 
-  -- From byte 4: the left term, then the right term, ..
+  -- From byte 4: the left term, then the right term, .. (`slice` has its start and not its end)
   abbrev pub leftTerm : List ℕ
-  leftTerm = take leftLength (drop 4 block)
+  leftTerm = slice 4 (4 + leftLength) block
 
   abbrev pub rightTerm : List ℕ
-  rightTerm = take rightLength (drop (4 + leftLength) block)
+  rightTerm = slice (4 + leftLength) (4 + leftLength + rightLength) block
 
   -- .. then zeros up to byte 509.
   abbrev pub filler : List ℕ

@@ -1,0 +1,5 @@
+pub mod Terms
+pub mod Begins
+pub mod Settled
+pub mod Sides
+pub mod Determined

@@ -1,0 +1,92 @@
+-- `block::header::read_header` meets its contract: each refusal is the first number that the block gives. Assumes nothing.
+use mathlib.Core.Path.{sym, _∙_}
+use native.Mathlib.Omega.{arith}
+use borrow.Author.Needs.{needs}
+use Rattle.block.specs.Inner.{is-refused, is-good}
+use Rattle.block.proofs.Settled.{tested-outside, tested-within, check-first, block-number-first, term-length-first}
+use Rattle.block.proofs.header.read_header.Statement.{statement}
+use Rattle.block.proofs.header.read_header.Tie as tie
+
+shared-slice-read-two-bytes : tie.Need-shared-slice-read-two-bytes
+shared-slice-read-two-bytes c = search needs
+
+shared-slice-read-two-bytes-2 : tie.Need-shared-slice-read-two-bytes-2
+shared-slice-read-two-bytes-2 c = search needs
+
+two-bytes-requires : tie.Need-two-bytes-requires
+two-bytes-requires c κs = search needs
+
+check-of-requires : tie.Need-check-of-requires
+check-of-requires c κs = search needs
+
+shared-slice-read-two-bytes-3 : tie.Need-shared-slice-read-two-bytes-3
+shared-slice-read-two-bytes-3 c = search needs
+
+shared-slice-read-two-bytes-4 : tie.Need-shared-slice-read-two-bytes-4
+shared-slice-read-two-bytes-4 c = search needs
+
+two-bytes-requires-2 : tie.Need-two-bytes-requires-2
+two-bytes-requires-2 c κs = search needs
+
+shared-slice-read-left : tie.Need-shared-slice-read-left
+shared-slice-read-left c = search needs
+
+cast-left : tie.Need-cast-left
+cast-left c = omega (arith, c .shared-slice-known6 .given 2)
+
+shared-slice-read-right : tie.Need-shared-slice-read-right
+shared-slice-read-right c = search needs
+
+cast-right : tie.Need-cast-right
+cast-right c = omega (arith, c .shared-slice-known7 .given 3)
+
+are-term-lengths-requires : tie.Need-are-term-lengths-requires
+are-term-lengths-requires c κs = search needs
+
+returns : tie.Need-returns
+returns c = is-refused (check-first (c .before .before .before .before .before .before .before .before .before .before .before .before .pre) (λ same. c .if1 .taken (c .before .before .before .before .before .before .before .before .two-bytes .ensures ∙ same ∙ sym (c .before .before .before .before .before .before .before .check-of .ensures))))
+
+returns-2 : tie.Need-returns-2
+returns-2 c = is-refused
+    (block-number-first (c .before .before .before .before .before .before .before .before .before .before .before .before .before .pre) (sym (c .before .before .before .before .before .before .before .before .before .two-bytes .ensures) ∙ c .before .if1 .left ∙ c .before .before .before .before .before .before .before .before .check-of .ensures)
+    (λ same. c .if2 .taken (c .before .before .before .before .before .two-bytes2 .ensures ∙ same)))
+
+returns-3 : tie.Need-returns-3
+returns-3 c = is-refused
+    (term-length-first
+    (c .before .before .before .before .before .before .before .before .before .before .before .before .before .before .pre)
+    (sym (c .before .before .before .before .before .before .before .before .before .before .two-bytes .ensures) ∙ c .before .before .if1 .left ∙ c .before .before .before .before .before .before .before .before .before .check-of .ensures)
+    (sym (c .before .before .before .before .before .before .two-bytes2 .ensures) ∙ c .before .if2 .left)
+    (tested-outside (c .before .before .before .are-term-lengths .ensures) (c .if3 .taken)))
+
+returns-4 : tie.Need-returns-4
+returns-4 c = let lengths = tested-within (c .before .before .before .are-term-lengths .ensures) (c .if3 .left) in
+    is-good
+    (record {
+      whole = c .before .before .before .before .before .before .before .before .before .before .before .before .before .before .pre;
+      checked = sym (c .before .before .before .before .before .before .before .before .before .before .two-bytes .ensures) ∙ c .before .before .if1 .left ∙ c .before .before .before .before .before .before .before .before .before .check-of .ensures;
+      numbered = sym (c .before .before .before .before .before .before .two-bytes2 .ensures) ∙ c .before .if2 .left;
+      left-length = lengths .0;
+      right-length = lengths .1;
+    })
+
+pub read-header-spec : {M : Type 1} → statement M
+read-header-spec =
+    tie.close
+    (tie.spec
+    shared-slice-read-two-bytes
+    shared-slice-read-two-bytes-2
+    two-bytes-requires
+    check-of-requires
+    shared-slice-read-two-bytes-3
+    shared-slice-read-two-bytes-4
+    two-bytes-requires-2
+    shared-slice-read-left
+    cast-left
+    shared-slice-read-right
+    cast-right
+    are-term-lengths-requires
+    returns
+    returns-2
+    returns-3
+    returns-4)

@@ -1,3 +1,4 @@
 pub mod Any
 pub mod Bits
 pub mod Reach
+pub mod Candidates

@@ -5,7 +5,9 @@ ghost use lib.ListN.{getD};
 ghost use Rattle.ac.specs.Rows.{Groups};
 ghost use Rattle.ac.specs.Selection.{taken, allReached};
 ghost use Rattle.ac.specs.Keys.{layout, bit, fieldAt, selectionAt, Candidate, Fits};
+ghost use Rattle.table.specs.Table.{Within};
 ghost use Rattle.keys.specs.Candidates.{Sized, Stands, fieldLimit};
+ghost use Rattle.keys.specs.List.{NextFrom, OfItsList};
 ghost use Rattle.keys.specs.Reach.{any, constantReaches, balancedReaches, reaches, Holds};
 use table::CONSTANTS;
 use table::GROUP;
@@ -20,6 +22,9 @@ pub const INDEX_BITS: usize = 4;
 pub const INDEX_MASK: u32 = 15;
 
 pub const LOW_MASK: u32 = 65_535;
+
+// How many keys there can be.
+pub const KEYS: u64 = 4_294_967_296;
 
 // Whether the key takes balanced row `i`: bit i of the low 16.
 pub fn takes(key: u32, i: usize) -> bool
@@ -135,4 +140,35 @@ pub fn stands(sizes: &[usize; 5], unbalanced: usize, key: u32) -> Standing
         return Standing::NoneBefore(block_end(key, MASK_BITS));
     }
     Standing::Candidate
+}
+
+// The next key of the list, if there is one.
+pub enum Next {
+    Key(u32),
+    None,
+}
+
+// The least key on the list from a number on. The highest key may be listed, so that the number after it needs 64 bits.
+pub fn least_listed(table: Table, from: u64) -> Next
+    requires { ⌜ Within table ⌝ }
+    ensures { λ r. ⌜ OfItsList table (λ keys. NextFrom keys from r) ⌝ }
+{
+    let balanced = table.sizes[0];
+    let mut at = from;
+    while at < KEYS {
+        let key = at as u32;
+        let standing = stands(&table.sizes, table.unbalanced, key);
+        match standing {
+            Standing::NoneBefore(later) => {
+                at = later;
+            }
+            Standing::Candidate => {
+                if weigh(&table.rows, table.places, table.unbalanced, balanced, key) {
+                    return Next::Key(key);
+                }
+                at += 1;
+            }
+        }
+    }
+    Next::None
 }

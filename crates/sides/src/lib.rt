@@ -1,0 +1,320 @@
+// Two flattened sides taken apart: the pair's variables, the two parts of each net count and the unbalanced constants, or the
+// first of the numbers 7 to 11 that is given.
+use numbers::Refusal;
+ghost use mathlib.Core.Path.{_≡_};
+ghost use mathlib.Core.Bool.{Bool, false};
+ghost use mathlib.Core.List.{List, [], _∷_, map};
+ghost use Prim.Native.Nat.{ℕ, _+_, _-_, _<_, _≤_};
+ghost use lib.ListN.{length, getD, set};
+ghost use Rattle.ac.specs.Pair.{Mode, unifying, variables, unbalanced};
+ghost use Rattle.sides.specs.Limits.{limits};
+ghost use Rattle.sides.specs.Given.{WrongLength, WrongByte};
+ghost use Rattle.sides.specs.Counting.{Tells, CountsOf, MovesOf, Lowest, Collected, Gathered, passes, atomsOf, exceeds};
+ghost use Rattle.sides.specs.Parted.{PartedOf};
+
+// The limits of document 01's table.
+const LEAST_ATOMS: usize = 1;
+
+const MOST_ATOMS: usize = 64;
+
+const HIGHEST_ATOM: u8 = 127;
+
+const MOST_VARIABLES: usize = 6;
+
+const FARTHEST: u8 = 8;
+
+const MOST_CONSTANTS: usize = 4;
+
+// How many atoms there are, and how many of them are variables.
+const ATOMS: usize = 128;
+
+const VARIABLES: usize = 64;
+
+// The distinct variables of a pair, ascending, and how many they are; for each the two parts of its net count: by how much its
+// occurrences on the left exceed those on the right, and the other way round. Unused places are 0.
+pub struct Variables {
+    pub atoms: [u8; 6],
+    pub count: usize,
+    pub left: [u8; 6],
+    pub right: [u8; 6],
+}
+
+// The unbalanced constants of a pair, in the same way.
+pub struct Constants {
+    pub atoms: [u8; 4],
+    pub count: usize,
+    pub left: [u8; 4],
+    pub right: [u8; 4],
+}
+
+pub struct Pair {
+    pub variables: Variables,
+    pub constants: Constants,
+}
+
+pub enum Verdict {
+    Refused(Refusal),
+    Accepted,
+}
+
+// What taking apart gives. The pair says something only where the sides are accepted.
+pub struct Parted {
+    pub verdict: Verdict,
+    pub pair: Pair,
+}
+
+// Which atoms are collected: the variables of a pair, or its unbalanced constants.
+pub enum Kind {
+    Variable,
+    Constant,
+}
+
+// The lowest atom whose net count is too far from 0, if there is one.
+pub enum Frequent {
+    Atom(u8),
+    Nothing,
+}
+
+// Whether the side has too few atoms or too many.
+fn wrong_length(side: &[u8]) -> bool
+    ensures { λ r. ⌜ Tells (WrongLength limits (now (side .entry))) r ⌝ }
+{
+    side.len() < LEAST_ATOMS || MOST_ATOMS < side.len()
+}
+
+// Whether the side holds a byte that is no atom.
+fn wrong_byte(side: &[u8]) -> bool
+    ensures { λ r. ⌜ Tells (WrongByte limits (now (side .entry))) r ⌝ }
+{
+    let mut i = 0;
+    while i < side.len() {
+        if HIGHEST_ATOM < side[i] {
+            return true;
+        }
+        i += 1;
+    }
+    false
+}
+
+// How often each atom stands on the side.
+fn occurrences(side: &[u8]) -> [u8; 128]
+    requires { ⌜ (WrongLength limits (now side) → ⊥) ⌝ }
+    requires { ⌜ (WrongByte limits (now side) → ⊥) ⌝ }
+    ensures { λ r. ⌜ CountsOf (now (side .entry)) r ⌝ }
+{
+    let mut table = [0u8; 128];
+    let mut i = 0;
+    while i < side.len() {
+        let atom = side[i] as usize;
+        table[atom] = table[atom] + 1;
+        i += 1;
+    }
+    table
+}
+
+// The atoms that move: the variables. Every other atom counts as a constant.
+fn moving_variables() -> [bool; 128]
+    ensures { λ r. ⌜ MovesOf unifying r ⌝ }
+{
+    let mut moving = [false; 128];
+    let mut atom = 0;
+    while atom < VARIABLES {
+        moving[atom] = true;
+        atom += 1;
+    }
+    moving
+}
+
+// By how much `a` exceeds `b`, or 0.
+fn excess(a: u8, b: u8) -> u8
+    ensures { λ r. ⌜ r ≡ a - b ⌝ }
+{
+    if b < a { a - b } else { 0 }
+}
+
+// How far two counts are apart.
+fn distance(a: u8, b: u8) -> u8
+    ensures { λ r. ⌜ r ≡ (a - b) + (b - a) ⌝ }
+{
+    if a < b { b - a } else { a - b }
+}
+
+// Stores the byte at its place, where the list has it.
+fn put(list: &mut [u8], place: usize, byte: u8)
+    ensures { λ _. ⌜ now (list .exit) ≡ set (now (list .entry)) place byte ⌝ }
+{
+    if place < list.len() {
+        list[place] = byte;
+    }
+}
+
+// Whether the atom is one of its kind in the pair that has these counts.
+fn wanted(kind: Kind, moves: bool, left: u8, right: u8) -> bool
+    ensures { λ r. ⌜ r ≡ passes kind moves left right ⌝ }
+{
+    match kind {
+        Kind::Variable => moves && (0 < left || 0 < right),
+        Kind::Constant => !moves && left != right,
+    }
+}
+
+// Writes the atoms of the kind, ascending, and beside each the two parts of its net count, as far as there is room. Gives how
+// many they are.
+fn collect(
+    kind: Kind,
+    moving: &[bool; 128],
+    left: &[u8; 128],
+    right: &[u8; 128],
+    atoms: &mut [u8],
+    lefts: &mut [u8],
+    rights: &mut [u8],
+) -> usize
+    ensures { λ r. ⌜ Collected (exceeds (now (left .entry)) (now (right .entry))) (exceeds (now (right .entry)) (now (left .entry))) (atomsOf kind (now (moving .entry)) (now (left .entry)) (now (right .entry))) (now (atoms .entry)) (now (lefts .entry)) (now (rights .entry)) r (now (atoms .exit)) (now (lefts .exit)) (now (rights .exit)) ⌝ }
+{
+    let mut count = 0;
+    let mut atom = 0;
+    while atom < ATOMS {
+        let l = left[atom];
+        let r = right[atom];
+        if wanted(kind, moving[atom], l, r) {
+            put(atoms, count, atom as u8);
+            put(lefts, count, excess(l, r));
+            put(rights, count, excess(r, l));
+            count += 1;
+        }
+        atom += 1;
+    }
+    count
+}
+
+// The variables of the pair that has these counts.
+fn variables_of(moving: &[bool; 128], left: &[u8; 128], right: &[u8; 128]) -> Variables
+    ensures { λ r. ⌜ Gathered 6 (exceeds (now (left .entry)) (now (right .entry))) (exceeds (now (right .entry)) (now (left .entry))) (atomsOf Kind.Variable (now (moving .entry)) (now (left .entry)) (now (right .entry))) (r .atoms) (r .count) (r .left) (r .right) ⌝ }
+{
+    let mut atoms = [0u8; 6];
+    let mut lefts = [0u8; 6];
+    let mut rights = [0u8; 6];
+    let count = collect(
+        Kind::Variable,
+        moving,
+        left,
+        right,
+        &mut atoms,
+        &mut lefts,
+        &mut rights,
+    );
+    Variables {
+        atoms: atoms,
+        count: count,
+        left: lefts,
+        right: rights,
+    }
+}
+
+// The unbalanced constants of the pair that has these counts.
+fn constants_of(moving: &[bool; 128], left: &[u8; 128], right: &[u8; 128]) -> Constants
+    ensures { λ r. ⌜ Gathered 4 (exceeds (now (left .entry)) (now (right .entry))) (exceeds (now (right .entry)) (now (left .entry))) (atomsOf Kind.Constant (now (moving .entry)) (now (left .entry)) (now (right .entry))) (r .atoms) (r .count) (r .left) (r .right) ⌝ }
+{
+    let mut atoms = [0u8; 4];
+    let mut lefts = [0u8; 4];
+    let mut rights = [0u8; 4];
+    let count = collect(
+        Kind::Constant,
+        moving,
+        left,
+        right,
+        &mut atoms,
+        &mut lefts,
+        &mut rights,
+    );
+    Constants {
+        atoms: atoms,
+        count: count,
+        left: lefts,
+        right: rights,
+    }
+}
+
+// The lowest atom whose net count is too far from 0.
+fn too_frequent(left: &[u8; 128], right: &[u8; 128]) -> Frequent
+    ensures { λ r. ⌜ ((L R : List ℕ) → CountsOf L (now (left .entry)) → CountsOf R (now (right .entry)) → Lowest limits L R r) ⌝ }
+{
+    let mut atom = 0;
+    while atom < ATOMS {
+        if FARTHEST < distance(left[atom], right[atom]) {
+            return Frequent::Atom(atom as u8);
+        }
+        atom += 1;
+    }
+    Frequent::Nothing
+}
+
+// A refusal, with a pair that says nothing.
+fn refused(refusal: Refusal) -> Parted
+    ensures { λ r. ⌜ r .verdict ≡ Verdict.Refused refusal ⌝ }
+{
+    let variables = Variables {
+        atoms: [0; 6],
+        count: 0,
+        left: [0; 6],
+        right: [0; 6],
+    };
+    let constants = Constants {
+        atoms: [0; 4],
+        count: 0,
+        left: [0; 4],
+        right: [0; 4],
+    };
+    let pair = Pair {
+        variables: variables,
+        constants: constants,
+    };
+    Parted {
+        verdict: Verdict::Refused(refusal),
+        pair: pair,
+    }
+}
+
+// The pair that has these counts, or the first of the numbers 9, 10 and 11 that is given.
+fn part(moving: &[bool; 128], left: &[u8; 128], right: &[u8; 128]) -> Parted
+    ensures { λ r. ⌜ ((M : Mode) (L R : List ℕ) → MovesOf M (now (moving .entry)) → CountsOf L (now (left .entry)) → CountsOf R (now (right .entry)) → PartedOf (9 ∷ 10 ∷ 11 ∷ []) limits M L R r) ⌝ }
+{
+    let variables = variables_of(moving, left, right);
+    let constants = constants_of(moving, left, right);
+    let frequent = too_frequent(left, right);
+    if MOST_VARIABLES < variables.count {
+        return refused(Refusal::Variables);
+    }
+    if let Frequent::Atom(_) = frequent {
+        return refused(Refusal::NetCount);
+    }
+    if MOST_CONSTANTS < constants.count {
+        return refused(Refusal::Constants);
+    }
+    let pair = Pair {
+        variables: variables,
+        constants: constants,
+    };
+    Parted {
+        verdict: Verdict::Accepted,
+        pair: pair,
+    }
+}
+
+// Takes two sides apart.
+pub fn take_apart(left: &[u8], right: &[u8]) -> Parted
+    ensures { λ r. ⌜ PartedOf (7 ∷ 8 ∷ 9 ∷ 10 ∷ 11 ∷ []) limits unifying (now (left .entry)) (now (right .entry)) r ⌝ }
+{
+    let length = wrong_length(left) | wrong_length(right);
+    let byte = wrong_byte(left) | wrong_byte(right);
+    if length {
+        return refused(Refusal::SideLength);
+    }
+    if byte {
+        return refused(Refusal::NoAtom);
+    }
+    let moving = moving_variables();
+    let lefts = occurrences(left);
+    let rights = occurrences(right);
+    part(&moving, &lefts, &rights)
+}

@@ -3,7 +3,10 @@ pub mod Term
 pub mod Pair
 pub mod Rows
 pub mod Equation
+pub mod Search
 pub mod Selection
 pub mod Keys
 pub mod Replacement
 pub mod Pages
+pub mod Fages
+pub mod Worked

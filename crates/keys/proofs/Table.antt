@@ -4,14 +4,16 @@ use native.Mathlib.Omega.{arith}
 use native.Mathlib.Decide.{decLt}
 use mathlib.Core.Path.{_≡_, refl, sym, _∙_, ap, subst}
 use mathlib.Core.List.{List, [], _∷_, map, List·Memᴰ, List·Memᴰ·head, List·Memᴰ·tail}
-use lib.ListN.{length, getD, take, drop, length-map}
+use lib.ListN.{length, getD, take, drop, length-map, length-take}
 use lib.Seq.{length-take-le, getD-take, getD-drop}
-use Rattle.ac.specs.Lists.{from}
+use Rattle.ac.specs.Lists.{from, Ascending}
+use Rattle.ac.specs.Pair.{Mode}
 use Rattle.ac.specs.Rows.{Group, Groups}
-use Rattle.ac.specs.Keys.{layout, Fits}
+use Rattle.ac.specs.Keys.{layout, keys, Fits}
 use Rattle.ac.proofs.Fields.{rowsAt}
 use Rattle.ac.proofs.Keys.{length-from}
-use Rattle.table.specs.Table.{rowAt, groupAt, groupsFrom, groupsIn, Within}
+use Rattle.ac.proofs.Listed.{keys-ascending}
+use Rattle.table.specs.Table.{rowAt, groupAt, groupsFrom, groupsIn, Within, TableOf}
 use Rattle.table.specs.declared.Table.{Table}
 use Rattle.keys.specs.Reach.{group, Holds}
 use Rattle.keys.specs.Candidates.{Sized}
@@ -52,10 +54,27 @@ module _ (t : Table) where
       ap (λ r. getD r p 0) (getD-map-from (rowAt t g) 0 (getD (t .sizes) g 0) i [] row ∙ ap (rowAt t g) (omega arith))
       ∙ getD-take (t .places) (drop (96 * g + 6 * i) (t .rows)) p 0 place ∙ getD-drop (96 * g + 6 * i) (t .rows) p 0
 
-module _ {t : Table} (within : Within t) (room : length (t .constants) ≡ 4) where
-  constants : List ℕ
-  constants = take (t .unbalanced) (t .constants)
+  -- the groups fit a key
+  pub table-fits : Within t → Fits layout (groupsIn t)
+  table-fits within =
+      record {
+        few-constants =
+            omega (
+              arith,
+              length-groupsFrom 1 (take (t .unbalanced) (t .constants)),
+              length-take (t .unbalanced) (t .constants),
+              within .constants-fit,
+            );
+        few-rows = few;
+        few-balanced = omega (arith, length-groupAt 0, within .sizes-fit 0);
+      }
+    where
+      few : (h : Group) → List·Memᴰ h (groupsIn t .constants) → length (h .rows) ≤ 16
+      few h m =
+          let s = groupsFrom-members 1 (take (t .unbalanced) (t .constants)) m in
+          omega (arith, ap length (s .1), length-groupAt (s .0), within .sizes-fit (s .0))
 
+module _ {t : Table} (within : Within t) (room : length (t .constants) ≡ 4) where
   how-many : length (groupsIn t .constants) ≡ t .unbalanced
   how-many = length-groupsFrom t 1 (take (t .unbalanced) (t .constants)) ∙ length-take-le (t .unbalanced) (t .constants) (omega (arith, within .constants-fit))
 
@@ -88,15 +107,6 @@ module _ {t : Table} (within : Within t) (room : length (t .constants) ≡ 4) wh
                 (omega (arith, how-many, length-groupsFrom t 1 (take (t .unbalanced) (t .constants))))),
           ))
 
-  pub table-fits : Fits layout (groupsIn t)
-  table-fits =
-      record {
-        few-constants = omega (arith, how-many, within .constants-fit);
-        few-rows = few;
-        few-balanced = omega (arith, length-groupAt t 0, within .sizes-fit 0);
-      }
-    where
-      few : (h : Group) → List·Memᴰ h (groupsIn t .constants) → length (h .rows) ≤ 16
-      few h m =
-          let s = groupsFrom-members t 1 (take (t .unbalanced) (t .constants)) m in
-          omega (arith, ap length (s .1), length-groupAt t (s .0), within .sizes-fit (s .0))
+-- so that the list of the pair that it is of is ascending
+pub table-ascending : {M : Mode} {L R : List ℕ} {t : Table} → TableOf M L R t → Ascending _<_ (keys M layout L R (groupsIn t))
+table-ascending {M} {L} {R} {t} of = keys-ascending (table-fits t (of .within)) M L R

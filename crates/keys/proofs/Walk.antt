@@ -16,6 +16,7 @@ use Rattle.table.specs.Table.{groupsIn, Within, TableOf}
 use Rattle.table.specs.declared.Table.{Table}
 use Rattle.keys.specs.declared.Standing.{Standing}
 use Rattle.keys.specs.declared.Standing.the-variants.{Candidate as IsCandidate, NoneBefore}
+use Rattle.keys.specs.declared.Next.{Next}
 use Rattle.keys.specs.declared.Next.the-variants.{Key, None}
 use Rattle.keys.specs.Reach.{Holds}
 use Rattle.keys.specs.Candidates.{Sized, Stands, on-candidate, between}
@@ -44,12 +45,12 @@ pub record Walked (t : Table) (start at : ℕ) : Type 0 where
   pub above : start ≤ at
   pub passed : Passed t start at
 
-module _ {t : Table} (room : length (t .constants) ≡ 4) {M : Mode} {L R : List ℕ} (full : M .empties ≡ false) (of : TableOf M L R t) where
+module _ {t : Table} {M : Mode} {L R : List ℕ} (full : M .empties ≡ false) (of : TableOf M L R t) where
   -- a listed key is a candidate whose places are all reached, and the other way round
   listed-reached : {key : ℕ} → List·Memᴰ key (keys M layout L R (groupsIn t))
       → Candidate layout (groupsIn t) key × (allReached (taken (layout .new) (groupsIn t) (selectionAt layout (groupsIn t) key)) (t .places) ≡ true)
   listed-reached {key} m =
-      let h = listed-candidates (table-fits (of .within) room) M L R .0 m in (
+      let h = listed-candidates (table-fits t (of .within)) M L R .0 m in (
         h .0,
         ap (allReached (taken (layout .new) (groupsIn t) (selectionAt layout (groupsIn t) key))) (of .the-places)
             ∙ sym (admissible-reached M (layout .new) L R (groupsIn t) (selectionAt layout (groupsIn t) key) full) ∙ h .1,
@@ -58,19 +59,19 @@ module _ {t : Table} (room : length (t .constants) ≡ 4) {M : Mode} {L R : List
   reached-listed : {key : ℕ} → Candidate layout (groupsIn t) key
       → allReached (taken (layout .new) (groupsIn t) (selectionAt layout (groupsIn t) key)) (t .places) ≡ true → List·Memᴰ key (keys M layout L R (groupsIn t))
   reached-listed {key} candidate e =
-      listed-candidates (table-fits (of .within) room) M L R .1 (
+      listed-candidates (table-fits t (of .within)) M L R .1 (
         candidate,
         admissible-reached M (layout .new) L R (groupsIn t) (selectionAt layout (groupsIn t) key) full
             ∙ sym (ap (allReached (taken (layout .new) (groupsIn t) (selectionAt layout (groupsIn t) key))) (of .the-places)) ∙ e,
       )
 
-module _ {t : Table} (room : length (t .constants) ≡ 4) {start at : ℕ} (passed : Passed t start at) where
+module _ {t : Table} {start at : ℕ} (passed : Passed t start at) where
   -- where no candidate stands before a later number, the walk goes on there
   pub passed-between : {later : ℕ} → ((other : ℕ) → at ≤ other → other < later → Candidate layout (groupsIn t) other → ⊥) → Passed t start later
   passed-between {later} none M L R full of other m h = go (decLt other later)
     where
       go : Dec (other < later) → later ≤ other
-      go (yes before) = absurd (none other (passed M L R full of other m h) before (listed-reached room full of m .0))
+      go (yes before) = absurd (none other (passed M L R full of other m h) before (listed-reached full of m .0))
       go (no beyond) = omega arith
 
   -- where the number itself is not admissible, at the next one
@@ -78,14 +79,14 @@ module _ {t : Table} (room : length (t .constants) ≡ 4) {start at : ℕ} (pass
   passed-weighed missed M L R full of other m h = go (ℕ-discrete at other)
     where
       go : Dec (at ≡ other) → at + 1 ≤ other
-      go (yes same) = absurd (true-is-not-false (sym (listed-reached room full of (subst (λ k. List·Memᴰ k (keys M layout L R (groupsIn t))) (sym same) m) .1) ∙ missed))
+      go (yes same) = absurd (true-is-not-false (sym (listed-reached full of (subst (λ k. List·Memᴰ k (keys M layout L R (groupsIn t))) (sym same) m) .1) ∙ missed))
       go (no differs) = omega (arith, passed M L R full of other m h)
 
   -- an admissible candidate is the least listed key from the start on
   pub passed-found : start ≤ at → Candidate layout (groupsIn t) at
       → allReached (taken (layout .new) (groupsIn t) (selectionAt layout (groupsIn t) at)) (t .places) ≡ true → OfItsList t (λ keys. LeastFrom keys start at)
   passed-found above candidate e M L R full of =
-      record { on-list = reached-listed room full of candidate e; at-or-above = above; least = passed M L R full of }
+      record { on-list = reached-listed full of candidate e; at-or-above = above; least = passed M L R full of }
 
   -- past the highest key there is none
   pub passed-all : 2 ^ 32 ≤ at → OfItsList t (λ keys. NoneFrom keys start)
@@ -93,7 +94,7 @@ module _ {t : Table} (room : length (t .constants) ≡ 4) {start at : ℕ} (pass
     where
       go : Dec (other < start) → other < start
       go (yes before) = before
-      go (no above) = absurd (omega (arith, passed M L R full of other m (omega arith), keys-below (table-fits (of .within) room) M L R m))
+      go (no above) = absurd (omega (arith, passed M L R full of other m (omega arith), keys-below (table-fits t (of .within)) M L R m))
 
 between-none : {G : Groups} {key later : ℕ} → Stands G key (NoneBefore later)
     → (key < later) × ((other : ℕ) → key ≤ other → other < later → Candidate layout G other → ⊥)
@@ -106,12 +107,12 @@ stands-candidate (on-candidate candidate) = candidate
 module _ {t : Table} {start at : ℕ} (within : Within t) (walked : Walked t start at) {standing : Standing}
     (told : (G : Groups) → Sized (t .sizes) (t .unbalanced) G → Fits layout G → Stands G at standing) where
   here : Stands (groupsIn t) at standing
-  here = told (groupsIn t) (table-sized within (walked .room)) (table-fits within (walked .room))
+  here = told (groupsIn t) (table-sized within (walked .room)) (table-fits t within)
 
   pub step-between : {later : ℕ} → standing ≡ NoneBefore later → (at < later) × Walked t start later
   step-between {later} e =
       let h = between-none (subst (Stands (groupsIn t) at) e here) in
-      (h .0, record { room = walked .room; above = omega (arith, walked .above, h .0); passed = passed-between (walked .room) (walked .passed) (h .1) })
+      (h .0, record { room = walked .room; above = omega (arith, walked .above, h .0); passed = passed-between (walked .passed) (h .1) })
 
   module _ (e : standing ≡ IsCandidate) {reaches : Bool}
       (weighed : (G : Groups) → Holds (t .rows) (t .places) (t .unbalanced) (getD (t .sizes) 0 0) G → Fits layout G → Candidate layout G at
@@ -120,18 +121,31 @@ module _ {t : Table} {start at : ℕ} (within : Within t) (walked : Walked t sta
     candidate = stands-candidate (subst (Stands (groupsIn t) at) e here)
 
     tells : reaches ≡ allReached (taken (layout .new) (groupsIn t) (selectionAt layout (groupsIn t) at)) (t .places)
-    tells = weighed (groupsIn t) (table-holds within (walked .room)) (table-fits within (walked .room)) candidate
+    tells = weighed (groupsIn t) (table-holds within (walked .room)) (table-fits t within) candidate
 
     pub step-weighed : reaches ≡ false → Walked t start (at + 1)
     step-weighed missed =
         record {
           room = walked .room;
           above = omega (arith, walked .above);
-          passed = passed-weighed (walked .room) (walked .passed) (sym tells ∙ missed);
+          passed = passed-weighed (walked .passed) (sym tells ∙ missed);
         }
 
     pub step-found : reaches ≡ true → OfItsList t (λ keys. NextFrom keys start (Key at))
-    step-found e M L R full of = found (passed-found (walked .room) (walked .passed) (walked .above) candidate (sym tells ∙ e) M L R full of)
+    step-found e M L R full of = found (passed-found (walked .passed) (walked .above) candidate (sym tells ∙ e) M L R full of)
 
 pub step-end : {t : Table} {start at : ℕ} → Walked t start at → 2 ^ 32 ≤ at → OfItsList t (λ keys. NextFrom keys start None)
-step-end walked end M L R full of = nothing (passed-all (walked .room) (walked .passed) end M L R full of)
+step-end walked end M L R full of = nothing (passed-all (walked .passed) end M L R full of)
+
+-- What a next key tells.
+pub next-key : {keys : List ℕ} {bound key : ℕ} {next : Next} → NextFrom keys bound next → next ≡ Key key → LeastFrom keys bound key
+next-key {keys} {bound} told e = of-key (subst (NextFrom keys bound) e told)
+  where
+    of-key : {key : ℕ} → NextFrom keys bound (Key key) → LeastFrom keys bound key
+    of-key (found least) = least
+
+pub next-none : {keys : List ℕ} {bound : ℕ} {next : Next} → NextFrom keys bound next → next ≡ None → NoneFrom keys bound
+next-none {keys} {bound} told e = of-none (subst (NextFrom keys bound) e told)
+  where
+    of-none : NextFrom keys bound None → NoneFrom keys bound
+    of-none (nothing none) = none

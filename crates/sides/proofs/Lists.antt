@@ -1,14 +1,14 @@
 -- Facts about lists: members and places, filtered lists one member at a time, and lists that are written from the front.
 use mathlib.Core.Path.{_≡_, refl, sym, ap, _∙_, fun-ext}
 use mathlib.Core.Bool.{Bool, true, false}
-use mathlib.Core.List.{List, [], _∷_, _++_, map, List·Memᴰ, List·Memᴰ·head, List·Memᴰ·tail, append-assoc}
+use mathlib.Core.List.{List, [], _∷_, _++_, map, List·Memᴰ, List·Memᴰ·head, List·Memᴰ·tail, List·Memᴰ·not-nil}
 use Prim.Native.Nat.{ℕ, zero, suc, _+_, _-_, _≤_, _<_}
 use native.Mathlib.Nat.{not-suc-le-zero, le-of-suc-le-suc, zero-add, sub-zero, zero-sub, suc-sub-suc}
 use native.Mathlib.Numerals.{add-one}
 use native.Mathlib.Omega.{arith}
 use lib.ListN.{length, getD, drop, set, replicate, length-append, length-set}
 use lib.Seq.{drop-cons, set-append-seam, append-snoc}
-use Rattle.ac.specs.Lists.{from, below, keep, filter}
+use Rattle.ac.specs.Lists.{from, below, keep, filter, Ascending, none, next}
 use Rattle.sides.specs.Counting.{Written}
 
 -- a member stands at some place
@@ -72,3 +72,21 @@ written-more list before after x written fits =
 
     less : length list ≤ length before
     less = omega (arith, room)
+
+-- what is filtered from the numbers from a on is at least a
+filter-least : (p : ℕ → Bool) (a n b : ℕ) → List·Memᴰ b (filter p (from a n)) → a ≤ b
+filter-least p a zero b m = absurd (List·Memᴰ·not-nil m)
+filter-least p a (suc n) b m = go (p a) (λ m′. omega (arith, filter-least p (suc a) n b m′)) m
+  where
+    go : (t : Bool) → (List·Memᴰ b (filter p (from (suc a) n)) → a ≤ b) → List·Memᴰ b (keep t a (filter p (from (suc a) n))) → a ≤ b
+    go true rest (List·Memᴰ·head e) = omega (arith, e)
+    go true rest (List·Memᴰ·tail m′) = rest m′
+    go false rest m′ = rest m′
+
+pub filter-ascending : (p : ℕ → Bool) (a n : ℕ) → Ascending _<_ (filter p (from a n))
+filter-ascending p a zero = none
+filter-ascending p a (suc n) = go (p a) (filter-ascending p (suc a) n)
+  where
+    go : (t : Bool) → Ascending _<_ (filter p (from (suc a) n)) → Ascending _<_ (keep t a (filter p (from (suc a) n)))
+    go true rest = next (λ b m. filter-least p (suc a) n b m) rest
+    go false rest = rest

@@ -5,7 +5,6 @@ use mathlib.Core.Bool.{Bool, true, false, not, _&&_}
 use mathlib.Core.Logic.{_↔_, inl, inr}
 use mathlib.Core.List.{List, [], _∷_, _++_, map, List·Memᴰ}
 use Prim.Native.Nat.{ℕ, zero, suc, _+_, _-_, _*_, _≤_, _<_}
-use native.Mathlib.Decide.{decLe}
 use native.Mathlib.Omega.{arith}
 use lib.ListN.{length, getD, take, length-map, List·getD-append, List·getD-map}
 use lib.Seq.{take-at}
@@ -23,6 +22,7 @@ use Rattle.sides.specs.declared.Pair.{Pair}
 use Rattle.sides.specs.declared.Variables.{Variables}
 use Rattle.sides.specs.declared.Constants.{Constants}
 use Rattle.sides.proofs.Lists.{filter-ascending}
+use Rattle.sides.proofs.Telling.{at-most}
 use Rattle.sides.proofs.Lowest.{natAbs-difference}
 
 -- the places in use
@@ -76,14 +76,6 @@ pub record Within (limits : Limits) (M : Mode) (L R : List ℕ) : Type 0 where
   pub few-constants : length (unbalanced M L R) ≤ limits .constants
   pub near-left : (atom : ℕ) → excess L R atom ≤ limits .net-count
   pub near-right : (atom : ℕ) → excess R L atom ≤ limits .net-count
-
--- what is not above a limit is at most the limit
-at-most : (m n : ℕ) → (n < m → ⊥) → m ≤ n
-at-most m n not-above = go (decLe m n)
-  where
-    go : Dec (m ≤ n) → m ≤ n
-    go (yes fits) = fits
-    go (no above) = absurd (not-above (omega arith))
 
 pub within-limits : {limits : Limits} {M : Mode} {L R : List ℕ} → NoneOf (PairGiven limits M L R) (7 ∷ 8 ∷ 9 ∷ 10 ∷ 11 ∷ []) → Within limits M L R
 within-limits {limits} {M} {L} {R} (also not7 (also not8 (also not9 (also not10 (also not11 end))))) =

@@ -66,3 +66,7 @@ pub record Lowest (limits : Limits) (L R : List ℕ) (found : Frequent) : Type 0
   pub far : (atom : ℕ) → found ≡ Atom atom → Far limits L R atom
   pub lowest : (atom lower : ℕ) → found ≡ Atom atom → lower < atom → Far limits L R lower → ⊥
   pub nowhere : (atom : ℕ) → found ≡ Nothing → Far limits L R atom → ⊥
+
+abbrev pub isAtom : Frequent → Bool
+isAtom (Atom atom) = true
+isAtom Nothing = false

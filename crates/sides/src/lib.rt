@@ -9,7 +9,7 @@ ghost use Rattle.ac.specs.Pair.{Mode, unifying, variables, unbalanced};
 ghost use Rattle.sides.specs.Limits.{limits};
 ghost use Rattle.sides.specs.Given.{WrongLength, WrongByte};
 ghost use Rattle.sides.specs.Parted.{excess, PartedOf};
-ghost use Rattle.sides.specs.Counting.{Tells, Occurrences, Moves, CountsOf, Collected, Gathered, Lowest, isOf, allOf};
+ghost use Rattle.sides.specs.Counting.{Tells, Occurrences, Moves, CountsOf, Collected, Gathered, Lowest, isOf, allOf, isAtom};
 
 // The limits of document 01's table.
 const LEAST_ATOMS: usize = 1;
@@ -241,6 +241,16 @@ fn too_frequent(counts: Counts) -> Frequent
     Frequent::Nothing
 }
 
+// Whether there is such an atom.
+fn is_atom(frequent: Frequent) -> bool
+    ensures { λ r. ⌜ r ≡ isAtom frequent ⌝ }
+{
+    match frequent {
+        Frequent::Atom(_) => true,
+        Frequent::Nothing => false,
+    }
+}
+
 // A refusal, with a pair that says nothing.
 fn refused(refusal: Refusal) -> Parted
     ensures { λ r. ⌜ r .verdict ≡ Verdict.Refused refusal ⌝ }
@@ -273,14 +283,16 @@ fn part(counts: Counts) -> Parted
 {
     let variables = variables_of(counts);
     let constants = constants_of(counts);
-    let frequent = too_frequent(counts);
-    if MOST_VARIABLES < variables.count {
+    let many_variables = MOST_VARIABLES < variables.count;
+    let far_net_count = is_atom(too_frequent(counts));
+    let many_constants = MOST_CONSTANTS < constants.count;
+    if many_variables {
         return refused(Refusal::Variables);
     }
-    if let Frequent::Atom(_) = frequent {
+    if far_net_count {
         return refused(Refusal::NetCount);
     }
-    if MOST_CONSTANTS < constants.count {
+    if many_constants {
         return refused(Refusal::Constants);
     }
     let pair = Pair {

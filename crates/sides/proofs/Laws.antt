@@ -1,22 +1,21 @@
 -- Laws of a pair that was taken apart, for the crates above: what its arrays hold, the limits that it keeps, and that the parts of the net counts
 -- have the same differences as the occurrences, so that equations in them have the same solutions.
-use mathlib.Core.Path.{_≡_, refl, sym, ap, ap₂, _∙_, subst}
-use mathlib.Core.Bool.{Bool, true, false, not, _&&_}
+use mathlib.Core.Path.{_≡_, sym, ap, ap₂, _∙_}
+use mathlib.Core.Bool.{true, false, not, _&&_}
 use mathlib.Core.Logic.{_↔_, inl, inr}
-use mathlib.Core.List.{List, [], _∷_, _++_, map, List·Memᴰ}
-use Prim.Native.Nat.{ℕ, zero, suc, _+_, _-_, _*_, _≤_, _<_}
+use mathlib.Core.List.{List, [], _∷_, map, List·Memᴰ}
+use Prim.Native.Nat.{ℕ, _+_, _*_, _≤_, _<_}
 use native.Mathlib.Omega.{arith}
-use lib.ListN.{length, getD, take, length-map, List·getD-append, List·getD-map}
+use lib.ListN.{length, take, length-map}
 use lib.Seq.{take-at}
 use lib.IntN.{natAbs}
 use lib.Dec.{eqb}
 use Rattle.ac.specs.Lists.{Ascending}
 use Rattle.ac.specs.Pair.{Mode, count, net, occurs, variables, unbalanced}
-use Rattle.ac.specs.Rows.{Least, _≼_}
 use Rattle.ac.specs.Equation.{dot, Equation, Solves, Minimal, balancedEquation, equationOf}
 use Rattle.numbers.specs.First.{NoneOf, end, also}
 use Rattle.sides.specs.Limits.{Limits}
-use Rattle.sides.specs.Given.{Side, WrongByte, PairGiven, side-length, no-atom, many-variables, far-net-count, many-constants}
+use Rattle.sides.specs.Given.{Side, PairGiven, side-length, no-atom, many-variables, far-net-count, many-constants}
 use Rattle.sides.specs.Parted.{padded, excess, Held, PairOf}
 use Rattle.sides.specs.declared.Pair.{Pair}
 use Rattle.sides.specs.declared.Variables.{Variables}

@@ -6,7 +6,7 @@ use Prim.Native.Nat.{ℕ, zero, suc, _+_, _-_, _≤_, _<_}
 use native.Mathlib.Nat.{not-suc-le-zero, le-of-suc-le-suc, zero-add, sub-zero, zero-sub, suc-sub-suc}
 use native.Mathlib.Numerals.{add-one}
 use native.Mathlib.Omega.{arith}
-use lib.ListN.{length, getD, drop, set, replicate, length-append, length-set}
+use lib.ListN.{length, getD, drop, set, replicate, length-append}
 use lib.Seq.{drop-cons, set-append-seam, append-snoc}
 use Rattle.ac.specs.Lists.{from, below, keep, filter, Ascending, none, next}
 use Rattle.sides.specs.Counting.{Written}

@@ -2,22 +2,19 @@
 use mathlib.Core.Path.{_≡_, refl, subst}
 use mathlib.Core.Bool.{Bool, _||_}
 use mathlib.Core.Logic.{_⊎_, inl, inr, ⊎-elim}
-use mathlib.Core.List.{List, [], _∷_}
-use Prim.Native.Nat.{ℕ, _≤_, _<_}
+use mathlib.Core.List.{List, _∷_}
+use Prim.Native.Nat.{ℕ, _<_}
 use native.Mathlib.Omega.{arith}
-use lib.ListN.{length}
 use lib.Dec.{ltb}
 use Rattle.ac.specs.Pair.{Mode, variables, unbalanced}
 use Rattle.numbers.specs.Numbers.{numberOf}
-use Rattle.numbers.specs.First.{First, here, later, NoneOf, end, also}
+use Rattle.numbers.specs.First.{First, later, NoneOf, also}
 use Rattle.numbers.specs.declared.Refusal.{Refusal}
-use Rattle.numbers.specs.declared.Refusal.the-variants.{SideLength, NoAtom, Variables, NetCount, Constants}
 use Rattle.sides.specs.Limits.{Limits}
-use Rattle.sides.specs.Given.{Side, left, right, WrongLength, WrongByte, Far, PairGiven, side-length, no-atom, many-variables, far-net-count, many-constants}
-use Rattle.sides.specs.Parted.{excess, PairOf, PartedOf}
+use Rattle.sides.specs.Given.{left, right, WrongLength, WrongByte, PairGiven, side-length, no-atom, many-variables, far-net-count, many-constants}
+use Rattle.sides.specs.Parted.{PairOf, PartedOf}
 use Rattle.sides.specs.Counting.{Tells, Gathered, Lowest, isAtom}
 use Rattle.sides.specs.declared.Pair.{Pair}
-use Rattle.sides.specs.declared.Verdict.{Verdict}
 use Rattle.sides.specs.declared.Verdict.the-variants.{Refused, Accepted}
 use Rattle.sides.specs.declared.Parted.{Parted}
 use Rattle.sides.specs.declared.Frequent.{Frequent}
@@ -25,8 +22,8 @@ use Rattle.sides.specs.declared.Frequent.the-variants.{Atom, Nothing}
 use Rattle.sides.proofs.Telling.{tells-true, tells-false, tells-less, tells-either, tells-same, at-most}
 
 module _ {numbers : List ℕ} {limits : Limits} {M : Mode} {L R : List ℕ} {parted : Parted} where
-  pub parted-refused : (refusal : Refusal) → parted .verdict ≡ Refused refusal → First (PairGiven limits M L R) numbers (numberOf refusal) → PartedOf numbers limits M L R parted
-  parted-refused refusal verdict first =
+  pub parted-refused : {refusal : Refusal} → parted .verdict ≡ Refused refusal → First (PairGiven limits M L R) numbers (numberOf refusal) → PartedOf numbers limits M L R parted
+  parted-refused {refusal} verdict first =
       record {
         refused = λ other e.
             let same : refusal ≡ other = cc (verdict, e) in

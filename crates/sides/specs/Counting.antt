@@ -8,7 +8,7 @@ use lib.Dec.{ltb, eqb}
 use Rattle.ac.specs.Pair.{Mode, atoms, count, variables, unbalanced}
 use Rattle.sides.specs.Limits.{Limits}
 use Rattle.sides.specs.Given.{Far}
-use Rattle.sides.specs.Parted.{excess, Held}
+use Rattle.sides.specs.Parted.{Held}
 use Rattle.sides.specs.declared.Counts.{Counts}
 use Rattle.sides.specs.declared.Kind.{Kind}
 use Rattle.sides.specs.declared.Kind.the-variants.{Variable, Constant}

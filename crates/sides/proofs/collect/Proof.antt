@@ -1,10 +1,9 @@
 -- `sides::collect` meets its contract. The loop's invariant: the atoms passed are visited. Assumes nothing.
-use mathlib.Core.Path.{_≡_, refl, sym, ap, _∙_}
-use mathlib.Core.Bool.{Bool, true, false}
+use mathlib.Core.Path.{_≡_, sym, ap, _∙_}
 use mathlib.Core.Logic.{⊎-elim}
-use Prim.Native.Nat.{ℕ, _≤_, _<_, _-_, _+_}
+use Prim.Native.Nat.{_≤_, _-_}
 use native.Mathlib.Omega.{arith}
-use lib.ListN.{length, getD, set}
+use lib.ListN.{set}
 use Rattle.sides.proofs.Gathering.{isCounted, exceeds, collected-all}
 use Rattle.sides.proofs.Collecting.{Visited, visited-none, visited-more, visited-skip}
 use Rattle.sides.proofs.collect.Statement.{statement}

@@ -5,10 +5,9 @@ use Prim.Native.Nat.{ℕ}
 use lib.Dec.{ltb}
 use Rattle.ac.specs.Pair.{Mode}
 use Rattle.numbers.specs.First.{here, later, also, end}
-use Rattle.numbers.specs.declared.Refusal.the-variants.{Variables, NetCount, Constants}
 use Rattle.sides.specs.Limits.{limits}
 use Rattle.sides.specs.Given.{PairGiven}
-use Rattle.sides.specs.Counting.{Tells, CountsOf, isAtom}
+use Rattle.sides.specs.Counting.{Tells, CountsOf}
 use Rattle.sides.specs.declared.Counts.{Counts}
 use Rattle.sides.proofs.Parting.{parted-refused, parted-accepted, tells-9, tells-10, tells-11, pair-held}
 use Rattle.sides.proofs.part.Statement.{statement}
@@ -46,7 +45,7 @@ refused-requires c κs = tt
 returns : tie.Need-returns
 returns c M L R counted =
     let made = c .before .before in
-    parted-refused Variables (c .refused .ensures) (here (nine made M L R counted .if-true (c .before .if1 .taken)))
+    parted-refused (c .refused .ensures) (here (nine made M L R counted .if-true (c .before .if1 .taken)))
 
 refused-requires-2 : tie.Need-refused-requires-2
 refused-requires-2 c κs = tt
@@ -54,7 +53,7 @@ refused-requires-2 c κs = tt
 returns-2 : tie.Need-returns-2
 returns-2 c M L R counted =
     let made = c .before .before .before in
-    parted-refused NetCount (c .refused2 .ensures)
+    parted-refused (c .refused2 .ensures)
     (later (nine made M L R counted .if-false (c .before .before .if1 .left)) (here (ten made M L R counted .if-true (c .before .if2 .taken))))
 
 refused-requires-3 : tie.Need-refused-requires-3
@@ -63,7 +62,7 @@ refused-requires-3 c κs = tt
 returns-3 : tie.Need-returns-3
 returns-3 c M L R counted =
     let made = c .before .before .before .before in
-    parted-refused Constants (c .refused3 .ensures)
+    parted-refused (c .refused3 .ensures)
     (later (nine made M L R counted .if-false (c .before .before .before .if1 .left))
     (later (ten made M L R counted .if-false (c .before .before .if2 .left))
     (here (eleven made M L R counted .if-true (c .before .if3 .taken)))))

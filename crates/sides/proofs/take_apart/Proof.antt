@@ -5,7 +5,6 @@ use Prim.Native.Nat.{ℕ}
 use denote.Ref.{now}
 use Rattle.ac.specs.Pair.{unifying}
 use Rattle.numbers.specs.First.{here, later}
-use Rattle.numbers.specs.declared.Refusal.the-variants.{SideLength, NoAtom}
 use Rattle.sides.specs.Limits.{limits}
 use Rattle.sides.specs.Given.{PairGiven, side-length, no-atom, left, right}
 use Rattle.sides.specs.Counting.{Tells}
@@ -50,7 +49,7 @@ refused-requires : tie.Need-refused-requires
 refused-requires c κs = tt
 
 returns : tie.Need-returns
-returns c = parted-refused SideLength (c .refused .ensures) (here (seven (c .before .before) .if-true (c .before .if1 .taken)))
+returns c = parted-refused (c .refused .ensures) (here (seven (c .before .before) .if-true (c .before .if1 .taken)))
 
 refused-requires-2 : tie.Need-refused-requires-2
 refused-requires-2 c κs = tt
@@ -58,7 +57,7 @@ refused-requires-2 c κs = tt
 returns-2 : tie.Need-returns-2
 returns-2 c =
     let made = c .before .before .before in
-    parted-refused NoAtom (c .refused2 .ensures)
+    parted-refused (c .refused2 .ensures)
     (later (seven made .if-false (c .before .before .if1 .left)) (here (eight made .if-true (c .before .if2 .taken))))
 
 moving-variables-requires : tie.Need-moving-variables-requires

@@ -6,7 +6,7 @@ use mathlib.Core.Logic.{_↔_, inl, inr}
 use mathlib.Core.List.{List, [], _∷_, map, List·Memᴰ}
 use Prim.Native.Nat.{ℕ, _+_, _*_, _≤_, _<_}
 use native.Mathlib.Omega.{arith}
-use lib.ListN.{length, take, length-map}
+use lib.ListN.{length, getD, take, length-map, List·getD-append}
 use lib.Seq.{take-at}
 use lib.IntN.{natAbs}
 use lib.Dec.{eqb}
@@ -20,14 +20,14 @@ use Rattle.sides.specs.Parted.{padded, excess, Held, PairOf}
 use Rattle.sides.specs.declared.Pair.{Pair}
 use Rattle.sides.specs.declared.Variables.{Variables}
 use Rattle.sides.specs.declared.Constants.{Constants}
-use Rattle.sides.proofs.Lists.{filter-ascending}
+use Rattle.sides.proofs.Lists.{getD-map, filter-ascending}
 use Rattle.sides.proofs.Telling.{at-most}
 use Rattle.sides.proofs.Lowest.{natAbs-difference}
 
--- the places in use
 take-padded : (size number : ℕ) (list : List ℕ) → number ≡ length list → take number (padded size list) ≡ list
 take-padded size number list e = take-at list _ number (sym e)
 
+-- the places in use, as lists
 module _ {size : ℕ} {L R found atoms left right : List ℕ} {number : ℕ} (held : Held size L R found atoms number left right) where
   pub take-atoms : take number atoms ≡ found
   take-atoms = rw (held .the-atoms) (take-padded size number found (held .how-many))
@@ -37,6 +37,20 @@ module _ {size : ℕ} {L R found atoms left right : List ℕ} {number : ℕ} (he
 
   pub take-right : take number right ≡ map (excess R L) found
   take-right = rw (held .right-parts) (take-padded size number (map (excess R L) found) (held .how-many ∙ sym (length-map found (excess R L))))
+
+  -- and one by one
+  module _ (i : ℕ) (used : i < number) where
+    in-found : i < length found
+    in-found = omega (arith, held .how-many)
+
+    pub atom-at : getD atoms i 0 ≡ getD found i 0
+    atom-at = rw (held .the-atoms) (List·getD-append found _ 0 i in-found)
+
+    pub left-at : getD left i 0 ≡ excess L R (getD found i 0)
+    left-at = rw (held .left-parts) (List·getD-append (map (excess L R) found) _ 0 i (rw length-map in-found) ∙ getD-map (excess L R) found i in-found)
+
+    pub right-at : getD right i 0 ≡ excess R L (getD found i 0)
+    right-at = rw (held .right-parts) (List·getD-append (map (excess R L) found) _ 0 i (rw length-map in-found) ∙ getD-map (excess R L) found i in-found)
 
 same-variables : (v w : Variables) → v .atoms ≡ w .atoms → v .count ≡ w .count → v .left ≡ w .left → v .right ≡ w .right → v ≡ w
 same-variables v w same-atoms same-count same-left same-right =

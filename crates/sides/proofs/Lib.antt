@@ -6,3 +6,4 @@ pub mod Collecting
 pub mod Gathering
 pub mod Parting
 pub mod Laws
+mod Examples

@@ -22,6 +22,12 @@ at-member [] i h = absurd (not-suc-le-zero h)
 at-member (x ∷ xs) zero h = List·Memᴰ·head refl
 at-member (x ∷ xs) (suc i) h = List·Memᴰ·tail (at-member xs i (le-of-suc-le-suc h))
 
+-- a list that is made place by place from another has its values there
+pub getD-map : (f : ℕ → ℕ) (xs : List ℕ) (i : ℕ) → i < length xs → getD (map f xs) i 0 ≡ f (getD xs i 0)
+getD-map f [] i h = absurd (not-suc-le-zero h)
+getD-map f (x ∷ xs) zero h = refl
+getD-map f (x ∷ xs) (suc i) h = getD-map f xs i (le-of-suc-le-suc h)
+
 pub map-append : (f : ℕ → ℕ) (xs ys : List ℕ) → map f (xs ++ ys) ≡ map f xs ++ map f ys
 map-append f [] ys = refl
 map-append f (x ∷ xs) ys = ap (λ (l : List ℕ). f x ∷ l) (map-append f xs ys)
@@ -31,14 +37,13 @@ drop-replicate n zero = ap (λ (m : ℕ). replicate m 0) (sym (sub-zero n))
 drop-replicate zero (suc k) = ap (λ (m : ℕ). replicate m 0) (sym (zero-sub (suc k)))
 drop-replicate (suc n) (suc k) = drop-replicate n k ∙ ap (λ (m : ℕ). replicate m 0) (sym (suc-sub-suc n k))
 
-module _ (p : ℕ → Bool) where
-  keep-append : (b : Bool) (x : ℕ) (xs ys : List ℕ) → keep b x xs ++ ys ≡ keep b x (xs ++ ys)
-  keep-append true x xs ys = refl
-  keep-append false x xs ys = refl
+keep-append : (b : Bool) (x : ℕ) (xs ys : List ℕ) → keep b x xs ++ ys ≡ keep b x (xs ++ ys)
+keep-append true x xs ys = refl
+keep-append false x xs ys = refl
 
-  filter-append : (xs ys : List ℕ) → filter p (xs ++ ys) ≡ filter p xs ++ filter p ys
-  filter-append [] ys = refl
-  filter-append (x ∷ xs) ys = ap (λ (l : List ℕ). keep (p x) x l) (filter-append xs ys) ∙ sym (keep-append (p x) x (filter p xs) (filter p ys))
+filter-append : (p : ℕ → Bool) (xs ys : List ℕ) → filter p (xs ++ ys) ≡ filter p xs ++ filter p ys
+filter-append p [] ys = refl
+filter-append p (x ∷ xs) ys = ap (λ (l : List ℕ). keep (p x) x l) (filter-append p xs ys) ∙ sym (keep-append (p x) x (filter p xs) (filter p ys))
 
 -- the last of the numbers from a on
 from-last : (a n : ℕ) → from a (suc n) ≡ from a n ++ (a + n) ∷ []

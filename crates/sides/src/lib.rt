@@ -46,11 +46,13 @@ pub struct Constants {
     pub right: [u8; 4],
 }
 
+// A pair taken apart.
 pub struct Pair {
     pub variables: Variables,
     pub constants: Constants,
 }
 
+// Whether the sides are refused, and why.
 pub enum Verdict {
     Refused(Refusal),
     Accepted,
@@ -145,7 +147,7 @@ fn distance(a: u8, b: u8) -> u8
     if a < b { b - a } else { a - b }
 }
 
-// Stores the byte at its place, where the list has it.
+// Stores the byte at its place, where the list reaches so far.
 fn put(list: &mut [u8], place: usize, byte: u8)
     ensures { λ _. ⌜ now (list .exit) ≡ set (now (list .entry)) place byte ⌝ }
 {
@@ -154,7 +156,7 @@ fn put(list: &mut [u8], place: usize, byte: u8)
     }
 }
 
-// Whether the atom is one of its kind in the pair that has these counts.
+// Whether an atom is one of the kind, from whether it moves and how often it stands on the left and on the right.
 fn is_of(kind: Kind, moves: bool, left: u8, right: u8) -> bool
     ensures { λ r. ⌜ r ≡ isOf kind moves left right ⌝ }
 {
@@ -227,7 +229,7 @@ fn constants_of(counts: Counts) -> Constants
     }
 }
 
-// The lowest atom whose net count is too far from 0.
+// The lowest atom whose net count is too far from 0: the first that is met, since they are tried in ascending order.
 fn too_frequent(counts: Counts) -> Frequent
     ensures { λ r. ⌜ ((M : Mode) (L R : List ℕ) → CountsOf M L R counts → Lowest limits L R r) ⌝ }
 {

@@ -60,6 +60,8 @@ add-atom c = omega arith
 loop-less : tie.Need-loop-less Inv-loop μ-loop
 loop-less c = omega arith
 
+-- On the way through the branch `w` has the calls of `put` at 2, 7 and 12, those of `excess` at 6 and 11, and from 15 on what the buffers and the
+-- count are after it; on the way past it these stand from 1 on.
 loop-again : tie.Need-loop-again Inv-loop μ-loop
 loop-again c =
     let at = c .before .before .before .before .before .before .loop in

@@ -65,20 +65,20 @@ pub struct Parted {
 }
 
 // What is counted of a pair: for each atom whether it moves, and how often it stands on the left and on the right.
-pub struct Counts {
-    pub moving: [bool; 128],
-    pub left: [u8; 128],
-    pub right: [u8; 128],
+struct Counts {
+    moving: [bool; 128],
+    left: [u8; 128],
+    right: [u8; 128],
 }
 
 // Which atoms are collected: the variables of a pair, or its unbalanced constants.
-pub enum Kind {
+enum Kind {
     Variable,
     Constant,
 }
 
 // The lowest atom whose net count is too far from 0, if there is one.
-pub enum Frequent {
+enum Frequent {
     Atom(u8),
     Nothing,
 }

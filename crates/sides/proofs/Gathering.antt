@@ -1,12 +1,12 @@
 -- From what is collected by the tables to the variables and unbalanced constants of the sides, and into arrays of zeros.
-use mathlib.Core.Path.{_≡_, refl, sym, ap, _∙_, subst, fun-ext}
-use mathlib.Core.Bool.{Bool, true, false}
-use mathlib.Core.List.{List, [], _∷_, _++_, map}
-use Prim.Native.Nat.{ℕ, _-_, _≤_, _<_}
+use mathlib.Core.Path.{_≡_, ap, _∙_, subst, fun-ext}
+use mathlib.Core.Bool.{Bool, false}
+use mathlib.Core.List.{List, _++_, map}
+use Prim.Native.Nat.{ℕ, _-_, _≤_}
 use lib.ListN.{length, getD, replicate, length-map, length-replicate}
 use Rattle.ac.specs.Lists.{filter}
 use Rattle.ac.specs.Pair.{Mode, atoms, count}
-use Rattle.sides.specs.Parted.{padded, excess, Held}
+use Rattle.sides.specs.Parted.{padded, excess}
 use Rattle.sides.specs.Counting.{Occurrences, CountsOf, Written, Collected, Gathered, isOf, allOf}
 use Rattle.sides.specs.declared.Counts.{Counts}
 use Rattle.sides.specs.declared.Kind.{Kind}

@@ -5,3 +5,5 @@ pub mod Lowest
 pub mod Collecting
 pub mod Gathering
 pub mod Parting
+pub mod Laws
+mod Examples

@@ -1,5 +1,5 @@
 -- The lowest atom whose net count is too far from 0, by the two tables.
-use mathlib.Core.Path.{_≡_, refl, sym, ap, ap₂, _∙_}
+use mathlib.Core.Path.{_≡_, refl, sym, ap, _∙_}
 use mathlib.Core.Bool.{Bool, true, false}
 use mathlib.Core.List.{List}
 use Prim.Native.Nat.{ℕ, zero, suc, _+_, _-_, _≤_, _<_}
@@ -12,7 +12,6 @@ use borrow.Author.Tests.{ltb-true, ltb-false}
 use Rattle.ac.specs.Pair.{count, net}
 use Rattle.sides.specs.Limits.{limits}
 use Rattle.sides.specs.Counting.{Occurrences, Lowest}
-use Rattle.sides.specs.declared.Frequent.{Frequent}
 use Rattle.sides.specs.declared.Frequent.the-variants.{Atom, Nothing}
 
 -- the distance of a difference from 0, by the two differences of naturals

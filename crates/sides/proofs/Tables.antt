@@ -4,7 +4,7 @@ use mathlib.Core.Bool.{Bool, true, false}
 use mathlib.Core.Logic.{inr}
 use mathlib.Core.List.{List, [], _∷_, _++_}
 use Prim.Native.Nat.{ℕ, zero, suc, _+_, _≤_, _<_}
-use native.Mathlib.Decide.{ℕ-discrete, decLe, decLt}
+use native.Mathlib.Decide.{ℕ-discrete, decLt}
 use native.Mathlib.Omega.{arith}
 use native.Mathlib.Numerals.{add-one}
 use lib.ListN.{length, getD, set, take, replicate, length-take, length-set, length-replicate, getD-replicate, List·getD-eq-default}
@@ -16,6 +16,7 @@ use Rattle.sides.specs.Limits.{limits}
 use Rattle.sides.specs.Given.{WrongLength, WrongByte}
 use Rattle.sides.specs.Counting.{Occurrences}
 use Rattle.sides.proofs.Lists.{at-member}
+use Rattle.sides.proofs.Telling.{at-most}
 
 same-self : (a : ℕ) → same a a ≡ 1
 same-self a = rw (eq-eqb a a refl)
@@ -65,18 +66,11 @@ counts-none = record { places = refl; entries = zero-entries 128 }
 
 -- what a side of the right length and of atoms alone says of its numbers
 pub right-length : (side : List ℕ) → (WrongLength limits side → ⊥) → length side ≤ 64
-right-length side right = go (decLe (length side) 64)
-  where
-    go : Dec (length side ≤ 64) → length side ≤ 64
-    go (yes fits) = fits
-    go (no long) = absurd (right (inr (omega arith)))
+right-length side right = at-most (length side) 64 (λ long. right (inr long))
 
 pub right-byte : (side : List ℕ) (i : ℕ) → i < length side → (WrongByte limits side → ⊥) → getD side i 0 < 128
-right-byte side i within right = go (decLt (getD side i 0) 128)
-  where
-    go : Dec (getD side i 0 < 128) → getD side i 0 < 128
-    go (yes fits) = fits
-    go (no high) = absurd (right (record { byte = getD side i 0; held = at-member side i within; above = omega arith }))
+right-byte side i within right =
+    at-most (suc (getD side i 0)) 128 (λ high. right (record { byte = getD side i 0; held = at-member side i within; above = omega arith }))
 
 -- a count so far is below the limit of a byte
 pub count-so-far : (side table : List ℕ) (i x : ℕ) → Occurrences (take i side) table → (WrongLength limits side → ⊥) → getD table x 0 ≤ 64

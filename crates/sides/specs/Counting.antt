@@ -8,7 +8,7 @@ use lib.Dec.{ltb, eqb}
 use Rattle.ac.specs.Pair.{Mode, atoms, count, variables, unbalanced}
 use Rattle.sides.specs.Limits.{Limits}
 use Rattle.sides.specs.Given.{Far}
-use Rattle.sides.specs.Parted.{excess, Held}
+use Rattle.sides.specs.Parted.{Held}
 use Rattle.sides.specs.declared.Counts.{Counts}
 use Rattle.sides.specs.declared.Kind.{Kind}
 use Rattle.sides.specs.declared.Kind.the-variants.{Variable, Constant}
@@ -66,3 +66,7 @@ pub record Lowest (limits : Limits) (L R : List ℕ) (found : Frequent) : Type 0
   pub far : (atom : ℕ) → found ≡ Atom atom → Far limits L R atom
   pub lowest : (atom lower : ℕ) → found ≡ Atom atom → lower < atom → Far limits L R lower → ⊥
   pub nowhere : (atom : ℕ) → found ≡ Nothing → Far limits L R atom → ⊥
+
+abbrev pub isAtom : Frequent → Bool
+isAtom (Atom atom) = true
+isAtom Nothing = false

@@ -1,7 +1,7 @@
 -- What taking two sides apart gives: the first number that is given, or the pair of exactly these sides.
 use Prim.Native.Nat.{ℕ, _-_}
 use mathlib.Core.Path.{_≡_}
-use mathlib.Core.List.{List, [], _∷_, _++_, map}
+use mathlib.Core.List.{List, _++_, map}
 use lib.ListN.{length, replicate}
 use Rattle.ac.specs.Pair.{Mode, count, variables, unbalanced}
 use Rattle.numbers.specs.Numbers.{numberOf}
@@ -10,7 +10,6 @@ use Rattle.numbers.specs.declared.Refusal.{Refusal}
 use Rattle.sides.specs.Limits.{Limits}
 use Rattle.sides.specs.Given.{PairGiven}
 use Rattle.sides.specs.declared.Pair.{Pair}
-use Rattle.sides.specs.declared.Verdict.{Verdict}
 use Rattle.sides.specs.declared.Verdict.the-variants.{Refused, Accepted}
 use Rattle.sides.specs.declared.Parted.{Parted}
 

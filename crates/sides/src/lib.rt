@@ -9,7 +9,7 @@ ghost use Rattle.ac.specs.Pair.{Mode, unifying, variables, unbalanced};
 ghost use Rattle.sides.specs.Limits.{limits};
 ghost use Rattle.sides.specs.Given.{WrongLength, WrongByte};
 ghost use Rattle.sides.specs.Parted.{excess, PartedOf};
-ghost use Rattle.sides.specs.Counting.{Tells, Occurrences, Moves, CountsOf, Collected, Gathered, Lowest, isOf, allOf};
+ghost use Rattle.sides.specs.Counting.{Tells, Occurrences, Moves, CountsOf, Collected, Gathered, Lowest, isOf, allOf, isAtom};
 
 // The limits of document 01's table.
 const LEAST_ATOMS: usize = 1;
@@ -46,11 +46,13 @@ pub struct Constants {
     pub right: [u8; 4],
 }
 
+// A pair taken apart.
 pub struct Pair {
     pub variables: Variables,
     pub constants: Constants,
 }
 
+// Whether the sides are refused, and why.
 pub enum Verdict {
     Refused(Refusal),
     Accepted,
@@ -63,20 +65,20 @@ pub struct Parted {
 }
 
 // What is counted of a pair: for each atom whether it moves, and how often it stands on the left and on the right.
-pub struct Counts {
-    pub moving: [bool; 128],
-    pub left: [u8; 128],
-    pub right: [u8; 128],
+struct Counts {
+    moving: [bool; 128],
+    left: [u8; 128],
+    right: [u8; 128],
 }
 
 // Which atoms are collected: the variables of a pair, or its unbalanced constants.
-pub enum Kind {
+enum Kind {
     Variable,
     Constant,
 }
 
 // The lowest atom whose net count is too far from 0, if there is one.
-pub enum Frequent {
+enum Frequent {
     Atom(u8),
     Nothing,
 }
@@ -145,7 +147,7 @@ fn distance(a: u8, b: u8) -> u8
     if a < b { b - a } else { a - b }
 }
 
-// Stores the byte at its place, where the list has it.
+// Stores the byte at its place, where the list reaches so far.
 fn put(list: &mut [u8], place: usize, byte: u8)
     ensures { λ _. ⌜ now (list .exit) ≡ set (now (list .entry)) place byte ⌝ }
 {
@@ -154,7 +156,7 @@ fn put(list: &mut [u8], place: usize, byte: u8)
     }
 }
 
-// Whether the atom is one of its kind in the pair that has these counts.
+// Whether an atom is one of the kind, from whether it moves and how often it stands on the left and on the right.
 fn is_of(kind: Kind, moves: bool, left: u8, right: u8) -> bool
     ensures { λ r. ⌜ r ≡ isOf kind moves left right ⌝ }
 {
@@ -227,7 +229,7 @@ fn constants_of(counts: Counts) -> Constants
     }
 }
 
-// The lowest atom whose net count is too far from 0.
+// The lowest atom whose net count is too far from 0: the first that is met, since they are tried in ascending order.
 fn too_frequent(counts: Counts) -> Frequent
     ensures { λ r. ⌜ ((M : Mode) (L R : List ℕ) → CountsOf M L R counts → Lowest limits L R r) ⌝ }
 {
@@ -239,6 +241,16 @@ fn too_frequent(counts: Counts) -> Frequent
         atom += 1;
     }
     Frequent::Nothing
+}
+
+// Whether there is such an atom.
+fn is_atom(frequent: Frequent) -> bool
+    ensures { λ r. ⌜ r ≡ isAtom frequent ⌝ }
+{
+    match frequent {
+        Frequent::Atom(_) => true,
+        Frequent::Nothing => false,
+    }
 }
 
 // A refusal, with a pair that says nothing.
@@ -273,14 +285,16 @@ fn part(counts: Counts) -> Parted
 {
     let variables = variables_of(counts);
     let constants = constants_of(counts);
-    let frequent = too_frequent(counts);
-    if MOST_VARIABLES < variables.count {
+    let many_variables = MOST_VARIABLES < variables.count;
+    let far_net_count = is_atom(too_frequent(counts));
+    let many_constants = MOST_CONSTANTS < constants.count;
+    if many_variables {
         return refused(Refusal::Variables);
     }
-    if let Frequent::Atom(_) = frequent {
+    if far_net_count {
         return refused(Refusal::NetCount);
     }
-    if MOST_CONSTANTS < constants.count {
+    if many_constants {
         return refused(Refusal::Constants);
     }
     let pair = Pair {

@@ -1,10 +1,9 @@
 -- `sides::collect` meets its contract. The loop's invariant: the atoms passed are visited. Assumes nothing.
-use mathlib.Core.Path.{_≡_, refl, sym, ap, _∙_}
-use mathlib.Core.Bool.{Bool, true, false}
+use mathlib.Core.Path.{_≡_, sym, ap, _∙_}
 use mathlib.Core.Logic.{⊎-elim}
-use Prim.Native.Nat.{ℕ, _≤_, _<_, _-_, _+_}
+use Prim.Native.Nat.{_≤_, _-_}
 use native.Mathlib.Omega.{arith}
-use lib.ListN.{length, getD, set}
+use lib.ListN.{set}
 use Rattle.sides.proofs.Gathering.{isCounted, exceeds, collected-all}
 use Rattle.sides.proofs.Collecting.{Visited, visited-none, visited-more, visited-skip}
 use Rattle.sides.proofs.collect.Statement.{statement}
@@ -61,6 +60,8 @@ add-atom c = omega arith
 loop-less : tie.Need-loop-less Inv-loop μ-loop
 loop-less c = omega arith
 
+-- On the way through the branch `w` has the calls of `put` at 2, 7 and 12, those of `excess` at 6 and 11, and from 15 on what the buffers and the
+-- count are after it; on the way past it these stand from 1 on.
 loop-again : tie.Need-loop-again Inv-loop μ-loop
 loop-again c =
     let at = c .before .before .before .before .before .before .loop in

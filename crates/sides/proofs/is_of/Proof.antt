@@ -1,7 +1,5 @@
 -- `sides::is_of` meets its contract: in each arm the kind is that arm's, and the tests say what passes. Assumes nothing.
 use borrow.Author.Needs.{needs}
-use borrow.Author.Tests.{lt-ltb}
-use native.Mathlib.Omega.{arith}
 use Rattle.sides.proofs.Collecting.{occurs-left, occurs-right}
 use Rattle.sides.proofs.is_of.Statement.{statement}
 use Rattle.sides.proofs.is_of.Tie as tie

@@ -1,6 +1,5 @@
 -- `sides::moving_variables` meets its contract. The loop's invariant: the table is true at the atoms passed and nowhere else. Assumes nothing.
 use mathlib.Core.Path.{_≡_, refl, subst}
-use mathlib.Core.Bool.{false}
 use Prim.Native.Nat.{ℕ, _≤_, _-_}
 use native.Mathlib.Omega.{arith}
 use lib.ListN.{length, length-set}

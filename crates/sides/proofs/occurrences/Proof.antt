@@ -1,13 +1,12 @@
 -- `sides::occurrences` meets its contract. The loop's invariant: the table counts the atoms passed. No count is above the side's length, so
 -- each fits a byte. Assumes nothing.
-use mathlib.Core.Path.{_≡_, refl, ap, subst}
+use mathlib.Core.Path.{subst}
 use mathlib.Core.List.{List}
 use Prim.Native.Nat.{ℕ, _≤_, _<_, _-_}
 use native.Mathlib.Omega.{arith}
-use lib.ListN.{length, length-set, length-take, take, getD}
+use lib.ListN.{length, take, getD}
 use lib.Seq.{take-all}
 use denote.Ref.{now}
-use Rattle.ac.specs.Pair.{count}
 use Rattle.sides.specs.Counting.{Occurrences}
 use Rattle.sides.proofs.Tables.{counts-none, counts-more, count-so-far, right-byte}
 use Rattle.sides.proofs.occurrences.Statement.{statement}

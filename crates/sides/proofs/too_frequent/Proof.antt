@@ -1,9 +1,7 @@
 -- `sides::too_frequent` meets its contract. The loop's invariant: at no atom passed are the two counts too far apart. Assumes nothing.
-use mathlib.Core.Path.{_≡_}
 use Prim.Native.Nat.{ℕ, _≤_, _<_, _-_}
 use native.Mathlib.Omega.{arith}
 use borrow.Author.Count.{below-none, below-more}
-use lib.ListN.{length, getD}
 use Rattle.sides.proofs.Lowest.{apart, lowest-at, lowest-nowhere}
 use Rattle.sides.proofs.too_frequent.Statement.{statement}
 use Rattle.sides.proofs.too_frequent.Tie as tie

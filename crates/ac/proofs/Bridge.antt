@@ -5,15 +5,15 @@ use native.Mathlib.Omega.{arith}
 use native.Mathlib.Nat.{mul-suc, mul-zero}
 use mathlib.Core.Path.{_≡_, refl, sym, ap, ap₂, _∙_}
 use mathlib.Core.Logic.{_↔_, Iff·symm}
-use mathlib.Core.Bool.{Bool, true, false, false≢true}
+use mathlib.Core.Bool.{false≢true}
 use mathlib.Core.List.{List, [], _∷_, map}
 use lib.ListN.{length, length-map}
-use lib.IntN.{ℤ, pos, negsuc, negℤ, sucℤ, _+ℤ_, _-ℤ_, _*ℤ_, +ℤ-assoc, +ℤ-comm, +ℤ-idl, +ℤ-idr, +ℤ-invr, negℤ-+ℤ, negℤ-negℤ, -ℤ-+ℤ-cancel, *ℤ-comm, sucℤ-*ℤ, zero-*ℤ}
+use lib.IntN.{pos, negℤ, _+ℤ_, _-ℤ_, _*ℤ_, +ℤ-assoc, +ℤ-comm, +ℤ-idr, +ℤ-invr, negℤ-+ℤ, negℤ-negℤ, -ℤ-+ℤ-cancel, *ℤ-comm, sucℤ-*ℤ, zero-*ℤ}
 use Rattle.ac.specs.Lists.{sum}
 use Rattle.ac.specs.Pair.{Mode, count, net, variables}
-use Rattle.ac.specs.Rows.{IsVector, weigh, weight, Least, BalancedRow, RowOf, _≼_}
+use Rattle.ac.specs.Rows.{IsVector, weigh, weight, BalancedRow, RowOf}
 use Rattle.ac.proofs.Vectors.{same-length, least-same}
-use Rattle.ac.specs.Equation.{dot, Equation, Solves, Minimal, balancedEquation, equationOf}
+use Rattle.ac.specs.Equation.{dot, Solves, Minimal, balancedEquation, equationOf}
 
 -- Differences of naturals in ℤ.
 

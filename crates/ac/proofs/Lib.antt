@@ -2,12 +2,15 @@ pub mod Vectors
 pub mod Order
 pub mod Bridge
 pub mod Nets
-pub mod Sums
 pub mod Pigeonhole
 pub mod Walk
 pub mod Bound
 pub mod Search
-pub mod Regions
+pub mod Placed
+pub mod Box
+pub mod Solutions
+pub mod Keeping
+pub mod Sums
 pub mod Groups
 pub mod Places
 pub mod Counts
@@ -22,6 +25,9 @@ pub mod Complete
 pub mod Independent
 pub mod Theorems
 pub mod WrongSelections
+pub mod WorkedRows
+pub mod WrongRows
+pub mod Pruning
 pub mod Members
 pub mod Keys
 pub mod Fields

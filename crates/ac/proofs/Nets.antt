@@ -1,12 +1,11 @@
 -- Only the differences of the coefficients count: two equations whose differences agree, place by place and in the offsets, have the same minimal solutions.
-use Prim.Native.Nat.{ℕ, zero, suc, _+_, _*_, _-_, _≤_, _<_}
+use Prim.Native.Nat.{ℕ, zero, suc, _+_, _*_, _-_, _<_}
 use native.Mathlib.Omega.{arith}
 use mathlib.Core.Path.{_≡_, refl, sym, ap, _∙_}
-use mathlib.Core.Logic.{_↔_, Iff·symm}
+use mathlib.Core.Logic.{_↔_}
 use mathlib.Core.List.{List, [], _∷_}
 use lib.ListN.{length, getD}
-use Rattle.ac.specs.Rows.{Least, _≼_}
-use Rattle.ac.specs.Equation.{dot, Equation, Solves, Minimal}
+use Rattle.ac.specs.Equation.{Equation, Solves, Minimal}
 use Rattle.ac.specs.Search.{beyond, netted}
 use Rattle.ac.proofs.Vectors.{same-length, least-same, weighted, at, dot-weighted}
 

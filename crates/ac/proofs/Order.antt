@@ -1,9 +1,9 @@
 -- Laws of ascending lists, and of the order on vectors by the first place that differs.
-use Prim.Native.Nat.{ℕ, zero, suc, _+_, _≤_, _<_}
+use Prim.Native.Nat.{ℕ}
 use native.Mathlib.Omega.{arith}
 use mathlib.Core.Path.{_≡_, refl, sym, ap₂, subst, _∙_}
-use mathlib.Core.Logic.{_↔_, _⊎_, inl, inr}
-use mathlib.Core.List.{List, [], _∷_, List·Memᴰ, List·Memᴰ·head, List·Memᴰ·tail, List·Memᴰ·not-nil, List·Memᴰ·cases-cons}
+use mathlib.Core.Logic.{_↔_}
+use mathlib.Core.List.{List, _∷_, List·Memᴰ, List·Memᴰ·head, List·Memᴰ·tail, List·Memᴰ·not-nil}
 use Rattle.ac.specs.Lists.{Ascending, Ascending.none, Ascending.next}
 use Rattle.ac.specs.Rows.{Exactly, _≼_, _≼_.place, _≺_, _≺_.here, _≺_.later}
 

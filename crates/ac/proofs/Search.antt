@@ -1,18 +1,17 @@
 -- The search finds exactly the minimal solutions.
-use Prim.Native.Nat.{ℕ, zero, suc, _+_, _*_, _-_, _≤_, _<_, max}
-use native.Mathlib.Omega.{arith}
+use Prim.Native.Nat.{ℕ, _+_, _<_}
 use mathlib.Core.Path.{_≡_, refl, sym, ap, ap₂, subst, _∙_}
 use mathlib.Core.Logic.{_↔_, _⊎_, inl, inr}
 use mathlib.Core.Bool.{Bool, true, false, not, cond, _&&_, _||_, true≢false, false≢true}
-use mathlib.Core.List.{List, [], _∷_, _++_, map, append-assoc, append-nil, List·Memᴰ, List·Memᴰ·head, List·Memᴰ·tail, List·Memᴰ·not-nil, List·Memᴰ·append-cases, Memᴰ·append-left, Memᴰ·append-right, Memᴰ·map, Memᴰ·of-map, Memᴰ·cast}
-use lib.ListN.{length, getD}
+use mathlib.Core.List.{List, [], _∷_, _++_, List·Memᴰ, List·Memᴰ·head, List·Memᴰ·tail, List·Memᴰ·not-nil, List·Memᴰ·append-cases, Memᴰ·append-left, Memᴰ·append-right, Memᴰ·cast}
+use lib.ListN.{length}
 use lib.Dec.{leb, ltb, eqb}
-use borrow.Author.Tests.{leb-true, leb-false, le-leb, ltb-true, lt-ltb, eqb-true, eq-eqb}
-use Rattle.ac.specs.Lists.{from, below, keep, filter, flatMap, sum, Ascending, Ascending.none, Ascending.next}
-use Rattle.ac.specs.Rows.{Least, Exactly, _≼_, _≺_, _≺_.here, _≺_.later}
+use borrow.Author.Tests.{leb-true, le-leb, ltb-true, lt-ltb, eqb-true, eq-eqb}
+use Rattle.ac.specs.Lists.{below, keep, filter, sum, Ascending, Ascending.none, Ascending.next}
+use Rattle.ac.specs.Rows.{Exactly, _≼_, _≺_}
 use Rattle.ac.specs.Equation.{dot, Equation, Solves, Minimal}
-use Rattle.ac.specs.Search.{lower, someLower, keepOne, keepAll, kept, placed, box, solves, search, Enough, rests, solutions}
-use Rattle.ac.proofs.Vectors.{≼-refl, ≼-trans, decide-≼}
+use Rattle.ac.specs.Search.{lower, someLower, keepOne, keepAll, kept, solves, search}
+use Rattle.ac.proofs.Vectors.{≼-refl, ≼-trans}
 use Rattle.ac.proofs.Order.{≼-not-after}
 
 -- The tests decide what they say.

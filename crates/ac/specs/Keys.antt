@@ -44,7 +44,7 @@ bit m i = eqb (m / 2 ^ i % 2) 1
 abbrev pub bits : ℕ → ℕ → List Bool
 bits n m = map (bit m) (below n)
 
--- the index in each of the fields of a number, that of the lowest constant first; used is how many constants there are
+-- the index in the field of each constant, that of the lowest constant first, in a number of k fields
 abbrev pub fieldsOf : Layout → ℕ → List Group → ℕ → List ℕ
 fieldsOf lay k [] m = []
 fieldsOf lay zero (g ∷ gs) m = []

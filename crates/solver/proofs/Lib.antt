@@ -2,3 +2,5 @@ pub mod Request
 pub mod Given
 pub mod Determined
 pub mod Beginning
+pub mod Writing
+pub mod Promise

@@ -2,3 +2,4 @@ pub mod Request
 pub mod Given
 pub mod Page
 pub mod Steps
+pub mod Existence

@@ -1,12 +1,14 @@
 // The questions on two sides that the list answers (document 01, "The questions"): Page.
 ghost use mathlib.Core.Path.{_≡_};
-ghost use mathlib.Core.List.{List·Memᴰ};
-ghost use Prim.Native.Nat.{ℕ};
-ghost use Rattle.ac.specs.Keys.{after};
+ghost use mathlib.Core.List.{_∷_, List·Memᴰ};
+ghost use Prim.Native.Nat.{ℕ, _<_, _≤_};
+ghost use lib.ListN.{length};
+ghost use Rattle.ac.specs.Keys.{after, remaining};
 ghost use Rattle.table.specs.Table.{Within};
 ghost use Rattle.keys.specs.List.{OfItsList};
 ghost use Rattle.solver.specs.Request.{wantedCount, beginningOf};
-ghost use Rattle.solver.specs.Steps.{SettledOf};
+ghost use Rattle.solver.specs.Page.{told};
+ghost use Rattle.solver.specs.Steps.{SettledOf, WrittenOf, PromiseOfTable};
 use keys::Next;
 use keys::least_listed;
 use numbers::Refusal;
@@ -102,5 +104,55 @@ fn settle(table: Table, begin: Begin) -> Settled
             }
         }
         Begin::After(key) => settle_after(table, key),
+    }
+}
+
+// Write the keys from the first one on, as many as are wanted or, if fewer remain, all that remain.
+fn write_keys(table: Table, first: u32, wanted: usize, out: &mut [u32]) -> PageAnswer
+    requires { ⌜ Within table × (0 < wanted) × (wanted ≤ length (now out)) ⌝ }
+    ensures { λ r. ⌜ OfItsList table (λ listed. WrittenOf (first ∷ remaining (after first) listed) wanted (now (out .entry)) (told r) (now (out .exit))) ⌝ }
+{
+    out[0] = first;
+    let mut last = first;
+    let mut written: usize = 1;
+    while written < wanted {
+        let next = least_listed(table, last as u64 + 1);
+        let Next::Key(key) = next else {
+            return PageAnswer::Page {
+                written,
+                more: false,
+            };
+        };
+        out[written] = key;
+        last = key;
+        written += 1;
+    }
+    let next = least_listed(table, last as u64 + 1);
+    match next {
+        Next::Key(_) => PageAnswer::Page {
+            written,
+            more: true,
+        },
+        Next::None => PageAnswer::Page {
+            written,
+            more: false,
+        },
+    }
+}
+
+// The question Page on a solved pair: every refusal is settled before the first key is written.
+pub fn page_of(table: Table, request: PageRequest, out: &mut [u32]) -> PageAnswer
+    requires { ⌜ Within table ⌝ }
+    ensures { λ r. ⌜ PromiseOfTable table request (now (out .entry)) (told r) (now (out .exit)) ⌝ }
+{
+    let wanted = wanted_count(request.wanted);
+    if out.len() < wanted {
+        return PageAnswer::Refused(Refusal::ShortBuffer);
+    }
+    let begin = request.begin;
+    let settled = settle(table, begin);
+    match settled {
+        Settled::FirstKey(first) => write_keys(table, first, wanted, out),
+        Settled::Refused(refusal) => PageAnswer::Refused(refusal),
     }
 }

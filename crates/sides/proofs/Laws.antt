@@ -15,7 +15,7 @@ use Rattle.ac.specs.Pair.{Mode, count, net, occurs, variables, unbalanced}
 use Rattle.ac.specs.Equation.{dot, Equation, Solves, Minimal, balancedEquation, equationOf}
 use Rattle.numbers.specs.First.{NoneOf, end, also}
 use Rattle.sides.specs.Limits.{Limits}
-use Rattle.sides.specs.Given.{Side, PairGiven, side-length, no-atom, many-variables, far-net-count, many-constants}
+use Rattle.sides.specs.Given.{Side, PairGiven, side-length, no-atom, many-variables, far-net-count, many-constants, many-rows}
 use Rattle.sides.specs.Parted.{padded, excess, Held, PairOf}
 use Rattle.sides.specs.declared.Pair.{Pair}
 use Rattle.sides.specs.declared.Variables.{Variables}
@@ -185,3 +185,12 @@ module _ (M : Mode) (L R : List ℕ) where
     minimal-same (equationOf M L R c) (partsOf c) long (solves-of c) v,
     minimal-same (partsOf c) (equationOf M L R c) (sym long) (λ u. (solves-of c u .1, solves-of c u .0)) v,
   )
+
+-- The numbers that speak of the two sides are 7 to 12.
+pub sides-number : {limits : Limits} {M : Mode} {L R : List ℕ} {n : ℕ} → PairGiven limits M L R n → (7 ≤ n) × (n ≤ 12)
+sides-number (side-length side wrong) = omega arith
+sides-number (no-atom side wrong) = omega arith
+sides-number (many-variables many) = omega arith
+sides-number (far-net-count atom far) = omega arith
+sides-number (many-constants many) = omega arith
+sides-number (many-rows groups many) = omega arith

@@ -2,7 +2,7 @@
 use Prim.Native.Nat.{ℕ, zero, suc, _+_, _*_, _<_, _≤_}
 use native.Mathlib.Omega.{arith}
 use native.Mathlib.Numerals.{add-one}
-use mathlib.Core.Path.{_≡_, refl, sym, _∙_, ap, ap₂, subst}
+use mathlib.Core.Path.{_≡_, refl, sym, _∙_, ap, ap₂}
 use mathlib.Core.Bool.{Bool, true, false, cond}
 use mathlib.Core.List.{List, [], _∷_, _++_, map, append-assoc, append-nil}
 use lib.ListN.{length, getD, replicate, take}
@@ -10,7 +10,7 @@ use lib.Seq.{take-suc, take-length}
 use Rattle.ac.specs.Lists.{from}
 use Rattle.ac.specs.Pair.{Mode, variables}
 use Rattle.ac.specs.Rows.{Group, Groups}
-use Rattle.ac.specs.Selection.{Taken, takenRows, takenBalanced, taken, valueAt, placeOf, value}
+use Rattle.ac.specs.Selection.{Taken, takenRows, takenBalanced, taken, valueAt, value}
 use Rattle.ac.specs.Keys.{layout, bit, fieldAt, selectionAt, Candidate, Fits}
 use Rattle.ac.specs.Values.{Binding, bindings}
 use Rattle.ac.proofs.Fields.{rowsAt, length-fieldsOf, index-at, places-candidate}
@@ -64,7 +64,7 @@ value-taken new r rs false ts p = refl
 -- the balanced rows, counted by the rows, where bit a of the key is that of the first
 value-balanced : (new : ℕ) (rs : List (List ℕ)) (key a p : ℕ)
     → valueAt (takenBalanced new rs (map (bit key) (from a (length rs)))) p
-      ≡ runs (length rs) (λ i. cond (bit key (a + i)) (getD (getD rs i []) p 0) 0) (λ i. new + i)
+    ≡ runs (length rs) (λ i. cond (bit key (a + i)) (getD (getD rs i []) p 0) 0) (λ i. new + i)
 value-balanced new [] key a p = refl
 value-balanced new (r ∷ rs) key a p =
     value-taken new r rs (bit key a) (map (bit key) (from (suc a) (length rs))) p
@@ -141,6 +141,6 @@ module _ (M : Mode) (L R : List ℕ) (constants names : List ℕ) {rows : List �
       all-bindings (variables M L R) (value M (layout .new) L R G (selectionAt layout G key)) names (atomsAt rows constants unbalanced balanced key)
       (length (variables M L R)) (omega arith) same
       (λ p h.
-        atoms-value constants holds named fits candidate p h
-        ∙ ap (valueAt (taken (layout .new) G (selectionAt layout G key))) (sym (placeOf-getD (variables-ascending M L R) p h)))
+      atoms-value constants holds named fits candidate p h
+      ∙ ap (valueAt (taken (layout .new) G (selectionAt layout G key))) (sym (placeOf-getD (variables-ascending M L R) p h)))
       ∙ ap (bindings (value M (layout .new) L R G (selectionAt layout G key))) (take-length (variables M L R))

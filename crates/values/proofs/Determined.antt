@@ -3,9 +3,7 @@ use Prim.Native.Nat.{ℕ}
 use mathlib.Core.Path.{_≡_, refl, ap}
 use mathlib.Core.List.{List}
 use Rattle.ac.specs.Pair.{Mode}
-use Rattle.ac.specs.Rows.{Groups}
 use Rattle.ac.proofs.Groups.{groups-unique}
-use Rattle.numbers.specs.Numbers.{numberOf}
 use Rattle.numbers.proofs.Laws.{numberOf-one-to-one, first-unique, first-not-none}
 use Rattle.values.specs.Values.{ValuesOutcome, refused, told, ValuesPromise, is-refused, is-written}
 use Rattle.values.specs.declared.ValuesAnswer.{ValuesAnswer}

@@ -2,12 +2,12 @@
 use Prim.Native.Nat.{ℕ, _<_}
 use native.Mathlib.Omega.{arith}
 use mathlib.Core.Path.{_≡_, refl, subst}
-use mathlib.Core.List.{List, [], _∷_, List·Memᴰ, List·Memᴰ·not-nil}
+use mathlib.Core.List.{List, List·Memᴰ, List·Memᴰ·not-nil}
 use Rattle.ac.specs.Lists.{Ascending}
 use Rattle.ac.specs.Keys.{start}
 use Rattle.ac.specs.Pages.{LeastFrom, NoneFrom}
 use Rattle.ac.proofs.Pages.{none-remains, not-reached, passed-over}
-use Rattle.numbers.specs.First.{First, NoneOf, here, later, end, also}
+use Rattle.numbers.specs.First.{here, later}
 use Rattle.numbers.specs.declared.Refusal.the-variants.{NoUnifier, NotListed}
 use Rattle.values.specs.Given.{ListGiven, none-admissible, not-listed}
 use Rattle.values.specs.Steps.{SettledOf, to-refuse, to-answer}

@@ -9,10 +9,9 @@ use lib.Dec.{ltb}
 use lib.ListN.{length, getD, take, drop}
 use lib.Seq.{sets-eq, getD-take}
 use Rattle.ac.specs.Pair.{Mode, variables}
-use Rattle.ac.specs.Rows.{Groups, Group}
-use Rattle.ac.specs.Selection.{taken, valueAt, placeOf, value}
-use Rattle.ac.specs.Keys.{layout, keys, selectionAt, Candidate, Fits}
-use Rattle.ac.specs.Values.{laidOut, bindings}
+use Rattle.ac.specs.Selection.{taken, valueAt, placeOf}
+use Rattle.ac.specs.Keys.{layout, keys, selectionAt, Candidate}
+use Rattle.ac.specs.Values.{laidOut}
 use Rattle.ac.proofs.Listed.{listed-candidates}
 use Rattle.ac.proofs.Places.{getD-member, placeOf-getD, placeOf-lt}
 use Rattle.ac.proofs.Replaced.{variables-ascending}
@@ -44,9 +43,10 @@ any-some (suc n) test e = go (any n test) refl (test n) refl (any-some n test)
 -- what is put at the front of a buffer that has room stands there, and what comes after it stays
 pub put-received : {out after : List ℕ} {bytes : List ℕ} {n : ℕ} → length bytes ≤ length out → Put out 0 bytes n after
     → (n ≡ length bytes) × (after ≡ receives out bytes)
-put-received {out} {after} {bytes} {n} room put =
-    (omega (arith, put .place),
-     put .stored ∙ sets-eq bytes out 0 (omega arith) ∙ ap (λ k. bytes ++ drop k out) (let e : 0 + length bytes ≡ length bytes = omega arith in e))
+put-received {out} {after} {bytes} {n} room put = (
+  omega (arith, put .place),
+  put .stored ∙ sets-eq bytes out 0 (omega arith) ∙ ap (λ k. bytes ++ drop k out) (let e : 0 + length bytes ≡ length bytes = omega arith in e),
+)
 
 -- the constant of each of the constants' groups
 atomOf-groupsFrom : (t : Table) (a : ℕ) (cs : List ℕ) (g : ℕ) → g < length (groupsFrom t a cs) → atomOf (groupsFrom t a cs) g ≡ getD cs g 0
@@ -112,8 +112,8 @@ module _ {M : Mode} {L R : List ℕ} {t : Table} {key : ℕ} (of : TableOf M L R
       let h : placeOf (long .variable) (variables M L R) < length (variables M L R) = placeOf-lt (variables M L R) (long .variable) (long .of-the-pair) in
       let p = placeOf (long .variable) (variables M L R) in
       let some : tooLong ≡ true =
-          any-found (t .places) p (λ p. ltb 200 (lengthAt (t .rows) (t .unbalanced) (getD (t .sizes) 0 0) key p)) (omega (arith, of .the-places, h))
-          (lt-ltb 200 _ (subst (λ n. 200 < n) (sym (counted p h)) (long .long))) in
+      any-found (t .places) p (λ p. ltb 200 (lengthAt (t .rows) (t .unbalanced) (getD (t .sizes) 0 0) key p)) (omega (arith, of .the-places, h))
+      (lt-ltb 200 _ (subst (λ n. 200 < n) (sym (counted p h)) (long .long))) in
       let z : _≡_ {A = ℕ} 0 1 = cc (sym some ∙ e) in
       omega arith
 
@@ -123,10 +123,11 @@ module _ {M : Mode} {L R : List ℕ} {t : Table} {key : ℕ} (of : TableOf M L R
   writes-long e = too-long (long-counted (sym e))
 
   pub writes-values : {out after : List ℕ} {n : ℕ} → false ≡ any (t .places) (λ p. ltb 200 (lengthAt (t .rows) (t .unbalanced) (getD (t .sizes) 0 0) key p))
-      → length (valuesOf M L R (groupsIn t) key) ≤ length out
+      → n ≤ length out
       → Put out 0 (laidOut (bindingsBelow (t .variables) (atomsAt (t .rows) (t .constants) (t .unbalanced) (getD (t .sizes) 0 0) key) (t .places))) n after
       → Writes M L R (groupsIn t) key out (written n) after
   unfolding tooLong
   writes-values {out} {after} {n} e space put =
-      let received = put-received space (subst (λ bytes. Put out 0 bytes n after) laid put) in
+      let mine : Put out 0 (valuesOf M L R (groupsIn t) key) n after = subst (λ bytes. Put out 0 bytes n after) laid put in
+      let received = put-received (omega (arith, mine .place)) mine in
       subst₂ (λ k l. Writes M L R (groupsIn t) key out (written k) l) (sym (received .0)) (sym (received .1)) (fits (counted-long (sym e)))

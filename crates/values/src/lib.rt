@@ -284,7 +284,16 @@ fn write(table: Table, key: u32, out: &mut [u8]) -> ValuesAnswer
     }
     let constants = table.constants;
     let variables = table.variables;
-    let length = put_bindings(&rows, &constants, &variables, table.places, table.unbalanced, balanced, key, out);
+    let length = put_bindings(
+        &rows,
+        &constants,
+        &variables,
+        table.places,
+        table.unbalanced,
+        balanced,
+        key,
+        out,
+    );
     ValuesAnswer::Values { length }
 }
 

@@ -5,49 +5,37 @@ use Rattle.values.proofs.OnList.{settled-none, settled-above, settled-o
 use borrow.Author.Needs.{needs}
 use Rattle.values.proofs.settle.Statement.{statement}
 use Rattle.values.proofs.settle.Tie as tie
-use Rattle.values.proofs.settle.Reads as reads
-use Rattle.values.proofs.settle.Lts as lts
-use Rattle.keys.proofs.least_listed.Reads as least-listed-reads
 
--- src/lib.rt:258:9
 least-listed-requires : tie.Need-least-listed-requires
 least-listed-requires c κs = search needs
 
 enum-told : tie.Need-enum-told
 enum-told c = search needs
 
--- src/lib.rt:260:33
 enum-told-2 : tie.Need-enum-told-2
 enum-told-2 c = search needs
 
--- src/lib.rt:260:9
 returns : tie.Need-returns
 returns c = λ M L R full of. settled-none (table-ascending of) (next-none (c .before .before .least-listed .ensures M L R full of) (c .enum-told2 .given .1))
 
--- src/lib.rt:262:9
 least-listed-requires-2 : tie.Need-least-listed-requires-2
 least-listed-requires-2 c κs = search needs
 
--- src/lib.rt:263:19
 enum-known-least : tie.Need-enum-known-least
 enum-known-least c = search needs
 
--- src/lib.rt:264:33
 enum-told-3 : tie.Need-enum-told-3
 enum-told-3 c = search needs
 
--- src/lib.rt:264:9
 returns-2 : tie.Need-returns-2
 returns-2 c = λ M L R full of.
     settled-above (next-key (c .before .before .before .before .before .least-listed .ensures M L R full of) (c .before .before .before .enum-told .given .1))
     (next-none (c .before .before .least-listed2 .ensures M L R full of) (c .enum-told3 .given .1))
 
--- src/lib.rt:254:1
 returns-3 : tie.Need-returns-3
 returns-3 c = λ M L R full of.
     settled-itself (next-key (c .before .before .before .before .least-listed2 .ensures M L R full of) (c .before .before .least .given .1)) (c .if1 .taken)
 
--- src/lib.rt:254:1
 returns-4 : tie.Need-returns-4
 returns-4 c = λ M L R full of.
     settled-other (next-key (c .before .before .before .before .before .before .before .least-listed .ensures M L R full of) (c .before .before .before .before .before .enum-told .given .1))

@@ -1,42 +1,34 @@
+-- `values::values_of` meets its contract: 16, then what the list says of the key, then what is written of it. Assumes nothing.
+use native.Mathlib.Omega.{arith}
+use Rattle.values.proofs.Promise.{promise-short, promise-refused, promise-written}
 use borrow.Author.Needs.{needs}
 use Rattle.values.proofs.values_of.Statement.{statement}
 use Rattle.values.proofs.values_of.Tie as tie
-use Rattle.values.proofs.values_of.Reads as reads
-use Rattle.values.proofs.values_of.Lts as lts
-use Rattle.values.proofs.settle.Reads as settle-reads
-use Rattle.values.proofs.write.Reads as write-reads
 
--- src/lib.rt:296:9
 returns : tie.Need-returns
-returns c = ?
+returns c = λ M L R full of none. promise-short (c .if1 .taken)
 
--- src/lib.rt:298:9
 settle-requires : tie.Need-settle-requires
 settle-requires c κs = search needs
 
--- src/lib.rt:300:26
 enum-known-settled : tie.Need-enum-known-settled
 enum-known-settled c = search needs
 
--- src/lib.rt:301:46
 enum-told : tie.Need-enum-told
 enum-told c = search needs
 
--- src/lib.rt:301:28
 write-requires : tie.Need-write-requires
 write-requires c κs = search needs
 
--- src/lib.rt:291:1
 returns-2 : tie.Need-returns-2
-returns-2 c = ?
+returns-2 c = λ M L R full of none. promise-refused of none (omega arith) (c .before .before .before .settle .ensures M L R full of) (c .before .settled .given .1)
 
--- src/lib.rt:291:1
 same-length : tie.Need-same-length
 same-length c = search needs
 
--- src/lib.rt:291:1
 returns-3 : tie.Need-returns-3
-returns-3 c = ?
+returns-3 c = λ M L R full of none.
+    promise-written of none (omega arith) (c .before .before .before .before .before .before .settle .ensures M L R full of) (c .before .before .before .before .enum-told .given .1) (c .before .before .write .ensures M L R full of)
 
 pub values-of-spec : {M : Type 1} → statement M
 values-of-spec =

@@ -1,47 +1,36 @@
 -- `values::write` meets its contract: what is counted and put of the table's rows are the values of the listed key. Assumes nothing.
-use Prim.Native.Nat.{ℕ, _≤_}
 use native.Mathlib.Omega.{arith}
-use mathlib.Core.Path.{_≡_, sym, _∙_, ap}
-use lib.ListN.{length, length-map}
+use mathlib.Core.Path.{sym, _∙_}
+use lib.ListN.{length-map}
 use Rattle.buffer.proofs.Puts.{put-length}
 use Rattle.values.proofs.Writing.{writes-long, writes-values}
 use borrow.Author.Needs.{needs}
 use Rattle.values.proofs.write.Statement.{statement}
 use Rattle.values.proofs.write.Tie as tie
-use Rattle.values.proofs.write.Reads as reads
-use Rattle.values.proofs.write.Lts as lts
-use Rattle.values.proofs.put_bindings.Reads as put-bindings-reads
-use Rattle.values.proofs.too_long.Reads as too-long-reads
 
--- src/lib.rt:279:20
 element-copy-out-balanced : tie.Need-element-copy-out-balanced
 element-copy-out-balanced c = search needs
 
--- src/lib.rt:281:8
 too-long-requires : tie.Need-too-long-requires
 too-long-requires c κs = let fit = c .before .before .before .before .pre .0 in (fit .places-fit, fit .constants-fit, fit .sizes-fit 0)
 
--- src/lib.rt:282:9
 returns : tie.Need-returns
 returns c = λ M L R full of listed.
     writes-long of (sym (length-map (c .before .before .before .before .before .before .args .t1 .constants) (λ v. v)) ∙ c .before .before .before .before .before .before .good .0 .1 .1 .1 .1 .0 .1 .0 .1) listed (sym (c .if1 .taken) ∙ c .before .too-long .ensures)
 
--- src/lib.rt:286:9
 put-bindings-requires : tie.Need-put-bindings-requires
-put-bindings-requires c κs = 
+put-bindings-requires c κs =
     let fit = c .before .before .before .before .before .before .before .before .before .before .before .before .pre .0 in
     ((fit .places-fit, fit .constants-fit, fit .sizes-fit 0), (sym (c .before .before .before .before .before .before .before .too-long .ensures) ∙ c .before .before .before .before .before .before .if1 .left, c .before .before .before .before .before .before .before .before .before .before .before .before .pre .1))
 
--- src/lib.rt:274:1
 same-length : tie.Need-same-length
 same-length c = put-length (c .before .before .put-bindings .ensures .0)
 
--- src/lib.rt:274:1
 returns-2 : tie.Need-returns-2
 returns-2 c = λ M L R full of listed.
     let put = c .before .before .put-bindings .ensures .0 in
     writes-values of (sym (length-map (c .before .before .before .before .before .before .before .before .before .before .before .before .before .before .before .args .t1 .constants) (λ v. v)) ∙ c .before .before .before .before .before .before .before .before .before .before .before .before .before .before .before .good .0 .1 .1 .1 .1 .0 .1 .0 .1) listed
-    (sym (c .before .before .before .before .before .before .before .before .before .if1 .left) ∙ c .before .before .before .before .before .before .before .before .before .before .too-long .ensures) (omega (arith, put .place, c .before .before .put-bindings .ensures .1)) put
+    (sym (c .before .before .before .before .before .before .before .before .before .if1 .left) ∙ c .before .before .before .before .before .before .before .before .before .before .too-long .ensures) (omega (arith, c .before .before .put-bindings .ensures .1)) put
 
 pub write-spec : {M : Type 1} → statement M
 write-spec =

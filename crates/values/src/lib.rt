@@ -96,7 +96,7 @@ fn balanced_length(rows: &[u8; 480], balanced: usize, key: u32, place: usize) ->
     ensures { λ r. ⌜ r ≡ total balanced (balancedTimes (now (rows .entry)) key place) ⌝ }
     ensures { λ r. ⌜ r ≤ 4080 ⌝ }
 {
-    let mut length: usize = 0;
+    let mut length = 0;
     let mut i: usize = 0;
     while i < balanced {
         length += balanced_times(rows, key, place, i);
@@ -130,7 +130,7 @@ pub fn too_long(
     requires { ⌜ (places ≤ 6) × (unbalanced ≤ 4) × (balanced ≤ 16) ⌝ }
     ensures { λ r. ⌜ r ≡ any places (λ p. ltb 200 (lengthAt (now (rows .entry)) unbalanced balanced key p)) ⌝ }
 {
-    let mut place: usize = 0;
+    let mut place = 0;
     while place < places {
         if LONGEST < value_length(rows, unbalanced, balanced, key, place) {
             return true;

@@ -52,31 +52,37 @@ fn tell(answer: ReadAnswer, left: &[u8], right: &[u8], line: &mut [u8], at: usiz
             left: left_count,
             right: right_count,
         } => {
-            let left_end = tell_side(b"left ", left, left_count, line, at);
-            let right_end = tell_side(b"right ", right, right_count, line, left_end);
-            text::put(line, right_end, b"\n")
+            let left_end = text::put_sum(line, at, front(left, left_count));
+            let right_start = text::put(line, left_end, b" = ");
+            let right_end = text::put_sum(line, right_start, front(right, right_count));
+            tell_rest(left, left_count, right, right_count, line, right_end)
         }
         ReadAnswer::Refused(refusal) => {
-            let number_at = text::put(line, at, b"refused ");
-            let left_at = text::put_decimal(line, number_at, numbers::number(refusal) as u64);
-            let left_end = tell_side(b" left ", left, 0, line, left_at);
-            let right_end = tell_side(b"right ", right, 0, line, left_end);
-            text::put(line, right_end, b"\n")
+            let start = text::put(line, at, b"refused ");
+            let end = text::put_decimal(line, start, numbers::number(refusal) as u64);
+            tell_rest(left, 0, right, 0, line, end)
         }
     }
 }
 
-// A side in a buffer, and whether the bytes after it are as they were.
-fn tell_side(name: &[u8], buffer: &[u8], count: usize, line: &mut [u8], at: usize) -> usize
+// Whether the bytes of the buffers from these places on are as they were.
+fn tell_rest(
+    left: &[u8],
+    left_from: usize,
+    right: &[u8],
+    right_from: usize,
+    line: &mut [u8],
+    at: usize,
+) -> usize
     ensures { λ r. ⌜ r ≤ length (now (line .exit)) ⌝ }
 {
-    let side_at = text::put(line, at, name);
-    let side_end = text::put_sum(line, side_at, front(buffer, count));
-    if is_kept(buffer, count) {
-        text::put(line, side_end, b" kept ")
-    } else {
-        text::put(line, side_end, b" changed ")
+    if !is_kept(left, left_from) {
+        return text::put(line, at, b", left changed\n");
     }
+    if !is_kept(right, right_from) {
+        return text::put(line, at, b", right changed\n");
+    }
+    text::put(line, at, b", kept\n")
 }
 
 fn front(buffer: &[u8], count: usize) -> &[u8] {

@@ -3,3 +3,4 @@ pub mod Begins
 pub mod Settled
 pub mod Sides
 pub mod Determined
+pub mod Laws

@@ -67,9 +67,9 @@ module _ {bytes buffer after : List ℕ} {count : ℕ} (f : SideTerm bytes buffe
   side-is : take count after ≡ flatten (f .term)
   side-is = ap (take count) (f .after-is) ∙ take-at (flatten (f .term)) (drop (length (flatten (f .term))) buffer) count (sym (f .count-is))
 
-  -- a side of at most 127 bytes fits where 64 atoms do
-  pub side-fits : {room : ℕ} → length bytes ≤ 127 → 64 ≤ room → length (take count after) ≤ room
-  side-fits short enough = omega (arith, ap length side-is, atoms-of-term (f .writes) short)
+  -- a term of at most 127 bytes has at most 64 atoms
+  pub count-fits : length bytes ≤ 127 → count ≤ 64
+  count-fits short = omega (arith, f .count-is, atoms-of-term (f .writes) short)
 
   -- a buffer into which the atoms are copied receives the side
   pub copied : (lent : List ℕ) → take (length (take count after)) (take count after) ++ drop (length (take count after)) lent ≡ receives lent (flatten (f .term))

@@ -1,11 +1,27 @@
 -- `block::header::read_header` meets its contract: each refusal is the first number that the block gives. Assumes nothing.
-use mathlib.Core.Path.{sym, _∙_}
+use Prim.Native.Nat.{ℕ}
+use mathlib.Core.Path.{_≡_, refl, sym, _∙_}
 use native.Mathlib.Omega.{arith}
 use borrow.Author.Needs.{needs}
+use Rattle.block.specs.Block.{check, checkOfBytes}
 use Rattle.block.specs.Inner.{is-refused, is-good}
 use Rattle.block.proofs.Settled.{tested-outside, tested-within, check-first, block-number-first, term-length-first}
 use Rattle.block.proofs.header.read_header.Statement.{statement}
 use Rattle.block.proofs.header.read_header.Tie as tie
+
+-- two numbers agree, or differ, as those do that they are
+agree : {a b x y : ℕ} → a ≡ x → b ≡ y → a ≡ b → x ≡ y
+agree e f same = sym e ∙ same ∙ f
+
+differ : {a b x y : ℕ} → a ≡ x → b ≡ y → (a ≡ b → ⊥) → x ≡ y → ⊥
+differ e f other same = other (e ∙ same ∙ sym f)
+
+-- from the place where all that the header says is known to the entry
+abbrev entry : tie.After-are-term-lengths → tie.Start
+entry v = v .before .before .before .before .before .before .before .before .before .before .before
+
+checked : (c : tie.Else1) → check (entry (c .before) .args .block .now) ≡ checkOfBytes (entry (c .before) .args .block .now)
+checked c = agree (c .before .before .before .before .before .before .before .before .two-bytes .ensures) (c .before .before .before .before .before .before .before .check-of .ensures) (c .if1 .left)
 
 shared-slice-read-two-bytes : tie.Need-shared-slice-read-two-bytes
 shared-slice-read-two-bytes c = search needs
@@ -44,28 +60,29 @@ are-term-lengths-requires : tie.Need-are-term-lengths-requires
 are-term-lengths-requires c κs = search needs
 
 returns : tie.Need-returns
-returns c = is-refused (check-first (c .before .before .before .before .before .before .before .before .before .before .before .before .pre) (λ same. c .if1 .taken (c .before .before .before .before .before .before .before .before .two-bytes .ensures ∙ same ∙ sym (c .before .before .before .before .before .before .before .check-of .ensures))))
+returns c = is-refused (check-first (entry (c .before) .pre) (differ (c .before .before .before .before .before .before .before .before .two-bytes .ensures) (c .before .before .before .before .before .before .before .check-of .ensures) (c .if1 .taken)))
 
 returns-2 : tie.Need-returns-2
-returns-2 c = is-refused
-    (block-number-first (c .before .before .before .before .before .before .before .before .before .before .before .before .before .pre) (sym (c .before .before .before .before .before .before .before .before .before .two-bytes .ensures) ∙ c .before .if1 .left ∙ c .before .before .before .before .before .before .before .before .check-of .ensures)
-    (λ same. c .if2 .taken (c .before .before .before .before .before .two-bytes2 .ensures ∙ same)))
+returns-2 c =
+    let v = c .before .before in
+    is-refused (block-number-first (entry v .pre) (checked (c .before)) (differ (v .before .before .before .two-bytes2 .ensures) refl (c .if2 .taken)))
 
 returns-3 : tie.Need-returns-3
-returns-3 c = is-refused
-    (term-length-first
-    (c .before .before .before .before .before .before .before .before .before .before .before .before .before .before .pre)
-    (sym (c .before .before .before .before .before .before .before .before .before .before .two-bytes .ensures) ∙ c .before .before .if1 .left ∙ c .before .before .before .before .before .before .before .before .before .check-of .ensures)
-    (sym (c .before .before .before .before .before .before .two-bytes2 .ensures) ∙ c .before .if2 .left)
-    (tested-outside (c .before .before .before .are-term-lengths .ensures) (c .if3 .taken)))
+returns-3 c =
+    let v = c .before .before .before in
+    is-refused
+    (term-length-first (entry v .pre) (checked (c .before .before)) (agree (v .before .before .before .two-bytes2 .ensures) refl (c .before .if2 .left))
+    (tested-outside (v .are-term-lengths .ensures) (c .if3 .taken)))
 
 returns-4 : tie.Need-returns-4
-returns-4 c = let lengths = tested-within (c .before .before .before .are-term-lengths .ensures) (c .if3 .left) in
+returns-4 c =
+    let v = c .before .before .before in
+    let lengths = tested-within (v .are-term-lengths .ensures) (c .if3 .left) in
     is-good
     (record {
-      whole = c .before .before .before .before .before .before .before .before .before .before .before .before .before .before .pre;
-      checked = sym (c .before .before .before .before .before .before .before .before .before .before .two-bytes .ensures) ∙ c .before .before .if1 .left ∙ c .before .before .before .before .before .before .before .before .before .check-of .ensures;
-      numbered = sym (c .before .before .before .before .before .before .two-bytes2 .ensures) ∙ c .before .if2 .left;
+      whole = entry v .pre;
+      checked = checked (c .before .before);
+      numbered = agree (v .before .before .before .two-bytes2 .ensures) refl (c .before .if2 .left);
       left-length = lengths .0;
       right-length = lengths .1;
     })

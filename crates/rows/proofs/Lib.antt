@@ -1,0 +1,4 @@
+pub mod Prefix
+pub mod Flat
+pub mod Below
+pub mod Held

@@ -1,0 +1,44 @@
+// The rows of one equation, found by a walk through the vectors in ascending order, place by place.
+ghost use mathlib.Core.Path.{_≡_};
+ghost use mathlib.Core.Bool.{true, false};
+ghost use Prim.Native.Nat.{ℕ, _+_, _*_, _<_, _≤_, suc};
+ghost use lib.ListN.{length};
+ghost use Rattle.rows.specs.Flat.{rowsOf};
+ghost use Rattle.rows.specs.Walk.{Lower, Tells};
+
+// Where the walk stands, of the numbers chosen so far: the two sums, the offsets included; what is left of the budget of the places whose left
+// coefficient is at least the right one, and of the others; and whether an all-zero rest counts.
+pub struct Standing {
+    pub left: u32,
+    pub right: u32,
+    pub up: u8,
+    pub down: u8,
+    pub counts: bool,
+}
+
+// Whether a row found is at or below the vector in every place. Any of them may be: the comparison ends as soon as one lower row is met,
+// or when all of them have been tried.
+fn lower(rows: &[u8], count: usize, vector: &[u8]) -> bool
+    requires { ⌜ count * length (now vector) ≤ length (now rows) ⌝ }
+    ensures { λ r. ⌜ Tells r (Lower (rowsOf (length (now (vector .entry))) count (now (rows .entry))) (now (vector .entry))) ⌝ }
+{
+    let mut met = false;
+    let mut row = 0;
+    let mut start = 0;
+    'rows: while row < count {
+        let mut place = 0;
+        'places: loop {
+            if place == vector.len() {
+                met = true;
+                break 'rows;
+            }
+            if vector[place] < rows[start + place] {
+                break 'places;
+            }
+            place += 1;
+        }
+        row += 1;
+        start += vector.len();
+    }
+    met
+}

@@ -39,7 +39,7 @@ pub record Compared (rows vector : List ℕ) (start place : ℕ) : Type 0 where
   pub within : place ≤ length vector
   pub fine : (j : ℕ) → j < place → getD rows (start + j) 0 ≤ getD vector j 0
 
-module _ (rows vector : List ℕ) (count : ℕ) (room : count * length vector ≤ length rows) where
+module _ {rows vector : List ℕ} {count : ℕ} (room : count * length vector ≤ length rows) where
   pub tried-none : Tried rows vector count 0 0
   tried-none = record { tried = omega arith; at = omega arith; none-lower = λ i h. absurd (omega arith) }
 

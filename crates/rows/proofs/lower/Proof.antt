@@ -26,11 +26,11 @@ abbrev μ-rows : tie.MeasureT-rows
 
 -- src/lib.rt:28:5
 rows-holds : tie.Need-rows-holds Inv-places μ-places Inv-rows μ-rows
-rows-holds c = (tried-none (c .args .rows .now) (c .args .vector .now) (c .args .count) (c .pre), refl)
+rows-holds c = (tried-none (c .pre), refl)
 
 -- src/lib.rt:30:9
 places-holds : tie.Need-places-holds Inv-places μ-places Inv-rows μ-rows
-places-holds c = (compared-none (c .before .before .args .rows .now) (c .before .before .args .vector .now) (c .before .before .args .count) (c .before .before .pre) (c .before .rows .inv .0) (c .rows-test .taken), c .before .rows .inv .1)
+places-holds c = (compared-none (c .before .before .pre) (c .before .rows .inv .0) (c .rows-test .taken), c .before .rows .inv .1)
 
 -- src/lib.rt:35:16
 shared-slice-read-if2 : tie.Need-shared-slice-read-if2 Inv-places μ-places Inv-rows μ-rows
@@ -38,12 +38,12 @@ shared-slice-read-if2 c = omega (arith, c .before .before .places .inv .0 .withi
 
 -- src/lib.rt:35:37
 add-if2 : tie.Need-add-if2 Inv-places μ-places Inv-rows μ-rows
-add-if2 c = let h = place-within (c .before .before .before .before .before .args .rows .now) (c .before .before .before .before .before .args .vector .now) (c .before .before .before .before .before .args .count) (c .before .before .before .before .before .pre) (c .before .before .before .before .rows .inv .0) (c .before .before .before .rows-test .taken)
+add-if2 c = let h = place-within (c .before .before .before .before .before .pre) (c .before .before .before .before .rows .inv .0) (c .before .before .before .rows-test .taken)
     (let h′ : c .before .before .places .place < length (c .before .before .before .before .before .args .vector .now) = omega (arith, c .before .before .places .inv .0 .within) in h′) in omega (arith, c .before .before .before .before .before .good .0 .0)
 
 -- src/lib.rt:35:32
 shared-slice-read-if2-2 : tie.Need-shared-slice-read-if2-2 Inv-places μ-places Inv-rows μ-rows
-shared-slice-read-if2-2 c = place-within (c .before .before .before .before .before .before .args .rows .now) (c .before .before .before .before .before .before .args .vector .now) (c .before .before .before .before .before .before .args .count) (c .before .before .before .before .before .before .pre) (c .before .before .before .before .before .rows .inv .0) (c .before .before .before .before .rows-test .taken)
+shared-slice-read-if2-2 c = place-within (c .before .before .before .before .before .before .pre) (c .before .before .before .before .before .rows .inv .0) (c .before .before .before .before .rows-test .taken)
     (omega (arith, c .before .before .before .places .inv .0 .within))
 
 -- src/lib.rt:38:13
@@ -56,11 +56,8 @@ places-less c = omega (arith, c .before .before .before .before .places .inv .0 
 
 -- src/lib.rt:30:9
 places-again : tie.Need-places-again Inv-places μ-places Inv-rows μ-rows
-places-again c = (
-  compared-more (c .before .before .before .before .before .before .before .args .rows .now) (c .before .before .before .before .before .before .before .args .vector .now) (c .before .before .before .before .before .before .before .args .count) (c .before .before .before .before .before .before .before .pre) (c .before .before .before .before .before .before .rows .inv .0) (c .before .before .before .before .before .rows-test .taken)
-      (c .before .before .before .before .places .inv .0) (omega (arith, c .before .before .before .before .places .inv .0 .within)) (c .if2 .left),
-  c .before .before .before .before .places .inv .1,
-)
+places-again c = (compared-more (c .before .before .before .before .before .before .before .pre) (c .before .before .before .before .before .before .rows .inv .0) (c .before .before .before .before .before .rows-test .taken)
+    (c .before .before .before .before .places .inv .0) (omega (arith, c .before .before .before .before .places .inv .0 .within)) (c .if2 .left), c .before .before .before .before .places .inv .1)
 
 -- src/lib.rt:40:9
 add-row : tie.Need-add-row Inv-places μ-places Inv-rows μ-rows
@@ -76,26 +73,23 @@ rows-less c = omega arith
 
 -- src/lib.rt:28:5
 rows-again : tie.Need-rows-again Inv-places μ-places Inv-rows μ-rows
-rows-again c = (
-  tried-more (c .before .before .before .before .before .before .before .args .rows .now) (c .before .before .before .before .before .before .before .args .vector .now) (c .before .before .before .before .before .before .before .args .count) (c .before .before .before .before .before .before .before .pre) (c .before .before .before .before .before .before .rows .inv .0) (c .before .before .before .before .before .rows-test .taken)
-      (omega (arith, c .before .before .before .before .places .inv .0 .within)) (c .if2 .taken),
-  c .before .before .before .before .places .inv .1,
-)
+rows-again c = (tried-more (c .before .before .before .before .before .before .before .pre) (c .before .before .before .before .before .before .rows .inv .0) (c .before .before .before .before .before .rows-test .taken)
+    (omega (arith, c .before .before .before .before .places .inv .0 .within)) (c .if2 .taken), c .before .before .before .before .places .inv .1)
 
 -- src/lib.rt:21:1
 returns : tie.Need-returns Inv-places μ-places Inv-rows μ-rows
 returns c = record {
-  so = λ t. absurd (true≢false (sym t ∙ c .before .rows .inv .1));
-  not-so = λ f. tried-all (c .before .before .args .rows .now) (c .before .before .args .vector .now) (c .before .before .args .count) (c .before .before .pre) (c .before .rows .inv .0) (c .rows-test .left);
-}
+      so = λ t. absurd (true≢false (sym t ∙ c .before .rows .inv .1));
+      not-so = λ f. tried-all (c .before .before .pre) (c .before .rows .inv .0) (c .rows-test .left);
+    }
 
 -- src/lib.rt:21:1
 returns-2 : tie.Need-returns-2 Inv-places μ-places Inv-rows μ-rows
 returns-2 c = record {
-  so = λ t. compared-all (c .before .before .before .before .args .rows .now) (c .before .before .before .before .args .vector .now) (c .before .before .before .before .args .count) (c .before .before .before .before .pre) (c .before .before .before .rows .inv .0) (c .before .before .rows-test .taken)
-      (c .before .places .inv .0) (c .if1 .taken);
-  not-so = λ f. absurd (true≢false f);
-}
+      so = λ t. compared-all (c .before .before .before .before .pre) (c .before .before .before .rows .inv .0) (c .before .before .rows-test .taken)
+        (c .before .places .inv .0) (c .if1 .taken);
+      not-so = λ f. absurd (true≢false f);
+    }
 
 pub lower-spec : {M : Type 1} → statement M
 lower-spec =

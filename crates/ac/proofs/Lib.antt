@@ -6,4 +6,5 @@ pub mod Pigeonhole
 pub mod Walk
 pub mod Bound
 pub mod Search
+pub mod Regions
 pub mod Groups

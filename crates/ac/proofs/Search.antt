@@ -17,7 +17,7 @@ use Rattle.ac.proofs.Order.{≼-not-after}
 
 -- The tests decide what they say.
 
-both-true : (b c : Bool) → (b && c) ≡ true → (b ≡ true) × (c ≡ true)
+pub both-true : (b c : Bool) → (b && c) ≡ true → (b ≡ true) × (c ≡ true)
 both-true true c e = (refl, e)
 both-true false c e = absurd (false≢true e)
 
@@ -57,13 +57,12 @@ some-lower-false {v = v} e (List·Memᴰ·head {x = x} {xs = xs} same) h =
     true≢false (sym (ap (λ w. lower w v) (sym same) ∙ true-lower h) ∙ neither-true (lower x v) (someLower xs v) e .0)
 some-lower-false {v = v} e (List·Memᴰ·tail {x = x} {xs = xs} m) h = some-lower-false (neither-true (lower x v) (someLower xs v) e .1) m h
 
--- Candidates: solutions in ascending order, with each all solutions at or below it, and all minimal ones.
-pub record Candidates (E : Equation) (candidates : List (List ℕ)) : Type 0 where
-  pub ascending : Ascending _≺_ candidates
-  pub vectors : (v : List ℕ) → List·Memᴰ v candidates → length v ≡ length (E .left)
-  pub solving : (v : List ℕ) → List·Memᴰ v candidates → Solves E v
-  pub closed : (u v : List ℕ) → List·Memᴰ v candidates → u ≼ v → Solves E u → List·Memᴰ u candidates
-  pub minimal : (v : List ℕ) → Minimal E v → List·Memᴰ v candidates
+-- A region to search: vectors in ascending order, with each of them all solutions at or below it, and every minimal solution.
+pub record Region (E : Equation) (vectors : List (List ℕ)) : Type 0 where
+  pub ascending : Ascending _≺_ vectors
+  pub lengths : (v : List ℕ) → List·Memᴰ v vectors → length v ≡ length (E .left)
+  pub closed : (u v : List ℕ) → List·Memᴰ v vectors → u ≼ v → Solves E u → List·Memᴰ u vectors
+  pub minimal : (v : List ℕ) → Minimal E v → List·Memᴰ v vectors
 
 ascending-last : {found : List (List ℕ)} {v : List ℕ} → Ascending _≺_ found → ((g : List ℕ) → List·Memᴰ g found → g ≺ v) → Ascending _≺_ (found ++ (v ∷ []))
 ascending-last none before-v = next (λ b m. absurd (List·Memᴰ·not-nil m)) none
@@ -78,7 +77,7 @@ ascending-last {v = v} (next {a = a} {rest = rest} after ascending) before-v =
 ascending-next : {v : List ℕ} {todo : List (List ℕ)} → Ascending _≺_ (v ∷ todo) → ((w : List ℕ) → List·Memᴰ w todo → v ≺ w) × Ascending _≺_ todo
 ascending-next (next after ascending) = (after, ascending)
 
-module _ (E : Equation) {candidates : List (List ℕ)} (c : Candidates E candidates) where
+module _ (E : Equation) {candidates : List (List ℕ)} (region : Region E candidates) (solving : (v : List ℕ) → List·Memᴰ v candidates → Solves E v) where
   -- What holds while the candidates of `todo` are still to come.
   record Going (found todo : List (List ℕ)) : Type 0 where
     ascending : Ascending _≺_ found
@@ -93,7 +92,7 @@ module _ (E : Equation) {candidates : List (List ℕ)} (c : Candidates E candida
       record {
         ascending = none;
         rows = λ g m. absurd (List·Memᴰ·not-nil m);
-        todo-ascending = c .ascending;
+        todo-ascending = region .ascending;
         todo-candidates = λ v m. m;
         before = λ g v m m′. absurd (List·Memᴰ·not-nil m);
         covered = λ v m. inl m;
@@ -121,7 +120,7 @@ module _ (E : Equation) {candidates : List (List ℕ)} (c : Candidates E candida
     module _ (nothing-lower : someLower found v ≡ false) where
       -- a solution at or below it was a candidate: this one, or one that came before and has a row at or below
       is-minimal : Minimal E v
-      is-minimal = record { vector = c .vectors v mine; least = record { has = c .solving v mine; no-other = no-other } }
+      is-minimal = record { vector = region .lengths v mine; least = record { has = solving v mine; no-other = no-other } }
         where
           mine : List·Memᴰ v candidates
           mine = g .todo-candidates v (List·Memᴰ·head refl)
@@ -132,7 +131,7 @@ module _ (E : Equation) {candidates : List (List ℕ)} (c : Candidates E candida
           by-turn u below (inr cov) = absurd (some-lower-false nothing-lower (cov .member) (≼-trans (cov .at-or-below) below))
 
           no-other : (u : List ℕ) → u ≼ v → Solves E u → u ≡ v
-          no-other u below s = by-turn u below (g .covered u (c .closed u v mine below s))
+          no-other u below s = by-turn u below (g .covered u (region .closed u v mine below s))
 
       -- a candidate with no row found at or below it is kept
       taken : Going (found ++ (v ∷ [])) todo
@@ -169,13 +168,82 @@ module _ (E : Equation) {candidates : List (List ℕ)} (c : Candidates E candida
         by-test false e = taken e
 
   gone : (found todo : List (List ℕ)) → Going found todo → Exactly (Minimal E) (keepAll found todo)
-  gone found [] g = record { ascending = g .ascending; only = g .rows; all = λ v m. by-cover v m (g .covered v (c .minimal v m)) }
+  gone found [] g = record { ascending = g .ascending; only = g .rows; all = λ v m. by-cover v m (g .covered v (region .minimal v m)) }
     where
       by-cover : (v : List ℕ) → Minimal E v → List·Memᴰ v [] ⊎ Covered found v → List·Memᴰ v found
       by-cover v m (inl empty) = absurd (List·Memᴰ·not-nil empty)
       by-cover v m (inr cov) = Memᴰ·cast (sym (m .least .no-other (cov .row) (cov .at-or-below) (g .rows (cov .row) (cov .member) .least .has))) (cov .member)
   gone found (v ∷ todo) g = gone (keepOne found v) todo (one-step g)
 
-  -- What is kept of the candidates is exactly the minimal solutions, in ascending order.
+  -- What is kept of candidates that all solve is exactly the minimal solutions, in ascending order.
   pub kept-exact : Exactly (Minimal E) (kept candidates)
   kept-exact = gone [] candidates begun
+
+-- Any region: the vectors that solve are candidates.
+
+solves-true : (E : Equation) (v : List ℕ) → (solves E v ≡ true) ↔ Solves E v
+solves-true E v = (to, back)
+  where
+    left-side : ℕ
+    left-side = dot (E .left) v + E .left-offset
+
+    right-side : ℕ
+    right-side = dot (E .right) v + E .right-offset
+
+    positive : (h : Bool) → (not h || ltb 0 (sum v)) ≡ true → h ≡ true → 0 < sum v
+    positive true e t = ltb-true 0 (sum v) e
+    positive false e t = absurd (false≢true t)
+
+    tested : (h : Bool) → (h ≡ true → 0 < sum v) → (not h || ltb 0 (sum v)) ≡ true
+    tested true h = lt-ltb 0 (sum v) (h refl)
+    tested false h = refl
+
+    to : solves E v ≡ true → Solves E v
+    to e =
+        let b = both-true (eqb left-side right-side) (not (E .homogeneous) || ltb 0 (sum v)) e in
+        record { equal = eqb-true left-side right-side (b .0); not-all-zero = positive (E .homogeneous) (b .1) }
+
+    back : Solves E v → solves E v ≡ true
+    back s = ap₂ (λ b c. b && c) (eq-eqb left-side right-side (s .equal)) (tested (E .homogeneous) (s .not-all-zero))
+
+-- the members that pass a test, and their order
+module _ {A : Type 0} (test : A → Bool) where
+  pub filter-member : (xs : List A) {a : A} → List·Memᴰ a (filter test xs) → List·Memᴰ a xs × (test a ≡ true)
+  filter-member [] m = absurd (List·Memᴰ·not-nil m)
+  filter-member (x ∷ xs) {a} m = by-test (test x) refl m (λ m′. filter-member xs m′)
+    where
+      by-test : (b : Bool) → test x ≡ b → List·Memᴰ a (keep b x (filter test xs)) → (List·Memᴰ a (filter test xs) → List·Memᴰ a xs × (test a ≡ true))
+          → List·Memᴰ a (x ∷ xs) × (test a ≡ true)
+      by-test true t (List·Memᴰ·head e) rest = (List·Memᴰ·head e, ap test e ∙ t)
+      by-test true t (List·Memᴰ·tail m) rest = (List·Memᴰ·tail (rest m .0), rest m .1)
+      by-test false t m rest = (List·Memᴰ·tail (rest m .0), rest m .1)
+
+  keep-tail : (b : Bool) (x : A) {a : A} {xs : List A} → List·Memᴰ a xs → List·Memᴰ a (keep b x xs)
+  keep-tail true x m = List·Memᴰ·tail m
+  keep-tail false x m = m
+
+  pub member-filter : {xs : List A} {a : A} → List·Memᴰ a xs → test a ≡ true → List·Memᴰ a (filter test xs)
+  member-filter {a = a} (List·Memᴰ·head {x = x} {xs = xs} e) t =
+      subst (λ b. List·Memᴰ a (keep b x (filter test xs))) (sym (ap test (sym e) ∙ t)) (List·Memᴰ·head e)
+  member-filter (List·Memᴰ·tail {x = x} m) t = keep-tail (test x) x (member-filter m t)
+
+  pub filter-ascending : {_before_ : A → A → Type 0} {xs : List A} → Ascending _before_ xs → Ascending _before_ (filter test xs)
+  filter-ascending none = none
+  filter-ascending {_before_} (next {a = x} {rest = xs} others ascending) = by-test (test x) (filter-ascending ascending)
+    where
+      by-test : (b : Bool) → Ascending _before_ (filter test xs) → Ascending _before_ (keep b x (filter test xs))
+      by-test true kept-ones = next (λ a m. others a (filter-member xs m .0)) kept-ones
+      by-test false kept-ones = kept-ones
+
+-- The search finds exactly the minimal solutions, in every region.
+pub search-exact : (E : Equation) {vectors : List (List ℕ)} → Region E vectors → Exactly (Minimal E) (search E vectors)
+search-exact E {vectors} region = kept-exact E solving-ones (λ v m. solves-true E v .0 (filter-member (solves E) vectors m .1))
+  where
+    solving-ones : Region E (filter (solves E) vectors)
+    solving-ones =
+        record {
+          ascending = filter-ascending (solves E) (region .ascending);
+          lengths = λ v m. region .lengths v (filter-member (solves E) vectors m .0);
+          closed = λ u v m below s. member-filter (solves E) (region .closed u v (filter-member (solves E) vectors m .0) below s) (solves-true E u .1 s);
+          minimal = λ v m. member-filter (solves E) (region .minimal v m) (solves-true E v .1 (m .least .has));
+        }

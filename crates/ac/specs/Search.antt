@@ -58,18 +58,41 @@ pub record Enough (E : Equation) (up down : ℕ) : Type 0 where
   pub places : (i : ℕ) → (getD (E .left) i 0 ≤ getD (E .right) i 0 + down) × (getD (E .right) i 0 ≤ getD (E .left) i 0 + up)
   pub offsets : (E .left-offset ≤ E .right-offset + down) × (E .right-offset ≤ E .left-offset + up)
 
--- The rests of solutions, ascending, place by place: the coefficients of the places that are left, the two sums so far (offsets included), what is left
--- of the two budgets, and whether an all-zero rest counts.
-abbrev pub rests : List ℕ → List ℕ → ℕ → ℕ → ℕ → ℕ → Bool → List (List ℕ)
-rests [] right a b up down counts = keep (counts && eqb a b) [] []
-rests (l ∷ left) [] a b up down counts = []
-rests (l ∷ left) (r ∷ right) a b up down counts =
-    placed
-    (λ x. rests left right (a + l * x) (b + r * x) (cond (leb r l) (up - x) up) (cond (leb r l) down (down - x)) (counts || ltb 0 x))
-    (cond (leb r l) up down)
+-- What is carried from place to place: the two sums so far, offsets included; what is left of the two budgets; whether an all-zero rest counts.
+pub record Carried : Type 0 where
+  pub left-sum : ℕ
+  pub right-sum : ℕ
+  pub up : ℕ
+  pub down : ℕ
+  pub counts : Bool
+
+-- the most that a place with coefficients l and r may take
+abbrev pub most : ℕ → ℕ → Carried → ℕ
+most l r c = cond (leb r l) (c .up) (c .down)
+
+-- what is carried on after the number x at that place
+abbrev pub after : ℕ → ℕ → Carried → ℕ → Carried
+after l r c x =
+    record {
+      left-sum = c .left-sum + l * x;
+      right-sum = c .right-sum + r * x;
+      up = cond (leb r l) (c .up - x) (c .up);
+      down = cond (leb r l) (c .down) (c .down - x);
+      counts = c .counts || ltb 0 x;
+    }
+
+-- the rests that complete a solution, ascending, at the places that are left
+abbrev pub rests : List ℕ → List ℕ → Carried → List (List ℕ)
+rests [] right c = keep (c .counts && eqb (c .left-sum) (c .right-sum)) [] []
+rests (l ∷ left) [] c = []
+rests (l ∷ left) (r ∷ right) c = placed (λ x. rests left right (after l r c x)) (most l r c)
+
+-- what is carried to the first place
+abbrev pub start : Equation → ℕ → ℕ → Carried
+start E up down = record { left-sum = E .left-offset; right-sum = E .right-offset; up = up; down = down; counts = not (E .homogeneous) }
 
 abbrev pub solutions : Equation → ℕ → ℕ → List (List ℕ)
-solutions E up down = rests (E .left) (E .right) (E .left-offset) (E .right-offset) up down (not (E .homogeneous))
+solutions E up down = rests (E .left) (E .right) (start E up down)
 
 -- The least budgets that are enough.
 
@@ -89,9 +112,9 @@ abbrev pub minimalSolutions : Equation → List (List ℕ)
 minimalSolutions E = kept (solutions E (budgetUp E) (budgetDown E))
 
 -- The groups of a pair.
+
+abbrev pub groupOf : Mode → List ℕ → List ℕ → ℕ → Group
+groupOf M L R c = record { constant = c; rows = minimalSolutions (equationOf M L R c) }
+
 abbrev pub groups : Mode → List ℕ → List ℕ → Groups
-groups M L R =
-    record {
-      balanced = minimalSolutions (balancedEquation M L R);
-      constants = map (λ c. record { constant = c; rows = minimalSolutions (equationOf M L R c) }) (unbalanced M L R);
-    }
+groups M L R = record { balanced = minimalSolutions (balancedEquation M L R); constants = map (groupOf M L R) (unbalanced M L R) }

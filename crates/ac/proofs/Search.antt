@@ -64,7 +64,7 @@ pub record Region (E : Equation) (vectors : List (List ℕ)) : Type 0 where
   pub closed : (u v : List ℕ) → List·Memᴰ v vectors → u ≼ v → Solves E u → List·Memᴰ u vectors
   pub minimal : (v : List ℕ) → Minimal E v → List·Memᴰ v vectors
 
-ascending-last : {found : List (List ℕ)} {v : List ℕ} → Ascending _≺_ found → ((g : List ℕ) → List·Memᴰ g found → g ≺ v) → Ascending _≺_ (found ++ (v ∷ []))
+pub ascending-last : {found : List (List ℕ)} {v : List ℕ} → Ascending _≺_ found → ((g : List ℕ) → List·Memᴰ g found → g ≺ v) → Ascending _≺_ (found ++ (v ∷ []))
 ascending-last none before-v = next (λ b m. absurd (List·Memᴰ·not-nil m)) none
 ascending-last {v = v} (next {a = a} {rest = rest} after ascending) before-v =
     next (λ b m. by-part b (List·Memᴰ·append-cases rest m)) (ascending-last ascending (λ g m. before-v g (List·Memᴰ·tail m)))

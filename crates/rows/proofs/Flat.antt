@@ -3,9 +3,9 @@ use Prim.Native.Nat.{ℕ, zero, suc, _+_, _*_, _≤_, _<_}
 use native.Mathlib.Omega.{arith}
 use native.Mathlib.Nat.{suc-mul, zero-mul, zero-add}
 use mathlib.Core.Path.{_≡_, refl, sym, ap, ap₂, _∙_}
-use mathlib.Core.List.{List, [], _∷_, _++_, List·Memᴰ, List·Memᴰ·head, List·Memᴰ·tail}
-use lib.ListN.{length, take, drop}
-use lib.Seq.{drop-drop, take-take, take-add}
+use mathlib.Core.List.{List, [], _∷_, _++_, append-assoc, List·Memᴰ, List·Memᴰ·head, List·Memᴰ·tail}
+use lib.ListN.{length, take, drop, length-drop, take-append-drop}
+use lib.Seq.{drop-drop, take-append-le, drop-append-le, take-at, drop-at, length-take-le}
 use Rattle.rows.specs.Flat.{rowsOf}
 
 -- the row at an index
@@ -49,3 +49,40 @@ rows-snoc k zero bytes = ap {B = List (List ℕ)} (λ r. r ∷ []) (sym (first-r
 rows-snoc k (suc n) bytes =
     ap {B = List (List ℕ)} (λ rs. take k bytes ∷ rs)
     (rows-snoc k n (drop k bytes) ∙ ap {B = List (List ℕ)} (λ r. rowsOf k n (drop k bytes) ++ (r ∷ [])) (next-row k bytes n))
+
+-- rows that stand in the first part of the bytes
+pub rows-append : (k n : ℕ) (first others : List ℕ) → n * k ≤ length first → rowsOf k n (first ++ others) ≡ rowsOf k n first
+rows-append k zero first others room = refl
+rows-append k (suc n) first others room =
+    ap₂ {C = List (List ℕ)} (λ r rs. r ∷ rs) (take-append-le k first others within)
+    (ap (rowsOf k n) (drop-append-le k first others within) ∙ rows-append k n (drop k first) others (let h : n * k ≤ length (drop k first) = later in h))
+  where
+    within : k ≤ length first
+    within = omega (arith, suc-mul n k)
+
+    later : n * k ≤ length (drop k first)
+    later = omega (arith, suc-mul n k, length-drop k first)
+
+-- one row more, put behind the others
+pub rows-put : (k n : ℕ) (bytes row : List ℕ) → n * k ≤ length bytes → length row ≡ k
+    → rowsOf k (suc n) (take (n * k) bytes ++ row ++ drop (n * k + k) bytes) ≡ rowsOf k n bytes ++ (row ∷ [])
+rows-put k n bytes row room long =
+    ap (rowsOf k (suc n)) (append-assoc before row after)
+    ∙ rows-snoc k n (before ++ (row ++ after))
+    ∙ ap₂ {C = List (List ℕ)} (λ rs r. rs ++ (r ∷ [])) others
+    (ap (take k) (drop-at before (row ++ after) (n * k) length-before) ∙ take-at row after k long)
+  where
+    before : List ℕ
+    before = take (n * k) bytes
+
+    after : List ℕ
+    after = drop (n * k + k) bytes
+
+    length-before : length before ≡ n * k
+    length-before = length-take-le (n * k) bytes room
+
+    others : rowsOf k n (before ++ (row ++ after)) ≡ rowsOf k n bytes
+    others =
+        rows-append k n before (row ++ after) (omega (arith, length-before))
+        ∙ sym (rows-append k n before (drop (n * k) bytes) (omega (arith, length-before)))
+        ∙ ap (rowsOf k n) (take-append-drop (n * k) bytes)

@@ -106,3 +106,7 @@ pub ≼-before : {u v : List ℕ} → u ≼ v → (u ≺ v) ⊎ (u ≡ v)
     by-order (yes less) d = inl (here less)
     by-order (no not) (inl before) = inl (subst (λ k. (m ∷ u) ≺ (k ∷ v)) (let e : m ≡ n = omega arith in e) (later before))
     by-order (no not) (inr same) = inr (ap₂ {C = List ℕ} (λ k w. k ∷ w) (let e : m ≡ n = omega arith in e) same)
+
+pub begins-upto : (p : List ℕ) → Upto p p
+begins-upto [] = begins
+begins-upto (n ∷ p) = later (begins-upto p)

@@ -42,6 +42,12 @@ pub record Lower (rows : List (List ℕ)) (v : List ℕ) : Type 0 where
   pub found : List·Memᴰ row rows
   pub below : row ≼ v
 
+-- A vector is kept if it is a row: of every equation that it solves, the rows up to it are found where those before it were.
+pub record Keeps (limit : ℕ) (v bytes : List ℕ) (n : ℕ) (bytes′ : List ℕ) (n′ : ℕ) : Type 0 where
+  pub counted : n′ ≤ suc limit
+  pub found : (E : Equation) → length (E .left) ≡ length (E .right) → length v ≡ length (E .left) → Solves E v
+      → Holds limit (length v) (RowBefore E v) bytes n → Holds limit (length v) (RowUpto E v) bytes′ n′
+
 -- Of the entries at the places that are left, the sum of those whose left coefficient is at least the right one, and the sum of the others.
 abbrev pub upSum : List ℕ → List ℕ → List ℕ → ℕ
 upSum [] right rest = 0

@@ -2,9 +2,10 @@
 ghost use mathlib.Core.Path.{_≡_};
 ghost use mathlib.Core.Bool.{true, false};
 ghost use Prim.Native.Nat.{ℕ, _+_, _*_, _<_, _≤_, suc};
-ghost use lib.ListN.{length};
+ghost use mathlib.Core.List.{_++_};
+ghost use lib.ListN.{length, take, drop};
 ghost use Rattle.rows.specs.Flat.{rowsOf};
-ghost use Rattle.rows.specs.Walk.{Lower, Tells};
+ghost use Rattle.rows.specs.Walk.{Lower, Tells, Keeps};
 
 // Where the walk stands, of the numbers chosen so far: the two sums, the offsets included; what is left of the budget of the places whose left
 // coefficient is at least the right one, and of the others; and whether an all-zero rest counts.
@@ -41,4 +42,31 @@ fn lower(rows: &[u8], count: usize, vector: &[u8]) -> bool
         start += vector.len();
     }
     met
+}
+
+// Writes a row into the bytes from `start` on.
+fn put(rows: &mut [u8], start: usize, row: &[u8])
+    requires { ⌜ start + length (now row) ≤ length (now rows) ⌝ }
+    ensures { λ _. ⌜ now (rows .exit) ≡ take start (now (rows .entry)) ++ now (row .entry) ++ drop (start + length (now (row .entry))) (now (rows .entry)) ⌝ }
+{
+    let mut place = 0;
+    while place < row.len() {
+        rows[start + place] = row[place];
+        place += 1;
+    }
+}
+
+// Puts a vector that solves the equation behind the rows found, unless one of them is lower. What does not fit any more is only counted.
+fn keep(rows: &mut [u8], limit: usize, count: usize, vector: &[u8]) -> usize
+    requires { ⌜ (count ≤ limit) × (limit < 65536) × (limit * length (now vector) ≤ length (now rows)) ⌝ }
+    ensures { λ r. ⌜ Keeps limit (now (vector .entry)) (now (rows .entry)) count (now (rows .exit)) r ⌝ }
+{
+    if lower(rows, count, vector) {
+        return count;
+    }
+    if count == limit {
+        return count + 1;
+    }
+    put(rows, count * vector.len(), vector);
+    count + 1
 }

@@ -56,8 +56,11 @@ places-less c = omega (arith, c .before .before .before .before .places .inv .0 
 
 -- src/lib.rt:30:9
 places-again : tie.Need-places-again Inv-places μ-places Inv-rows μ-rows
-places-again c = (compared-more (c .before .before .before .before .before .before .before .pre) (c .before .before .before .before .before .before .rows .inv .0) (c .before .before .before .before .before .rows-test .taken)
-    (c .before .before .before .before .places .inv .0) (omega (arith, c .before .before .before .before .places .inv .0 .within)) (c .if2 .left), c .before .before .before .before .places .inv .1)
+places-again c = (
+  compared-more (c .before .before .before .before .before .before .before .pre) (c .before .before .before .before .before .before .rows .inv .0) (c .before .before .before .before .before .rows-test .taken)
+      (c .before .before .before .before .places .inv .0) (omega (arith, c .before .before .before .before .places .inv .0 .within)) (c .if2 .left),
+  c .before .before .before .before .places .inv .1,
+)
 
 -- src/lib.rt:40:9
 add-row : tie.Need-add-row Inv-places μ-places Inv-rows μ-rows
@@ -73,23 +76,26 @@ rows-less c = omega arith
 
 -- src/lib.rt:28:5
 rows-again : tie.Need-rows-again Inv-places μ-places Inv-rows μ-rows
-rows-again c = (tried-more (c .before .before .before .before .before .before .before .pre) (c .before .before .before .before .before .before .rows .inv .0) (c .before .before .before .before .before .rows-test .taken)
-    (omega (arith, c .before .before .before .before .places .inv .0 .within)) (c .if2 .taken), c .before .before .before .before .places .inv .1)
+rows-again c = (
+  tried-more (c .before .before .before .before .before .before .before .pre) (c .before .before .before .before .before .before .rows .inv .0) (c .before .before .before .before .before .rows-test .taken)
+      (omega (arith, c .before .before .before .before .places .inv .0 .within)) (c .if2 .taken),
+  c .before .before .before .before .places .inv .1,
+)
 
 -- src/lib.rt:21:1
 returns : tie.Need-returns Inv-places μ-places Inv-rows μ-rows
 returns c = record {
-      so = λ t. absurd (true≢false (sym t ∙ c .before .rows .inv .1));
-      not-so = λ f. tried-all (c .before .before .pre) (c .before .rows .inv .0) (c .rows-test .left);
-    }
+  so = λ t. absurd (true≢false (sym t ∙ c .before .rows .inv .1));
+  not-so = λ f. tried-all (c .before .before .pre) (c .before .rows .inv .0) (c .rows-test .left);
+}
 
 -- src/lib.rt:21:1
 returns-2 : tie.Need-returns-2 Inv-places μ-places Inv-rows μ-rows
 returns-2 c = record {
-      so = λ t. compared-all (c .before .before .before .before .pre) (c .before .before .before .rows .inv .0) (c .before .before .rows-test .taken)
-        (c .before .places .inv .0) (c .if1 .taken);
-      not-so = λ f. absurd (true≢false f);
-    }
+  so = λ t. compared-all (c .before .before .before .before .pre) (c .before .before .before .rows .inv .0) (c .before .before .rows-test .taken)
+      (c .before .places .inv .0) (c .if1 .taken);
+  not-so = λ f. absurd (true≢false f);
+}
 
 pub lower-spec : {M : Type 1} → statement M
 lower-spec =

@@ -110,3 +110,13 @@ pub ≼-before : {u v : List ℕ} → u ≼ v → (u ≺ v) ⊎ (u ≡ v)
 pub begins-upto : (p : List ℕ) → Upto p p
 begins-upto [] = begins
 begins-upto (n ∷ p) = later (begins-upto p)
+
+pub upto-shorter : (p q : List ℕ) {v : List ℕ} → Upto (p ++ q) v → Upto p v
+upto-shorter [] q u = begins
+upto-shorter (n ∷ p) q (here h) = here h
+upto-shorter (n ∷ p) q (later u) = later (upto-shorter p q u)
+
+-- the prefix with a number up to another
+pub number-upto : (p : List ℕ) {m n : ℕ} (rest : List ℕ) → m ≤ n → Upto (p ++ n ∷ []) (p ++ m ∷ rest)
+number-upto [] {m} {n} rest h = number-before-next n m rest (let h′ : m < suc n = omega arith in h′)
+number-upto (k ∷ p) rest h = later (number-upto p rest h)

@@ -17,6 +17,12 @@ pub struct Standing {
     pub counts: bool,
 }
 
+// From the first number to the most one that a place may have; none where the first is above the most.
+pub struct Range {
+    pub first: u8,
+    pub most: u8,
+}
+
 // Whether a row found is at or below the vector in every place. Any of them may be: the comparison ends as soon as one lower row is met,
 // or when all of them have been tried.
 fn lower(rows: &[u8], count: usize, vector: &[u8]) -> bool

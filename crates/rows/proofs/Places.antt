@@ -1,0 +1,72 @@
+-- Where the walk stands, from one place to the next, and which numbers a place can have in a row.
+use Prim.Native.Nat.{ℕ, zero, suc, _+_, _*_, _-_, _≤_, _<_}
+use native.Mathlib.Omega.{arith}
+use native.Mathlib.Nat.{mul-le-mul-left, mul-le-mul-right}
+use native.Mathlib.Decide.{decLt}
+use mathlib.Core.Path.{_≡_, refl, sym, ap, subst, _∙_}
+use mathlib.Core.Bool.{Bool, true, false, cond, _||_, true≢false, false≢true}
+use mathlib.Core.List.{List, [], _∷_, _++_, append-assoc}
+use lib.ListN.{length, length-append, getD}
+use lib.Dec.{leb, ltb}
+use borrow.Author.Tests.{leb-true, leb-false, lt-ltb, le-ltb, ltb-false}
+use Rattle.ac.specs.Lists.{sum}
+use Rattle.ac.specs.Equation.{Equation, Solves, Minimal, dot}
+use Rattle.rows.specs.declared.Standing.{Standing}
+use Rattle.rows.specs.Walk.{Stands, upSum, downSum, budgetOf, afterChoice}
+
+-- one place more in the prefix
+pub one-place : (p : List ℕ) (n : ℕ) (rest : List ℕ) → (p ++ n ∷ []) ++ rest ≡ p ++ n ∷ rest
+one-place p n rest = append-assoc p (n ∷ []) rest
+
+or-false : (a b : Bool) → (a || b) ≡ false → (a ≡ false) × (b ≡ false)
+or-false true b e = absurd (true≢false e)
+or-false false b e = (refl, e)
+
+false-or : {a b : Bool} → a ≡ false → b ≡ false → (a || b) ≡ false
+false-or {a} {b} e f = ap (λ x. x || b) e ∙ f
+
+-- a sum of two parts within a budget, of which the one part has its own place in it
+spent-own : (b : Bool) (n s : ℕ) {most : ℕ} → cond b n 0 + s ≤ most → s ≤ cond b (most - n) most
+spent-own true n s h = omega arith
+spent-own false n s h = omega arith
+
+spent-other : (b : Bool) (n s : ℕ) {most : ℕ} → cond b 0 n + s ≤ most → s ≤ cond b most (most - n)
+spent-other true n s h = omega arith
+spent-other false n s h = omega arith
+
+within-own : (b : Bool) (n s t : ℕ) {up down : ℕ} → cond b n 0 + s ≤ up → cond b 0 n + t ≤ down → n ≤ cond b up down
+within-own true n s t h h′ = omega arith
+within-own false n s t h h′ = omega arith
+
+module _ {E : Equation} {p left right : List ℕ} {l r : ℕ} {at : Standing} (s : Stands E p (l ∷ left) (r ∷ right) at) where
+  -- in a row, the next number is within the place's budget
+  pub number-within : (n : ℕ) (rest : List ℕ) → Minimal E (p ++ n ∷ rest) → n ≤ budgetOf at l r
+  number-within n rest minimal = within-own (leb r l) n (upSum left right rest) (downSum left right rest) (s .within-up (n ∷ rest) minimal) (s .within-down (n ∷ rest) minimal)
+
+  -- in a row, the numbers after the prefix are as many as the places that are left
+  pub rest-length : (n : ℕ) (rest : List ℕ) → Minimal E (p ++ n ∷ rest) → length rest ≡ length left
+  rest-length n rest minimal = omega (arith, s .places, minimal .vector, length-append p (n ∷ rest))
+
+  module _ (n : ℕ) where
+    not-zero : (rest : List ℕ) → ((at .counts || ltb 0 n) ≡ false → 0 < sum rest) → at .counts ≡ false → 0 < sum (n ∷ rest)
+    not-zero rest positive unless = by-size (decLt 0 n)
+      where
+        by-size : Dec (0 < n) → 0 < sum (n ∷ rest)
+        by-size (yes h) = omega arith
+        by-size (no not) = omega (arith, positive (false-or unless (le-ltb 0 n (omega arith))))
+
+    pub after-choice : Stands E (p ++ n ∷ []) left right (afterChoice at l r n)
+    after-choice =
+        record {
+          sides = s .sides;
+          level = omega (arith, s .level);
+          places = omega (arith, s .places, length-append p (n ∷ []));
+          solves = λ rest long e positive.
+              subst (Solves E) (sym (one-place p n rest)) (s .solves (n ∷ rest) (omega arith) (omega arith) (not-zero rest positive));
+          equal = λ rest long solves. omega (arith, s .equal (n ∷ rest) (omega arith) (subst (Solves E) (one-place p n rest) solves));
+          not-all-zero = λ rest long solves unless.
+              let both = or-false (at .counts) (ltb 0 n) unless in
+              omega (arith, s .not-all-zero (n ∷ rest) (omega arith) (subst (Solves E) (one-place p n rest) solves) (both .0), ltb-false 0 n (both .1));
+          within-up = λ rest minimal. spent-own (leb r l) n (upSum left right rest) (s .within-up (n ∷ rest) (subst (Minimal E) (one-place p n rest) minimal));
+          within-down = λ rest minimal. spent-other (leb r l) n (downSum left right rest) (s .within-down (n ∷ rest) (subst (Minimal E) (one-place p n rest) minimal));
+        }

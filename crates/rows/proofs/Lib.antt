@@ -3,3 +3,5 @@ pub mod Flat
 pub mod Below
 pub mod Held
 pub mod Places
+pub mod Reach
+pub mod Ranges

@@ -103,6 +103,11 @@ pub record Possible (at : Standing) (l r : ℕ) (last : Bool) (n : ℕ) : Type 0
   pub within : n ≤ budgetOf at l r
   pub equal : last ≡ true → l * n + at .left ≡ r * n + at .right
 
+-- the numbers within the budget that lift the lower sum, by so much for each unit, to the higher one
+pub record Lifts (low high step budget : ℕ) (range : Range) : Type 0 where
+  pub within : range .most ≤ budget
+  pub covers : (n : ℕ) → n ≤ budget → step * n + low ≡ high → (range .first ≤ n) × (n ≤ range .most)
+
 -- from a first number to a most one, the numbers that a place may have
 pub record Ranges (at : Standing) (l r : ℕ) (last : Bool) (range : Range) : Type 0 where
   pub within : range .most ≤ budgetOf at l r

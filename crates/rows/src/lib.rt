@@ -5,7 +5,7 @@ ghost use Prim.Native.Nat.{ℕ, _+_, _*_, _<_, _≤_, suc};
 ghost use mathlib.Core.List.{_++_};
 ghost use lib.ListN.{length, take, drop};
 ghost use Rattle.rows.specs.Flat.{rowsOf};
-ghost use Rattle.rows.specs.Walk.{Lower, Tells, Keeps};
+ghost use Rattle.rows.specs.Walk.{Lower, Tells, Keeps, Settles, Room, Apart, Lifts, Ranges, budgetOf, afterChoice};
 
 // Where the walk stands, of the numbers chosen so far: the two sums, the offsets included; what is left of the budget of the places whose left
 // coefficient is at least the right one, and of the others; and whether an all-zero rest counts.
@@ -75,4 +75,113 @@ fn keep(rows: &mut [u8], limit: usize, count: usize, vector: &[u8]) -> usize
     }
     put(rows, count * vector.len(), vector);
     count + 1
+}
+
+// At the end of a vector: keeps it if it solves the equation.
+fn settle(rows: &mut [u8], limit: usize, count: usize, vector: &[u8], at: Standing) -> usize
+    requires { ⌜ (count ≤ limit) × (limit < 65536) × (limit * length (now vector) ≤ length (now rows)) ⌝ }
+    ensures { λ r. ⌜ Settles limit (now (vector .entry)) at (now (rows .entry)) count (now (rows .exit)) r ⌝ }
+{
+    if at.left != at.right {
+        return count;
+    }
+    if !at.counts {
+        return count;
+    }
+    keep(rows, limit, count, vector)
+}
+
+fn wide(byte: u8) -> u32
+    ensures { λ r. ⌜ r ≡ byte ⌝ }
+{
+    byte as u32
+}
+
+fn times(a: u8, b: u8) -> u32
+    ensures { λ r. ⌜ r ≡ a * b ⌝ }
+{
+    wide(a) * wide(b)
+}
+
+// What is left of the budget that a place with these coefficients spends.
+fn budget(at: Standing, left: u8, right: u8) -> u8
+    ensures { λ r. ⌜ r ≡ budgetOf at left right ⌝ }
+{
+    if right <= left { at.up } else { at.down }
+}
+
+// Where the walk stands when a place with these coefficients has got its number.
+fn chosen(at: Standing, left: u8, right: u8, number: u8) -> Standing
+    requires { ⌜ (number ≤ budgetOf at left right) × Room at ⌝ }
+    ensures { λ r. ⌜ r ≡ afterChoice at left right number ⌝ }
+{
+    let a = at.left + times(left, number);
+    let b = at.right + times(right, number);
+    if right <= left {
+        Standing {
+            left: a,
+            right: b,
+            up: at.up - number,
+            down: at.down,
+            counts: at.counts | (0 < number),
+        }
+    } else {
+        Standing {
+            left: a,
+            right: b,
+            up: at.up,
+            down: at.down - number,
+            counts: at.counts | (0 < number),
+        }
+    }
+}
+
+// Whether the two sums are further apart than what is left of the budgets can bridge, where no coefficient left is above these.
+fn apart(at: Standing, lift: u8, drop: u8) -> bool
+    requires { ⌜ Room at ⌝ }
+    ensures { λ r. ⌜ (r ≡ true → Apart at lift drop) ⌝ }
+{
+    if at.left + times(at.up, lift) < at.right {
+        return true;
+    }
+    if at.right + times(at.down, drop) < at.left {
+        return true;
+    }
+    false
+}
+
+// The one number within the budget that can lift the lower sum, by so much for each unit, to the higher one.
+fn divided(low: u32, high: u32, step: u8, budget: u8) -> Range
+    requires { ⌜ 0 < step ⌝ }
+    ensures { λ r. ⌜ Lifts low high step budget r ⌝ }
+{
+    if high < low {
+        return Range { first: 1, most: 0 };
+    }
+    let number = (high - low) / wide(step);
+    if wide(budget) < number {
+        return Range { first: 1, most: 0 };
+    }
+    Range {
+        first: number as u8,
+        most: number as u8,
+    }
+}
+
+// The numbers that a place with these coefficients may have: up to its budget, and at the last place only the one that makes the sums equal.
+fn possible(at: Standing, left: u8, right: u8, last: bool) -> Range
+    ensures { λ r. ⌜ Ranges at left right last r ⌝ }
+{
+    if last {
+        if right < left {
+            return divided(at.left, at.right, left - right, at.up);
+        }
+        if left < right {
+            return divided(at.right, at.left, right - left, at.down);
+        }
+    }
+    Range {
+        first: 0,
+        most: budget(at, left, right),
+    }
 }

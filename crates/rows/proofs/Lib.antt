@@ -5,3 +5,4 @@ pub mod Held
 pub mod Places
 pub mod Reach
 pub mod Ranges
+pub mod Walking

@@ -5,7 +5,7 @@ ghost use Prim.Native.Nat.{ℕ, _+_, _*_, _<_, _≤_, suc};
 ghost use mathlib.Core.List.{_++_};
 ghost use lib.ListN.{length, take, drop};
 ghost use Rattle.rows.specs.Flat.{rowsOf};
-ghost use Rattle.rows.specs.Walk.{Lower, Tells, Keeps, Settles, Room, Apart, Lifts, Ranges, budgetOf, afterChoice};
+ghost use Rattle.rows.specs.Walk.{Lower, Tells, Keeps, Settles, Room, Apart, Lifts, Ranges, Ready, Walks, budgetOf, afterChoice};
 
 // Where the walk stands, of the numbers chosen so far: the two sums, the offsets included; what is left of the budget of the places whose left
 // coefficient is at least the right one, and of the others; and whether an all-zero rest counts.
@@ -183,5 +183,60 @@ fn possible(at: Standing, left: u8, right: u8, last: bool) -> Range
     Range {
         first: 0,
         most: budget(at, left, right),
+    }
+}
+
+// Finds the rows that begin with the numbers of the vector before `place`, when those that stand before them are found: the numbers that the place
+// may have are taken one after the other, ascending, and with each of them the walk goes on from the next place.
+fn walk(
+    left: &[u8],
+    right: &[u8],
+    lifts: &[u8],
+    drops: &[u8],
+    vector: &mut [u8],
+    rows: &mut [u8],
+    limit: usize,
+    place: usize,
+    count: usize,
+    at: Standing,
+) -> usize
+    requires { ⌜ Ready limit (now left) (now right) (now lifts) (now drops) (now vector) (now rows) place count at ⌝ }
+    ensures { λ r. ⌜ Walks limit (now (left .entry)) (now (right .entry)) (now (vector .entry)) (now (rows .entry)) place count at (now (vector .exit)) (now (rows .exit)) r ⌝ }
+{
+    if limit < count {
+        return count;
+    }
+    if place == left.len() {
+        return settle(rows, limit, count, vector, at);
+    }
+    if apart(at, lifts[place], drops[place]) {
+        return count;
+    }
+    let range = possible(at, left[place], right[place], place + 1 == left.len());
+    let most = range.most;
+    let mut number = range.first;
+    if most < number {
+        return count;
+    }
+    let mut found = count;
+    loop {
+        vector[place] = number;
+        let next = chosen(at, left[place], right[place], number);
+        found = walk(
+            left,
+            right,
+            lifts,
+            drops,
+            vector,
+            rows,
+            limit,
+            place + 1,
+            found,
+            next,
+        );
+        if number == most {
+            return found;
+        }
+        number += 1;
     }
 }

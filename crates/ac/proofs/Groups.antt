@@ -7,11 +7,11 @@ use lib.ListN.{length, length-map}
 use Rattle.ac.specs.Pair.{Mode, count, variables, unbalanced}
 use Rattle.ac.specs.Rows.{Exactly, RowOf, Group, Groups, GroupsOf}
 use Rattle.ac.specs.Equation.{balancedEquation, equationOf}
-use Rattle.ac.specs.Search.{minimalSolutions, groupOf, groups}
+use Rattle.ac.specs.Search.{groupOf, groups}
 use Rattle.ac.proofs.Vectors.{exactly-same}
 use Rattle.ac.proofs.Order.{exactly-unique}
 use Rattle.ac.proofs.Bridge.{balanced-row-is-minimal, row-of-constant-is-minimal}
-use Rattle.ac.proofs.Regions.{minimal-solutions-exact}
+use Rattle.ac.proofs.Solutions.{minimal-solutions-exact}
 
 module _ (M : Mode) (L R : List ℕ) where
   -- both sides of the pair's equations have a coefficient for each variable

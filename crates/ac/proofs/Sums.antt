@@ -1,18 +1,17 @@
 -- Every solution is a sum of rows: a balanced vector is a sum of balanced rows, a constant's vector is one of its rows and a sum of balanced rows.
-use Prim.Native.Nat.{ℕ, zero, suc, _+_, _*_, _≤_, _<_}
+use Prim.Native.Nat.{ℕ, zero, suc, _+_, _≤_, _<_}
 use native.Mathlib.Omega.{arith}
 use native.Mathlib.Decide.{decLe}
 use mathlib.Core.Path.{_≡_, refl, sym, ap, subst, _∙_}
-use mathlib.Core.Logic.{_↔_, _⊎_, inl, inr}
 use mathlib.Core.Bool.{Bool, true, false, false≢true}
 use mathlib.Core.List.{List, [], _∷_, map, List·Memᴰ, List·Memᴰ·head, List·Memᴰ·tail}
 use lib.ListN.{length, length-map, getD, replicate, length-replicate}
 use lib.IntN.{pos, negℤ}
 use Rattle.ac.specs.Lists.{sum}
 use Rattle.ac.specs.Pair.{Mode, count, net, variables}
-use Rattle.ac.specs.Rows.{IsVector, weight, Least, _≼_, Exactly, BalancedRow, RowOf, Group, Groups, GroupsOf}
-use Rattle.ac.specs.Equation.{dot, Equation, Solves, Minimal, balancedEquation, equationOf, combined, SumOf, RowAndSum}
-use Rattle.ac.proofs.Vectors.{same-length, ≼-refl, ≼-trans, decide-≼, least-unless, weighted, at, dot-weighted, Rest, rest-of, exactly-same}
+use Rattle.ac.specs.Rows.{IsVector, weight, Least, _≼_, Exactly, Group, Groups, GroupsOf}
+use Rattle.ac.specs.Equation.{dot, Equation, Solves, Minimal, balancedEquation, combined, SumOf, RowAndSum}
+use Rattle.ac.proofs.Vectors.{same-length, ≼-refl, ≼-trans, decide-≼, least-unless, at, dot-weighted, Rest, rest-of, exactly-same}
 use Rattle.ac.proofs.Bridge.{weight-zero, weight-of-constant, balanced-row-is-minimal, row-of-constant-is-minimal}
 
 -- Some row is below.

@@ -3,9 +3,9 @@
 use Prim.Native.Nat.{ℕ, zero, suc, _+_, _*_, _-_, _≤_, max}
 use mathlib.Core.Bool.{Bool, true, false, not, cond, _&&_, _||_}
 use mathlib.Core.List.{List, [], _∷_, _++_, map}
-use lib.ListN.{length, getD}
+use lib.ListN.{getD}
 use lib.Dec.{leb, ltb, eqb}
-use Rattle.ac.specs.Lists.{below, keep, filter, flatMap, sum}
+use Rattle.ac.specs.Lists.{from, keep, filter, flatMap, sum}
 use Rattle.ac.specs.Pair.{Mode, unbalanced}
 use Rattle.ac.specs.Rows.{Group, Groups}
 use Rattle.ac.specs.Equation.{dot, Equation, balancedEquation, equationOf}
@@ -34,9 +34,13 @@ keepAll found (v ∷ candidates) = keepAll (keepOne found v) candidates
 abbrev pub kept : List (List ℕ) → List (List ℕ)
 kept candidates = keepAll [] candidates
 
--- The numbers that a place may take, ascending, each in front of the rests that go with it.
+-- The vectors whose first number is one of the n numbers from x on, ascending, each in front of the tails that go with it.
+abbrev pub numbersFrom : (ℕ → List (List ℕ)) → ℕ → ℕ → List (List ℕ)
+numbersFrom tails x n = flatMap (λ y. map (λ v. y ∷ v) (tails y)) (from x n)
+
+-- those whose first number is at most the given one
 abbrev pub placed : (ℕ → List (List ℕ)) → ℕ → List (List ℕ)
-placed rests most = flatMap (λ x. map (λ v. x ∷ v) (rests x)) (below (suc most))
+placed tails most = numbersFrom tails 0 (suc most)
 
 -- The plain search: all vectors with entries up to a bound, ascending, those that solve, those kept.
 
@@ -96,20 +100,35 @@ solutions E up down = rests (E .left) (E .right) (start E up down)
 
 -- The least budgets that are enough.
 
--- the largest of what the first numbers are beyond the second
-abbrev pub largest : List ℕ → List ℕ → ℕ
-largest [] ms = 0
-largest (n ∷ ns) [] = max n (largest ns [])
-largest (n ∷ ns) (m ∷ ms) = max (n - m) (largest ns ms)
+-- what the first numbers are beyond the second, place by place
+abbrev pub beyond : List ℕ → List ℕ → List ℕ
+beyond [] ms = []
+beyond (n ∷ ns) [] = n ∷ beyond ns []
+beyond (n ∷ ns) (m ∷ ms) = (n - m) ∷ beyond ns ms
+
+abbrev pub largest : List ℕ → ℕ
+largest [] = 0
+largest (n ∷ ns) = max n (largest ns)
 
 abbrev pub budgetUp : Equation → ℕ
-budgetUp E = max 1 (largest (E .right-offset ∷ E .right) (E .left-offset ∷ E .left))
+budgetUp E = max 1 (largest (beyond (E .right-offset ∷ E .right) (E .left-offset ∷ E .left)))
 
 abbrev pub budgetDown : Equation → ℕ
-budgetDown E = largest (E .left-offset ∷ E .left) (E .right-offset ∷ E .right)
+budgetDown E = largest (beyond (E .left-offset ∷ E .left) (E .right-offset ∷ E .right))
 
 abbrev pub minimalSolutions : Equation → List (List ℕ)
 minimalSolutions E = kept (solutions E (budgetUp E) (budgetDown E))
+
+-- The equation of net parts: left is what left is beyond right, and right what right is beyond left.
+abbrev pub netted : Equation → Equation
+netted E =
+    record {
+      left = beyond (E .left) (E .right);
+      right = beyond (E .right) (E .left);
+      left-offset = E .left-offset - E .right-offset;
+      right-offset = E .right-offset - E .left-offset;
+      homogeneous = E .homogeneous;
+    }
 
 -- The groups of a pair.
 

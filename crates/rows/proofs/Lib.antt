@@ -6,3 +6,4 @@ pub mod Places
 pub mod Reach
 pub mod Ranges
 pub mod Walking
+pub mod Whole

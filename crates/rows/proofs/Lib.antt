@@ -5,5 +5,6 @@ pub mod Held
 pub mod Places
 pub mod Reach
 pub mod Ranges
+pub mod LargestBytes
 pub mod Walking
 pub mod Whole

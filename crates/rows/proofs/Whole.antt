@@ -1,5 +1,5 @@
 -- The whole walk: where it starts, with budgets that are enough, and what it has found at the end.
-use Prim.Native.Nat.{ℕ, suc, _+_, _*_, _≤_, _<_}
+use Prim.Native.Nat.{ℕ, suc, _+_, _*_, _≤_, _<_, max}
 use native.Mathlib.Omega.{arith}
 use native.Mathlib.Nat.{le-trans}
 use mathlib.Core.Path.{_≡_, refl, sym, ap, subst, _∙_}
@@ -11,16 +11,16 @@ use borrow.Author.Tests.{not-false}
 use Rattle.ac.specs.Lists.{sum, Ascending, Ascending.none, Ascending.next}
 use Rattle.ac.specs.Rows.{Exactly, _≺_}
 use Rattle.ac.specs.Equation.{Equation, Solves, Minimal, dot}
-use Rattle.ac.specs.Search.{Enough}
 use Rattle.ac.proofs.Vectors.{weighted, at, exactly-same}
 use Rattle.ac.proofs.Order.{≺-asymmetric}
 use Rattle.ac.proofs.Walk.{up, down}
 use Rattle.ac.proofs.Bound.{lambert-bound}
 use Rattle.ac.proofs.Solutions.{minimal-solutions-exact}
 use Rattle.rows.specs.declared.Standing.{Standing}
-use Rattle.rows.specs.Found.{Finds, Finds.few, Finds.more}
-use Rattle.rows.specs.Walk.{Holds, Holds.few, Holds.more, Upto.begins, RowBefore, RowUpto, Stands, upSum, downSum}
+use Rattle.rows.specs.Found.{equation, Finds, Finds.few, Finds.more}
+use Rattle.rows.specs.Walk.{Holds, Holds.few, Holds.more, Upto.begins, RowBefore, RowUpto, Stands, Starts, Searchable, Ready, AtMost, Tops, upSum, downSum}
 use Rattle.rows.proofs.Prefix.{nothing-before}
+use Rattle.rows.proofs.LargestBytes.{at-most-everywhere}
 
 -- The sums within the budgets are Lambert's.
 
@@ -44,20 +44,55 @@ down-sum-weighted (l ∷ left) [] v = omega arith
 down-sum-weighted (l ∷ left) (r ∷ right) [] = omega arith
 down-sum-weighted (l ∷ left) (r ∷ right) (n ∷ v) = omega (arith, other-part (leb r l) n, down-sum-weighted left right v)
 
+-- budgets from the largest coefficients, the offsets among them, are enough
+pub starts-from-largest : {left right : List ℕ} {a b mostLeft mostRight : ℕ} {h : Bool} {standing : Standing} → AtMost left 0 mostLeft → AtMost right 0 mostRight
+    → standing .left ≡ a → standing .right ≡ b → standing .counts ≡ not h → standing .up ≡ max 1 (max b mostRight) → standing .down ≡ max a mostLeft
+    → standing .up < 256 → standing .down < 256 → Starts (equation left right a b h) standing
+starts-from-largest {left} {right} lefts rights left-sum right-sum counts up-budget down-budget up-byte down-byte =
+    record {
+      left-sum = left-sum;
+      right-sum = right-sum;
+      counts = counts;
+      enough = record {
+        some = omega arith;
+        places = λ i. (omega (arith, at-most-everywhere left lefts i), omega (arith, at-most-everywhere right rights i));
+        offsets = (omega arith, omega arith);
+      };
+      room = record { left-room = omega arith; right-room = omega arith };
+    }
+
 -- before the first place, with the offsets as the sums so far
-pub stands-start : (E : Equation) (standing : Standing) → length (E .left) ≡ length (E .right) → standing .left ≡ E .left-offset → standing .right ≡ E .right-offset
-    → standing .counts ≡ not (E .homogeneous) → Enough E (standing .up) (standing .down) → Stands E [] (E .left) (E .right) standing
-stands-start E standing sides left-sum right-sum counts enough =
-    record
-    { sides = sides
-    ; level = sides
-    ; places = omega arith
-    ; solves = λ rest long e positive.
-        record { equal = omega arith; not-all-zero = λ t. positive (counts ∙ ap not t) }
-    ; equal = λ rest long solves. omega (arith, solves .equal)
-    ; not-all-zero = λ rest long solves zero. solves .not-all-zero (not-false (E .homogeneous) (sym counts ∙ zero))
-    ; within-up = λ rest minimal. le-trans (up-sum-weighted (E .left) (E .right) rest) (lambert-bound E minimal enough .0)
-    ; within-down = λ rest minimal. le-trans (down-sum-weighted (E .left) (E .right) rest) (lambert-bound E minimal enough .1) }
+pub stands-start : {E : Equation} {standing : Standing} → length (E .left) ≡ length (E .right) → Starts E standing → Stands E [] (E .left) (E .right) standing
+stands-start {E} sides starts =
+    record {
+      sides = sides;
+      level = sides;
+      places = omega arith;
+      solves = λ rest long e positive.
+          record { equal = omega (arith, starts .left-sum, starts .right-sum); not-all-zero = λ t. positive (starts .counts ∙ ap not t) };
+      equal = λ rest long solves. omega (arith, solves .equal, starts .left-sum, starts .right-sum);
+      not-all-zero = λ rest long solves zero. solves .not-all-zero (not-false (E .homogeneous) (sym (starts .counts) ∙ zero));
+      within-up = λ rest minimal. le-trans (up-sum-weighted (E .left) (E .right) rest) (lambert-bound E minimal (starts .enough) .0);
+      within-down = λ rest minimal. le-trans (down-sum-weighted (E .left) (E .right) rest) (lambert-bound E minimal (starts .enough) .1);
+    }
+
+pub ready-start : {limit : ℕ} {left right bytes mostLeft mostRight vector : List ℕ} {E : Equation} {standing : Standing} → Searchable limit left right bytes
+    → Starts E standing → Tops left mostLeft → Tops right mostRight → length mostLeft ≡ 6 → length mostRight ≡ 6 → length vector ≡ length left
+    → Ready limit left right mostLeft mostRight vector bytes 0 0 standing
+ready-start searchable starts lefts rights six-lefts six-rights vectors =
+    record {
+      rights = searchable .rights;
+      most-lefts = omega (arith, searchable .few-places);
+      most-rights = omega (arith, searchable .few-places);
+      vectors = vectors;
+      bytes-room = searchable .bytes-room;
+      limited = searchable .limited;
+      within = omega arith;
+      counted = omega arith;
+      room = starts .room;
+      left-tops = lefts;
+      right-tops = rights;
+    }
 
 -- before the first place nothing has to be found
 pub holds-start : (E : Equation) (limit : ℕ) (bytes : List ℕ) → Holds limit (length (E .left)) (RowBefore E []) bytes 0

@@ -1,13 +1,14 @@
 -- What is known on the way of the walk: which rows are found, and where the walk stands.
 use Prim.Native.Nat.{ℕ, zero, suc, _+_, _*_, _-_, _^_, _≤_, _<_}
 use mathlib.Core.Path.{_≡_}
-use mathlib.Core.Bool.{Bool, true, false, cond, _||_}
+use mathlib.Core.Bool.{Bool, true, false, not, cond, _||_}
 use mathlib.Core.List.{List, [], _∷_, _++_, List·Memᴰ}
 use lib.ListN.{length, getD, take, drop}
 use lib.Dec.{leb, ltb}
 use Rattle.ac.specs.Lists.{sum, Ascending}
 use Rattle.ac.specs.Rows.{Exactly, _≺_, _≼_}
 use Rattle.ac.specs.Equation.{Equation, Solves, Minimal, dot}
+use Rattle.ac.specs.Search.{Enough}
 use Rattle.rows.specs.Flat.{rowsOf}
 use Rattle.rows.specs.declared.Standing.{Standing}
 use Rattle.rows.specs.declared.Range.{Range}
@@ -89,9 +90,21 @@ pub record Room (at : Standing) : Type 0 where
   pub left-room : at .left + 255 * (at .up + at .down) < 2 ^ 32
   pub right-room : at .right + 255 * (at .up + at .down) < 2 ^ 32
 
--- every coefficient of the places from i on is at most the entry at i
+-- every coefficient of the places from i on is at most a number
+abbrev pub AtMost : List ℕ → ℕ → ℕ → Type 0
+AtMost coefficients i most = (j : ℕ) → i ≤ j → j < length coefficients → getD coefficients j 0 ≤ most
+
+-- for each place such a number
 abbrev pub Tops : List ℕ → List ℕ → Type 0
-Tops coefficients tops = (i j : ℕ) → i ≤ j → j < length coefficients → getD coefficients j 0 ≤ getD tops i 0
+Tops coefficients tops = (i : ℕ) → AtMost coefficients i (getD tops i 0)
+
+-- where the walk starts: with the offsets as sums, and budgets that are enough
+pub record Starts (E : Equation) (at : Standing) : Type 0 where
+  pub left-sum : at .left ≡ E .left-offset
+  pub right-sum : at .right ≡ E .right-offset
+  pub counts : at .counts ≡ not (E .homogeneous)
+  pub enough : Enough E (at .up) (at .down)
+  pub room : Room at
 
 -- the two sums are further apart than the budgets can bridge, where no coefficient left is above these
 pub data Apart (at : Standing) (mostLeft mostRight : ℕ) : Type 0 where
@@ -131,8 +144,8 @@ pub record Settles (limit : ℕ) (v : List ℕ) (at : Standing) (bytes : List �
 -- what the walk is given at a place
 pub record Ready (limit : ℕ) (left right mostLeft mostRight vector bytes : List ℕ) (place n : ℕ) (at : Standing) : Type 0 where
   pub rights : length right ≡ length left
-  pub most-lefts : length mostLeft ≡ length left
-  pub most-rights : length mostRight ≡ length left
+  pub most-lefts : length left ≤ length mostLeft
+  pub most-rights : length left ≤ length mostRight
   pub vectors : length vector ≡ length left
   pub bytes-room : limit * length left ≤ length bytes
   pub limited : limit < 65536
@@ -148,3 +161,10 @@ pub record Walks (limit : ℕ) (left right vector bytes : List ℕ) (place n : �
   pub prefix : take place vector′ ≡ take place vector
   pub found : (E : Equation) → Stands E (take place vector) (drop place left) (drop place right) at
       → Advances E (take place vector) limit bytes n bytes′ n′
+
+-- an equation of at most 6 places, and bytes for as many rows as the limit says
+pub record Searchable (limit : ℕ) (left right bytes : List ℕ) : Type 0 where
+  pub rights : length right ≡ length left
+  pub few-places : length left ≤ 6
+  pub bytes-room : limit * length left ≤ length bytes
+  pub limited : limit < 65536

@@ -1,11 +1,12 @@
 // The rows of one equation, found by a walk through the vectors in ascending order, place by place.
 ghost use mathlib.Core.Path.{_≡_};
 ghost use mathlib.Core.Bool.{true, false};
-ghost use Prim.Native.Nat.{ℕ, _+_, _*_, _<_, _≤_, suc};
+ghost use Prim.Native.Nat.{ℕ, _+_, _*_, _<_, _≤_, suc, max};
 ghost use mathlib.Core.List.{_++_};
 ghost use lib.ListN.{length, take, drop};
 ghost use Rattle.rows.specs.Flat.{rowsOf};
-ghost use Rattle.rows.specs.Walk.{Lower, Tells, Keeps, Settles, Room, Apart, Lifts, Ranges, Ready, Walks, budgetOf, afterChoice};
+ghost use Rattle.rows.specs.Walk.{Lower, Tells, Keeps, Settles, Room, Apart, Lifts, Ranges, Ready, Walks, AtMost, Tops, Starts, Searchable, budgetOf, afterChoice};
+ghost use Rattle.rows.specs.Found.{equation, Finds};
 
 // Where the walk stands, of the numbers chosen so far: the two sums, the offsets included; what is left of the budget of the places whose left
 // coefficient is at least the right one, and of the others; and whether an all-zero rest counts.
@@ -239,4 +240,90 @@ fn walk(
         }
         number += 1;
     }
+}
+
+// The larger of two bytes.
+fn larger(a: u8, b: u8) -> u8
+    ensures { λ r. ⌜ r ≡ max a b ⌝ }
+{
+    if a < b { b } else { a }
+}
+
+// The largest of the bytes from a place on.
+fn largest(bytes: &[u8], from: usize) -> u8
+    ensures { λ r. ⌜ AtMost (now (bytes .entry)) from r ⌝ }
+{
+    let mut most = 0;
+    let mut place = from;
+    while place < bytes.len() {
+        most = larger(most, bytes[place]);
+        place += 1;
+    }
+    most
+}
+
+// For each place the largest of the bytes from there on.
+fn tops(bytes: &[u8]) -> [u8; 6]
+    requires { ⌜ length (now bytes) ≤ 6 ⌝ }
+    ensures { λ r. ⌜ Tops (now (bytes .entry)) r ⌝ }
+{
+    let mut each = [0u8; 6];
+    let mut place = 0;
+    while place < bytes.len() {
+        each[place] = largest(bytes, place);
+        place += 1;
+    }
+    each
+}
+
+// Where the walk starts. The places whose left coefficient is at least the right one get their budget from the largest right coefficient, the
+// others from the largest left one, the offsets among them: the other side sets how large an entry of a row can be.
+fn start(
+    left: &[u8],
+    right: &[u8],
+    left_offset: u8,
+    right_offset: u8,
+    homogeneous: bool,
+) -> Standing
+    ensures { λ r. ⌜ Starts (equation (now (left .entry)) (now (right .entry)) «left_offset» «right_offset» homogeneous) r ⌝ }
+{
+    Standing {
+        left: wide(left_offset),
+        right: wide(right_offset),
+        up: larger(1, larger(right_offset, largest(right, 0))),
+        down: larger(left_offset, largest(left, 0)),
+        counts: !homogeneous,
+    }
+}
+
+// Finds the rows of an equation: the bytes get them, one after the other, unless they are more than the limit; then the number after it is given.
+pub fn search(
+    left: &[u8],
+    right: &[u8],
+    left_offset: u8,
+    right_offset: u8,
+    homogeneous: bool,
+    rows: &mut [u8],
+    limit: usize,
+) -> usize
+    requires { ⌜ Searchable limit (now left) (now right) (now rows) ⌝ }
+    ensures { λ r. ⌜ Finds limit (equation (now (left .entry)) (now (right .entry)) «left_offset» «right_offset» homogeneous) (now (rows .exit)) r ⌝ }
+{
+    let lifts = tops(left);
+    let drops = tops(right);
+    let at = start(left, right, left_offset, right_offset, homogeneous);
+    let places = left.len();
+    let mut vector = [0u8; 6];
+    walk(
+        left,
+        right,
+        &lifts,
+        &drops,
+        &mut vector[..places],
+        rows,
+        limit,
+        0,
+        0,
+        at,
+    )
 }

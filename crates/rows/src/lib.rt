@@ -24,6 +24,12 @@ pub struct Range {
     pub most: u8,
 }
 
+// The rows of an equation with at most 6 places, one after the other from the first byte on, and their number, where 17 says more than 16.
+pub struct Found {
+    pub rows: [u8; 96],
+    pub number: usize,
+}
+
 // Whether a row found is at or below the vector in every place. Any of them may be: the comparison ends as soon as one lower row is met,
 // or when all of them have been tried.
 fn lower(rows: &[u8], count: usize, vector: &[u8]) -> bool
@@ -326,4 +332,29 @@ pub fn search(
         0,
         at,
     )
+}
+
+// The rows of an equation with at most 6 places, given by its coefficients and offsets.
+pub fn find_rows(
+    left: [u8; 6],
+    right: [u8; 6],
+    places: usize,
+    left_offset: u8,
+    right_offset: u8,
+    homogeneous: bool,
+) -> Found
+    requires { ⌜ places ≤ 6 ⌝ }
+    ensures { λ r. ⌜ Finds 16 (equation (take places left) (take places right) «left_offset» «right_offset» homogeneous) (r .rows) (r .number) ⌝ }
+{
+    let mut rows = [0u8; 96];
+    let number = search(
+        &left[..places],
+        &right[..places],
+        left_offset,
+        right_offset,
+        homogeneous,
+        &mut rows,
+        16,
+    );
+    Found { rows, number }
 }

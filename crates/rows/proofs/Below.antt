@@ -9,7 +9,7 @@ use lib.Seq.{getD-take, getD-drop}
 use borrow.Author.Count.{below-none, below-more}
 use Rattle.ac.specs.Rows.{_≼_, _≼_.none, _≼_.place}
 use Rattle.rows.specs.Flat.{rowsOf}
-use Rattle.rows.specs.Walk.{Lower, Tells}
+use Rattle.rows.specs.Kept.{Lower, Tells}
 use Rattle.rows.proofs.Flat.{rowAt, Index, index-of, row-found}
 
 ≼-entry : {u v : List ℕ} → u ≼ v → (j : ℕ) → getD u j 0 ≤ getD v j 0

@@ -15,7 +15,7 @@ use Rattle.ac.proofs.Order.{≺-asymmetric, ascending-single, ascending-append}
 use Rattle.ac.proofs.Sums.{RowBelow, member-at, minimal-below}
 use Rattle.ac.proofs.Solutions.{minimal-solutions-exact}
 use Rattle.rows.specs.Flat.{rowsOf}
-use Rattle.rows.specs.Walk.{Holds, Holds.few, Holds.more, Upto, RowBefore, RowUpto, Lower, Keeps, Advances}
+use Rattle.rows.specs.Kept.{Holds, Holds.few, Holds.more, Upto, RowBefore, RowUpto, Lower, Keeps, Advances}
 use Rattle.rows.proofs.Flat.{length-rows, rows-put}
 use Rattle.rows.proofs.Prefix.{Begins, Smaller, upto-cases, before-upto, before-longer, before-number-cases, upto-before-next, before-next-upto, upto-shorter, number-upto, begins-upto, begins-whole, ≼-before}
 

@@ -1,14 +1,14 @@
 -- Which numbers a place may have, and that the sums have room for them.
-use Prim.Native.Nat.{ℕ, _+_, _*_, _-_, _/_, _≤_, _<_}
+use Prim.Native.Nat.{ℕ, _+_, _*_, _-_, _/_, _≤_, _<_, min}
 use native.Mathlib.Omega.{arith}
-use native.Mathlib.Nat.{mul-le-mul, mul-le-mul-right, mul-div-right}
+use native.Mathlib.Nat.{le-trans, le-min, mul-le-mul, mul-le-mul-right, mul-div-right}
 use mathlib.Core.Path.{_≡_, refl, sym, ap, _∙_}
 use mathlib.Core.Bool.{Bool, true, false, cond, _||_}
 use lib.Dec.{leb, ltb}
 use borrow.Author.Tests.{le-leb, lt-leb}
-use Rattle.rows.specs.declared.Standing.{Standing}
-use Rattle.rows.specs.declared.Range.{Range}
-use Rattle.rows.specs.Walk.{budgetOf, afterChoice, Room, Possible, Lifts, Ranges}
+use Rattle.rows.specs.declared.standing.Standing.{Standing}
+use Rattle.rows.specs.declared.standing.Range.{Range}
+use Rattle.rows.specs.Places.{budgetOf, afterChoice, Room, Possible, Lifts, Ranges}
 
 -- Numbers that fit.
 
@@ -67,6 +67,16 @@ module _ {at : Standing} {l r : ℕ} {last : Bool} {range : Range} where
         within = rw e (lifts .within);
         covers = λ n p. lifts .covers n (rw e at (p .within)) (more-each n (at .right) h (sym (p .equal t)));
       }
+
+-- where a unit more changes nothing
+pub ranges-even : (at : Standing) (l r : ℕ) (last : Bool) {most : ℕ} → l ≡ r → most ≤ at .up → min (at .up) (cond (at .counts) 0 1) ≤ most
+    → Ranges at l r last (record { first = 0; most = most })
+ranges-even at l r last same small enough =
+    let e = le-leb r l (let h : r ≤ l = omega arith in h) in
+    record {
+      within = rw e small;
+      covers = λ n p. (omega arith, le-trans (le-min (rw e at (p .within)) (p .even same)) enough);
+    }
 
 pub ranges-all : (at : Standing) (l r : ℕ) (last : Bool) {most : ℕ} → most ≡ budgetOf at l r → Ranges at l r last (record { first = 0; most = most })
 ranges-all at l r last e = record { within = omega arith; covers = λ n p. (omega arith, omega (arith, p .within)) }

@@ -9,8 +9,8 @@ use lib.ListN.{length, getD}
 use lib.Dec.{leb}
 use borrow.Author.Tests.{leb-true, leb-false}
 use Rattle.ac.specs.Equation.{Equation, Minimal, dot}
-use Rattle.rows.specs.declared.Standing.{Standing}
-use Rattle.rows.specs.Walk.{Stands, upSum, downSum, Apart, Apart.left-short, Apart.right-short}
+use Rattle.rows.specs.declared.standing.Standing.{Standing}
+use Rattle.rows.specs.Places.{Stands, upSum, downSum, Apart, Apart.left-short, Apart.right-short}
 use Rattle.rows.proofs.Places.{rest-places}
 
 -- The sum of the one side is at most that of the other and, for each unit at the places where it gains, the largest coefficient.

@@ -9,9 +9,11 @@ use mathlib.Core.List.{List, [], _∷_, _++_}
 use lib.ListN.{length, getD, take, drop, set, length-drop, length-set}
 use lib.Seq.{take-suc-set, take-set-le, take-take, take-length, drop-length, drop-cons, getD-drop, length-take-le}
 use Rattle.ac.specs.Equation.{Equation, Minimal}
-use Rattle.rows.specs.declared.Standing.{Standing}
-use Rattle.rows.specs.declared.Range.{Range}
-use Rattle.rows.specs.Walk.{Holds, Holds.few, Holds.more, RowBefore, RowUpto, Advances, Stands, afterChoice, Apart, Ranges, Settles, Ready, Walks}
+use Rattle.rows.specs.declared.standing.Standing.{Standing}
+use Rattle.rows.specs.declared.standing.Range.{Range}
+use Rattle.rows.specs.Kept.{Holds, Holds.few, Holds.more, RowBefore, RowUpto, Advances}
+use Rattle.rows.specs.Places.{Stands, afterChoice, Apart, Ranges}
+use Rattle.rows.specs.Walk.{Settles, Ready, Walks}
 use Rattle.rows.proofs.Prefix.{before-upto}
 use Rattle.rows.proofs.Held.{skip, from-first, to-next, to-most}
 use Rattle.rows.proofs.Places.{after-choice, possible, rest-places}

@@ -16,9 +16,11 @@ use Rattle.ac.proofs.Order.{≺-asymmetric}
 use Rattle.ac.proofs.Walk.{up, down}
 use Rattle.ac.proofs.Bound.{lambert-bound}
 use Rattle.ac.proofs.Solutions.{minimal-solutions-exact}
-use Rattle.rows.specs.declared.Standing.{Standing}
+use Rattle.rows.specs.declared.standing.Standing.{Standing}
 use Rattle.rows.specs.Found.{equation, Finds, Finds.few, Finds.more}
-use Rattle.rows.specs.Walk.{Holds, Holds.few, Holds.more, Upto.begins, RowBefore, RowUpto, Stands, Starts, Searchable, Ready, AtMost, Tops, upSum, downSum}
+use Rattle.rows.specs.Kept.{Holds, Holds.few, Holds.more, Upto.begins, RowBefore, RowUpto}
+use Rattle.rows.specs.Places.{Stands, upSum, downSum}
+use Rattle.rows.specs.Walk.{Starts, Searchable, Ready, AtMost, Tops}
 use Rattle.rows.proofs.Prefix.{nothing-before}
 use Rattle.rows.proofs.LargestBytes.{at-most-everywhere}
 

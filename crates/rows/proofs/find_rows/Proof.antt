@@ -9,7 +9,7 @@ use Rattle.rows.proofs.find_rows.Statement.{statement}
 use Rattle.rows.proofs.find_rows.Tie as tie
 use Rattle.rows.proofs.find_rows.Reads as reads
 use Rattle.rows.proofs.find_rows.Lts as lts
-use Rattle.rows.proofs.search.Reads as search-reads
+use Rattle.rows.proofs.walk.search.Reads as search-reads
 
 -- src/lib.rt:343:25
 array-share-prefix-left : tie.Need-array-share-prefix-left

@@ -121,7 +121,7 @@ module _ {M : Mode} {L R : List ℕ} {begin : Begin} {wanted : ℕ} {out : List 
 
   -- Of a page.
   module _ {G : Groups} (none : NoneOf (PageGiven M L R begin wanted out) pageNumbers) (of : GroupsOf M L R G) where
-    fine-page : WithinLimits M L R
+    pub fine-page : WithinLimits M L R
     fine-page = fine-sides (none-front (16 ∷ 7 ∷ 8 ∷ 9 ∷ 10 ∷ 11 ∷ 12 ∷ []) (13 ∷ 14 ∷ 15 ∷ []) none)
 
     page-some : SomeUnifies M L R

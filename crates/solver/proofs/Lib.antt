@@ -6,3 +6,4 @@ pub mod Writing
 pub mod Promise
 pub mod Limits
 pub mod Existence
+pub mod Pages

@@ -1,12 +1,12 @@
 -- The answer to a question's list of numbers, carried from one table to another and past numbers that are not given.
 use Prim.Native.Nat.{ℕ, _≤_}
 use native.Mathlib.Omega.{arith}
-use mathlib.Core.Path.{_≡_, refl}
-use mathlib.Core.Bool.{Bool, true, false, _&&_}
+use mathlib.Core.Path.{_≡_, refl, subst}
+use mathlib.Core.Bool.{Bool, true, false, not, _&&_}
 use mathlib.Core.Logic.{_↔_}
 use mathlib.Core.List.{List, [], _∷_, _++_, List·Memᴰ, List·Memᴰ·head, List·Memᴰ·tail, List·Memᴰ·not-nil}
-use borrow.Author.Tests.{leb-true}
-use lib.Dec.{leb}
+use borrow.Author.Tests.{leb-true, eqb-false, not-true}
+use lib.Dec.{leb, eqb}
 use Rattle.numbers.specs.First.{First, NoneOf, here, later, end, also}
 
 and-true : (a b : Bool) → (a && b) ≡ true → (a ≡ true) × (b ≡ true)
@@ -53,3 +53,29 @@ module _ {Given : ℕ → Type 0} where
   pub none-after : {ms ns : List ℕ} → NoneOf Given ms → NoneOf Given ns → NoneOf Given (ms ++ ns)
   none-after end none = none
   none-after (also skip others) none = also skip (none-after others none)
+
+-- none of a list's front is given where none of the list is
+pub none-front : {Given : ℕ → Type 0} (ms ns : List ℕ) → NoneOf Given (ms ++ ns) → NoneOf Given ms
+none-front [] ns none = end
+none-front (m ∷ ms) ns (also skip none) = also skip (none-front ms ns none)
+
+-- the first number of a list is given; none of a list's members is, where none of the list is
+pub first-given : {Given : ℕ → Type 0} {ns : List ℕ} {n : ℕ} → First Given ns n → Given n
+first-given (here given) = given
+first-given (later skip first) = first-given first
+
+pub none-given : {Given : ℕ → Type 0} {ns : List ℕ} {n : ℕ} → NoneOf Given ns → List·Memᴰ n ns → Given n → ⊥
+none-given {Given} (also skip none) (List·Memᴰ·head e) given = skip (subst Given e given)
+none-given (also skip none) (List·Memᴰ·tail mem) given = none-given none mem given
+
+-- a number is none of the list's, by a test that computes
+abbrev pub elsewhere : ℕ → List ℕ → Bool
+elsewhere n [] = true
+elsewhere n (m ∷ ms) = not (eqb n m) && elsewhere n ms
+
+-- where the first number is none of a list's front, none of the front is given
+pub first-past : {Given : ℕ → Type 0} (ms ns : List ℕ) {n : ℕ} → elsewhere n ms ≡ true → First Given (ms ++ ns) n → NoneOf Given ms
+first-past [] ns e first = end
+first-past (m ∷ ms) ns {n} e (here given) =
+    absurd (eqb-false n n (not-true (eqb n n) (and-true (not (eqb n n)) (elsewhere n ms) e .0)) refl)
+first-past (m ∷ ms) ns {n} e (later skip first) = also skip (first-past ms ns (and-true (not (eqb n m)) (elsewhere n ms) e .1) first)

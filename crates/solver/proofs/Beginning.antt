@@ -18,7 +18,7 @@ use Rattle.solver.specs.declared.Settled.the-variants.{FirstKey, Refused
 after-same : {key other : ℕ} → after key ≡ after other → key ≡ other
 after-same e = cc e
 
-start-not-after : {key : ℕ} → start ≡ after key → ⊥
+pub start-not-after : {key : ℕ} → start ≡ after key → ⊥
 start-not-after e = let z : _≡_ {A = ℕ} 0 1 = cc e in omega arith
 
 module _ {listed : List ℕ} {begin : Begin} where

@@ -4,3 +4,6 @@ pub mod Determined
 pub mod Beginning
 pub mod Writing
 pub mod Promise
+pub mod Limits
+pub mod Existence
+pub mod Pages

@@ -3,3 +3,4 @@ pub mod Given
 pub mod Page
 pub mod Steps
 pub mod Existence
+pub mod Pages

@@ -1,0 +1,5 @@
+pub mod Prefix
+pub mod Flat
+pub mod Below
+pub mod Held
+pub mod Places

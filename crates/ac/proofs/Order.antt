@@ -4,7 +4,7 @@ use native.Mathlib.Omega.{arith}
 use mathlib.Core.Path.{ap, _≡_, refl, sym, ap₂, subst, _∙_}
 use mathlib.Core.Logic.{_↔_, _⊎_, inl, inr}
 use mathlib.Core.Bool.{Bool, true, false}
-use mathlib.Core.List.{List, [], _∷_, _++_, List·Memᴰ·append-cases, List·Memᴰ, List·Memᴰ·head, List·Memᴰ·tail, List·Memᴰ·not-nil}
+use mathlib.Core.List.{List, [], _∷_, _++_, List·Memᴰ·append-cases, List·Memᴰ, List·Memᴰ·head, List·Memᴰ·tail, List·Memᴰ·not-nil, List·Memᴰ·eq-of-singleton}
 use Rattle.ac.specs.Lists.{keep, filter, Ascending, Ascending.none, Ascending.next}
 use Rattle.ac.specs.Rows.{Exactly, _≼_, _≼_.place, _≺_, _≺_.here, _≺_.later}
 
@@ -75,6 +75,11 @@ module _ {A : Type 0} {_before_ : A → A → Type 0} where
       by-part : (b : A) → List·Memᴰ b xs ⊎ List·Memᴰ b ys → _before_ a b
       by-part b (inl m) = others b m
       by-part b (inr m) = apart a b (List·Memᴰ·head refl) m
+
+  -- one more behind all others
+  pub ascending-last : {xs : List A} {a : A} → Ascending _before_ xs → ((b : A) → List·Memᴰ b xs → _before_ b a) → Ascending _before_ (xs ++ (a ∷ []))
+  ascending-last {a = a} ascending before =
+      ascending-append ascending (ascending-single a) (λ b c m m′. subst (λ d. _before_ b d) (sym (List·Memᴰ·eq-of-singleton m′)) (before b m))
 
 -- The members that pass a test, and their order.
 module _ {A : Type 0} (test : A → Bool) where

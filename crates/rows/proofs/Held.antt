@@ -13,7 +13,7 @@ use Rattle.ac.specs.Search.{minimalSolutions}
 use Rattle.ac.proofs.Vectors.{same-length, ≼-trans, ≼-equal, sum-mono, exactly-same}
 use Rattle.ac.proofs.Order.{≺-asymmetric}
 use Rattle.ac.proofs.Sums.{RowBelow, member-at, minimal-below}
-use Rattle.ac.proofs.Search.{ascending-last}
+use Rattle.ac.proofs.Order.{ascending-last}
 use Rattle.ac.proofs.Regions.{minimal-solutions-exact}
 use Rattle.rows.specs.Flat.{rowsOf}
 use Rattle.rows.specs.Walk.{Holds, Holds.few, Holds.more, Upto, RowBefore, RowUpto, Lower, Keeps, Advances}

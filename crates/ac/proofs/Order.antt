@@ -78,8 +78,8 @@ module _ {A : Type 0} {_before_ : A → A → Type 0} where
 
   -- one more behind all others
   pub ascending-last : {xs : List A} {a : A} → Ascending _before_ xs → ((b : A) → List·Memᴰ b xs → _before_ b a) → Ascending _before_ (xs ++ (a ∷ []))
-  ascending-last {a = a} ascending before =
-      ascending-append ascending (ascending-single a) (λ b c m m′. subst (λ d. _before_ b d) (sym (List·Memᴰ·eq-of-singleton m′)) (before b m))
+  ascending-last {a = a} ascending each =
+      ascending-append ascending (ascending-single a) (λ b c m m′. subst (λ d. _before_ b d) (sym (List·Memᴰ·eq-of-singleton m′)) (each b m))
 
 -- The members that pass a test, and their order.
 module _ {A : Type 0} (test : A → Bool) where

@@ -14,7 +14,7 @@ use Rattle.ac.proofs.Vectors.{same-length, ≼-trans, ≼-equal, sum-mono, exac
 use Rattle.ac.proofs.Order.{≺-asymmetric}
 use Rattle.ac.proofs.Sums.{RowBelow, member-at, minimal-below}
 use Rattle.ac.proofs.Order.{ascending-last}
-use Rattle.ac.proofs.Regions.{minimal-solutions-exact}
+use Rattle.ac.proofs.Solutions.{minimal-solutions-exact}
 use Rattle.rows.specs.Flat.{rowsOf}
 use Rattle.rows.specs.Walk.{Holds, Holds.few, Holds.more, Upto, RowBefore, RowUpto, Lower, Keeps, Advances}
 use Rattle.rows.proofs.Flat.{length-rows, rows-put}

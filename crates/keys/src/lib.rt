@@ -1,9 +1,13 @@
 // Keys of a solved pair: taken apart by shifts and masks, and weighed (document 01, "From sides to equations").
 ghost use mathlib.Core.Path.{_≡_};
-ghost use Prim.Native.Nat.{_<_, _≤_};
+ghost use Prim.Native.Nat.{_+_, _*_, _/_, _^_, _<_, _≤_};
+ghost use lib.ListN.{getD};
 ghost use Rattle.ac.specs.Rows.{Groups};
 ghost use Rattle.ac.specs.Selection.{taken, allReached};
 ghost use Rattle.ac.specs.Keys.{layout, bit, fieldAt, selectionAt, Candidate, Fits};
+ghost use Rattle.table.specs.Table.{Within};
+ghost use Rattle.keys.specs.Candidates.{Sized, Stands, fieldLimit};
+ghost use Rattle.keys.specs.List.{NextFrom, OfItsList};
 ghost use Rattle.keys.specs.Reach.{any, constantReaches, balancedReaches, reaches, Holds};
 use table::CONSTANTS;
 use table::GROUP;
@@ -16,6 +20,11 @@ pub const MASK_BITS: usize = 16;
 pub const INDEX_BITS: usize = 4;
 
 pub const INDEX_MASK: u32 = 15;
+
+pub const LOW_MASK: u32 = 65_535;
+
+// How many keys there can be.
+pub const KEYS: u64 = 4_294_967_296;
 
 // Whether the key takes balanced row `i`: bit i of the low 16.
 pub fn takes(key: u32, i: usize) -> bool
@@ -89,4 +98,77 @@ pub fn weigh(rows: &[u8; 480], places: usize, unbalanced: usize, balanced: usize
         place += 1;
     }
     true
+}
+
+// How many values the field of constant number `g` may have: one for each of its rows; where there is no such constant only 0.
+fn field_limit(sizes: &[usize; 5], unbalanced: usize, g: usize) -> usize
+    requires { ⌜ g < 4 ⌝ }
+    ensures { λ r. ⌜ r ≡ fieldLimit (now (sizes .entry)) unbalanced g ⌝ }
+{
+    if g < unbalanced { sizes[g + 1] } else { 1 }
+}
+
+// The end of the block of 2 to the power of `bits` numbers in which the key stands. It may be past the highest key.
+fn block_end(key: u32, bits: usize) -> u64
+    requires { ⌜ bits ≤ 32 ⌝ }
+    ensures { λ r. ⌜ r ≡ (key / 2 ^ bits + 1) * 2 ^ bits ⌝ }
+{
+    (key as u64 >> bits) + 1 << bits
+}
+
+// Where a number stands: on a candidate, or where no candidate comes before a later number.
+pub enum Standing {
+    Candidate,
+    NoneBefore(u64),
+}
+
+// Where the key stands. Up to the end of its block a field only grows, so that one which is too large stays so, and the block is left.
+pub fn stands(sizes: &[usize; 5], unbalanced: usize, key: u32) -> Standing
+    requires { ⌜ (unbalanced ≤ 4) × (getD (now sizes) 0 0 ≤ 16) ⌝ }
+    ensures { λ r. ⌜ ((G : Groups) → Sized (now (sizes .entry)) unbalanced G → Fits layout G → Stands G key r) ⌝ }
+{
+    let mut g: usize = 0;
+    while g < CONSTANTS {
+        let index = index_at(key, g);
+        if index >= field_limit(sizes, unbalanced, g) {
+            return Standing::NoneBefore(block_end(key, MASK_BITS + INDEX_BITS * (CONSTANTS - g)));
+        }
+        g += 1;
+    }
+    let mask = key & LOW_MASK;
+    if mask >> sizes[0] > 0 {
+        return Standing::NoneBefore(block_end(key, MASK_BITS));
+    }
+    Standing::Candidate
+}
+
+// The next key of the list, if there is one.
+pub enum Next {
+    Key(u32),
+    None,
+}
+
+// The least key on the list from a number on. The highest key may be listed, so that the number after it needs 64 bits.
+pub fn least_listed(table: Table, from: u64) -> Next
+    requires { ⌜ Within table ⌝ }
+    ensures { λ r. ⌜ OfItsList table (λ keys. NextFrom keys from r) ⌝ }
+{
+    let balanced = table.sizes[0];
+    let mut at = from;
+    while at < KEYS {
+        let key = at as u32;
+        let standing = stands(&table.sizes, table.unbalanced, key);
+        match standing {
+            Standing::NoneBefore(later) => {
+                at = later;
+            }
+            Standing::Candidate => {
+                if weigh(&table.rows, table.places, table.unbalanced, balanced, key) {
+                    return Next::Key(key);
+                }
+                at += 1;
+            }
+        }
+    }
+    Next::None
 }

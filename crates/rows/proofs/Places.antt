@@ -106,20 +106,33 @@ pub no-row-apart : {E : Equation} {p left right : List ℕ} {at : Standing} {mos
     → ((i : ℕ) → i < length left → getD left i 0 ≤ mostLeft) → ((i : ℕ) → i < length right → getD right i 0 ≤ mostRight)
     → Apart at mostLeft mostRight → (rest : List ℕ) → Minimal E (p ++ rest) → ⊥
 no-row-apart {left = left} {right = right} {at = at} {mostLeft = most} s lefts rights (left-short h) rest minimal =
-    omega (arith, s .equal rest (rest-places s rest minimal) (minimal .least .has), left-gains most left right rest (s .level) lefts,
-    mul-le-mul-right most (s .within-up rest minimal))
+    omega (
+      arith,
+      s .equal rest (rest-places s rest minimal) (minimal .least .has),
+      left-gains most left right rest (s .level) lefts,
+      mul-le-mul-right most (s .within-up rest minimal),
+    )
 no-row-apart {left = left} {right = right} {at = at} {mostRight = most} s lefts rights (right-short h) rest minimal =
-    omega (arith, s .equal rest (rest-places s rest minimal) (minimal .least .has), right-gains most left right rest (s .level) rights,
-    mul-le-mul-right most (s .within-down rest minimal))
+    omega (
+      arith,
+      s .equal rest (rest-places s rest minimal) (minimal .least .has),
+      right-gains most left right rest (s .level) rights,
+      mul-le-mul-right most (s .within-down rest minimal),
+    )
 
 -- the numbers that a place has in rows are possible ones
 pub possible : {E : Equation} {p left right : List ℕ} {l r : ℕ} {at : Standing} (last : Bool) → Stands E p (l ∷ left) (r ∷ right) at
     → (last ≡ true → length left ≡ 0) → (n : ℕ) (rest : List ℕ) → Minimal E (p ++ n ∷ rest) → Possible at l r last n
 possible {left = left} {right = right} last s none n rest minimal =
-    record
-    { within = number-within s n rest minimal
-    ; equal = λ t. omega (arith, s .equal (n ∷ rest) (rest-places s (n ∷ rest) minimal) (minimal .least .has), dot-none left rest (none t),
-        dot-none right rest (let e : length right ≡ 0 = omega (arith, s .level, none t) in e)) }
+    record {
+      within = number-within s n rest minimal;
+      equal = λ t. omega (
+        arith,
+        s .equal (n ∷ rest) (rest-places s (n ∷ rest) minimal) (minimal .least .has),
+        dot-none left rest (none t),
+        dot-none right rest (let e : length right ≡ 0 = omega (arith, s .level, none t) in e),
+      );
+    }
   where
     dot-none : (coefficients v : List ℕ) → length coefficients ≡ 0 → dot coefficients v ≡ 0
     dot-none [] v e = refl

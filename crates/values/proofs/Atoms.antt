@@ -64,7 +64,7 @@ value-taken new r rs false ts p = refl
 -- the balanced rows, counted by the rows, where bit a of the key is that of the first
 value-balanced : (new : ℕ) (rs : List (List ℕ)) (key a p : ℕ)
     → valueAt (takenBalanced new rs (map (bit key) (from a (length rs)))) p
-      ≡ runs (length rs) (λ i. cond (bit key (a + i)) (getD (getD rs i []) p 0) 0) (λ i. new + i)
+    ≡ runs (length rs) (λ i. cond (bit key (a + i)) (getD (getD rs i []) p 0) 0) (λ i. new + i)
 value-balanced new [] key a p = refl
 value-balanced new (r ∷ rs) key a p =
     value-taken new r rs (bit key a) (map (bit key) (from (suc a) (length rs))) p
@@ -141,6 +141,6 @@ module _ (M : Mode) (L R : List ℕ) (constants names : List ℕ) {rows : List �
       all-bindings (variables M L R) (value M (layout .new) L R G (selectionAt layout G key)) names (atomsAt rows constants unbalanced balanced key)
       (length (variables M L R)) (omega arith) same
       (λ p h.
-        atoms-value constants holds named fits candidate p h
-        ∙ ap (valueAt (taken (layout .new) G (selectionAt layout G key))) (sym (placeOf-getD (variables-ascending M L R) p h)))
+      atoms-value constants holds named fits candidate p h
+      ∙ ap (valueAt (taken (layout .new) G (selectionAt layout G key))) (sym (placeOf-getD (variables-ascending M L R) p h)))
       ∙ ap (bindings (value M (layout .new) L R G (selectionAt layout G key))) (take-length (variables M L R))

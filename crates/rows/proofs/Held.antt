@@ -11,12 +11,11 @@ use Rattle.ac.specs.Rows.{Exactly, _≺_, _≼_}
 use Rattle.ac.specs.Equation.{Equation, Solves, Minimal}
 use Rattle.ac.specs.Search.{minimalSolutions}
 use Rattle.ac.proofs.Vectors.{same-length, ≼-trans, ≼-equal, sum-mono, exactly-same}
-use Rattle.ac.proofs.Order.{≺-asymmetric}
+use Rattle.ac.proofs.Order.{≺-asymmetric, ascending-single, ascending-append}
 use Rattle.ac.proofs.Sums.{RowBelow, member-at, minimal-below}
-use Rattle.ac.proofs.Order.{ascending-last}
 use Rattle.ac.proofs.Solutions.{minimal-solutions-exact}
 use Rattle.rows.specs.Flat.{rowsOf}
-use Rattle.rows.specs.Walk.{Holds, Holds.few, Holds.more, Upto, RowBefore, RowUpto, Lower, Keeps, Advances}
+use Rattle.rows.specs.Kept.{Holds, Holds.few, Holds.more, Upto, RowBefore, RowUpto, Lower, Keeps, Advances}
 use Rattle.rows.proofs.Flat.{length-rows, rows-put}
 use Rattle.rows.proofs.Prefix.{Begins, Smaller, upto-cases, before-upto, before-longer, before-number-cases, upto-before-next, before-next-upto, upto-shorter, number-upto, begins-upto, begins-whole, ≼-before}
 
@@ -65,7 +64,7 @@ module _ (E : Equation) (sides : length (E .left) ≡ length (E .right)) {v : Li
   pub upto-more : (Lower rows v → ⊥) → Exactly (RowUpto E v) (rows ++ (v ∷ []))
   upto-more none-lower =
       record {
-        ascending = ascending-last (found .ascending) (λ g m. found .only g m .1);
+        ascending = ascending-append (found .ascending) (ascending-single v) (λ g w m m′. subst (λ x. g ≺ x) (sym (List·Memᴰ·eq-of-singleton m′)) (found .only g m .1));
         only = λ w m. only w (List·Memᴰ·append-cases rows m);
         all = λ w u. all w (u .0) (upto-cases (u .1));
       }

@@ -1,18 +1,21 @@
 -- Where the walk stands, from one place to the next, and which numbers a place can have in a row.
 use Prim.Native.Nat.{ℕ, zero, suc, _+_, _*_, _-_, _≤_, _<_}
 use native.Mathlib.Omega.{arith}
-use native.Mathlib.Nat.{mul-le-mul-left, mul-le-mul-right}
+use native.Mathlib.Nat.{le-refl, mul-suc}
 use native.Mathlib.Decide.{decLt}
 use mathlib.Core.Path.{_≡_, refl, sym, ap, subst, _∙_}
-use mathlib.Core.Bool.{Bool, true, false, cond, _||_, true≢false, false≢true}
+use mathlib.Core.Bool.{Bool, true, false, cond, _||_, true≢false}
 use mathlib.Core.List.{List, [], _∷_, _++_, append-assoc}
 use lib.ListN.{length, length-append, getD}
+use lib.Seq.{getD-append-seam}
 use lib.Dec.{leb, ltb}
-use borrow.Author.Tests.{leb-true, leb-false, lt-ltb, le-ltb, ltb-false}
+use borrow.Author.Tests.{le-ltb, ltb-false}
 use Rattle.ac.specs.Lists.{sum}
+use Rattle.ac.specs.Rows.{_≼_, _≼_.place}
 use Rattle.ac.specs.Equation.{Equation, Solves, Minimal, dot}
-use Rattle.rows.specs.declared.Standing.{Standing}
-use Rattle.rows.specs.Walk.{Stands, upSum, downSum, budgetOf, afterChoice, Apart, Apart.left-short, Apart.right-short, Possible}
+use Rattle.ac.proofs.Vectors.{≼-refl}
+use Rattle.rows.specs.declared.standing.Standing.{Standing}
+use Rattle.rows.specs.Places.{Stands, upSum, downSum, budgetOf, afterChoice, Possible}
 
 -- one place more in the prefix
 pub one-place : (p : List ℕ) (n : ℕ) (rest : List ℕ) → (p ++ n ∷ []) ++ rest ≡ p ++ n ∷ rest
@@ -72,58 +75,32 @@ pub rest-places : {E : Equation} {p left right : List ℕ} {at : Standing} → S
     → length rest ≡ length left
 rest-places {p = p} s rest minimal = omega (arith, s .places, minimal .vector, length-append p rest)
 
--- The sum of the one side is at most that of the other and, for each unit at the places where it gains, the largest coefficient.
+-- Where the coefficients of a place are equal, one unit less solves too.
 
-left-gains : (most : ℕ) (left right rest : List ℕ) → length left ≡ length right → ((i : ℕ) → i < length left → getD left i 0 ≤ most)
-    → dot left rest ≤ dot right rest + upSum left right rest * most
-left-gains most [] right rest level tops = omega arith
-left-gains most (l ∷ left) [] rest level tops = absurd (omega arith)
-left-gains most (l ∷ left) (r ∷ right) [] level tops = omega arith
-left-gains most (l ∷ left) (r ∷ right) (n ∷ rest) level tops =
-    by-kind (leb r l) refl (left-gains most left right rest (omega arith) (λ i h. tops (suc i) (let h′ : i < length left = h in omega arith)))
-  where
-    by-kind : (b : Bool) → leb r l ≡ b → dot left rest ≤ dot right rest + upSum left right rest * most
-        → l * n + dot left rest ≤ r * n + dot right rest + (cond b n 0 + upSum left right rest) * most
-    by-kind true e ih = omega (arith, ih, mul-le-mul-right n (tops 0 (omega arith)))
-    by-kind false e ih = omega (arith, ih, mul-le-mul-right n (let h : l ≤ r = omega (arith, leb-false r l e) in h))
+≼-after : (p : List ℕ) {u v : List ℕ} → u ≼ v → (p ++ u) ≼ (p ++ v)
+≼-after [] below = below
+≼-after (n ∷ p) below = place (le-refl n) (≼-after p below)
 
-right-gains : (most : ℕ) (left right rest : List ℕ) → length left ≡ length right → ((i : ℕ) → i < length right → getD right i 0 ≤ most)
-    → dot right rest ≤ dot left rest + downSum left right rest * most
-right-gains most [] [] rest level tops = omega arith
-right-gains most [] (r ∷ right) rest level tops = absurd (omega arith)
-right-gains most (l ∷ left) [] rest level tops = absurd (omega arith)
-right-gains most (l ∷ left) (r ∷ right) [] level tops = omega arith
-right-gains most (l ∷ left) (r ∷ right) (n ∷ rest) level tops =
-    by-kind (leb r l) refl (right-gains most left right rest (omega arith) (λ i h. tops (suc i) (let h′ : i < length right = h in omega arith)))
-  where
-    by-kind : (b : Bool) → leb r l ≡ b → dot right rest ≤ dot left rest + downSum left right rest * most
-        → r * n + dot right rest ≤ l * n + dot left rest + (cond b 0 n + downSum left right rest) * most
-    by-kind true e ih = omega (arith, ih, mul-le-mul-right n (leb-true r l e))
-    by-kind false e ih = omega (arith, ih, mul-le-mul-right n (tops 0 (omega arith)))
+module _ {E : Equation} {p left right : List ℕ} {l r : ℕ} {at : Standing} (s : Stands E p (l ∷ left) (r ∷ right) at) (same : l ≡ r) (rest : List ℕ) where
+  no-unit-more : (m : ℕ) → (at .counts ≡ false → 0 < m) → Minimal E (p ++ suc m ∷ rest) → ⊥
+  no-unit-more m positive minimal =
+      let long = rest-places s (suc m ∷ rest) minimal in
+      let equal = s .equal (suc m ∷ rest) long (minimal .least .has) in
+      let less = s .solves (m ∷ rest) long (omega (arith, ap (λ z. z * m) same, mul-suc l m, mul-suc r m)) (λ zero. omega (arith, positive zero)) in
+      let below = ≼-after p (place (let h : m ≤ suc m = omega arith in h) (≼-refl rest)) in
+      omega (arith, ap (λ v. getD v (length p) 0) (minimal .least .no-other (p ++ m ∷ rest) below less), getD-append-seam p m rest 0, getD-append-seam p (suc m) rest 0)
 
--- sums that the budgets cannot bridge have no row
-pub no-row-apart : {E : Equation} {p left right : List ℕ} {at : Standing} {mostLeft mostRight : ℕ} → Stands E p left right at
-    → ((i : ℕ) → i < length left → getD left i 0 ≤ mostLeft) → ((i : ℕ) → i < length right → getD right i 0 ≤ mostRight)
-    → Apart at mostLeft mostRight → (rest : List ℕ) → Minimal E (p ++ rest) → ⊥
-no-row-apart {left = left} {right = right} {at = at} {mostLeft = most} s lefts rights (left-short h) rest minimal =
-    omega (
-      arith,
-      s .equal rest (rest-places s rest minimal) (minimal .least .has),
-      left-gains most left right rest (s .level) lefts,
-      mul-le-mul-right most (s .within-up rest minimal),
-    )
-no-row-apart {left = left} {right = right} {at = at} {mostRight = most} s lefts rights (right-short h) rest minimal =
-    omega (
-      arith,
-      s .equal rest (rest-places s rest minimal) (minimal .least .has),
-      right-gains most left right rest (s .level) rights,
-      mul-le-mul-right most (s .within-down rest minimal),
-    )
+  even-number : (b : Bool) → at .counts ≡ b → (n : ℕ) → Minimal E (p ++ n ∷ rest) → n ≤ cond b 0 1
+  even-number true e zero minimal = omega arith
+  even-number true e (suc m) minimal = absurd (no-unit-more m (λ f. absurd (true≢false (sym e ∙ f))) minimal)
+  even-number false e zero minimal = omega arith
+  even-number false e (suc zero) minimal = omega arith
+  even-number false e (suc (suc m)) minimal = absurd (no-unit-more (suc m) (λ f. omega arith) minimal)
 
 -- the numbers that a place has in rows are possible ones
 pub possible : {E : Equation} {p left right : List ℕ} {l r : ℕ} {at : Standing} (last : Bool) → Stands E p (l ∷ left) (r ∷ right) at
     → (last ≡ true → length left ≡ 0) → (n : ℕ) (rest : List ℕ) → Minimal E (p ++ n ∷ rest) → Possible at l r last n
-possible {left = left} {right = right} last s none n rest minimal =
+possible {left = left} {right = right} {at = at} last s none n rest minimal =
     record {
       within = number-within s n rest minimal;
       equal = λ t. omega (
@@ -132,6 +109,7 @@ possible {left = left} {right = right} last s none n rest minimal =
         dot-none left rest (none t),
         dot-none right rest (let e : length right ≡ 0 = omega (arith, s .level, none t) in e),
       );
+      even = λ same. even-number s same rest (at .counts) refl n minimal;
     }
   where
     dot-none : (coefficients v : List ℕ) → length coefficients ≡ 0 → dot coefficients v ≡ 0

@@ -7,7 +7,7 @@ use mathlib.Core.Logic.{_⊎_, inl, inr}
 use mathlib.Core.List.{List, [], _∷_, _++_}
 use lib.ListN.{length}
 use Rattle.ac.specs.Rows.{_≺_, _≺_.here, _≺_.later, _≼_, _≼_.none, _≼_.place}
-use Rattle.rows.specs.Walk.{Upto, Upto.begins, Upto.here, Upto.later}
+use Rattle.rows.specs.Kept.{Upto, Upto.begins, Upto.here, Upto.later}
 
 -- v begins with the prefix
 pub record Begins (prefix v : List ℕ) : Type 0 where

@@ -6,16 +6,16 @@ use native.Mathlib.Nat.{mul-le-mul-right}
 use mathlib.Core.Path.{_≡_, sym, subst}
 use mathlib.Core.List.{List}
 use lib.ListN.{length}
-use Rattle.rows.specs.Walk.{Keeps}
+use Rattle.rows.specs.Kept.{Keeps}
 use Rattle.rows.proofs.Below.{row-within}
 use Rattle.rows.proofs.Held.{keeps-lower, keeps-full, keeps-put}
 use borrow.Author.Needs.{needs}
-use Rattle.rows.proofs.keep.Statement.{statement}
-use Rattle.rows.proofs.keep.Tie as tie
-use Rattle.rows.proofs.keep.Reads as reads
-use Rattle.rows.proofs.keep.Lts as lts
-use Rattle.rows.proofs.lower.Reads as lower-reads
-use Rattle.rows.proofs.put.Reads as put-reads
+use Rattle.rows.proofs.kept.keep.Statement.{statement}
+use Rattle.rows.proofs.kept.keep.Tie as tie
+use Rattle.rows.proofs.kept.keep.Reads as reads
+use Rattle.rows.proofs.kept.keep.Lts as lts
+use Rattle.rows.proofs.kept.lower.Reads as lower-reads
+use Rattle.rows.proofs.kept.put.Reads as put-reads
 
 -- src/lib.rt:64:8
 lower-requires : tie.Need-lower-requires

@@ -7,10 +7,10 @@ use mathlib.Core.List.{List, _++_}
 use lib.ListN.{length, set, getD, take, drop}
 use lib.Seq.{paste, paste-zero, paste-suc, length-paste, take-length}
 use borrow.Author.Needs.{needs}
-use Rattle.rows.proofs.put.Statement.{statement}
-use Rattle.rows.proofs.put.Tie as tie
-use Rattle.rows.proofs.put.Reads as reads
-use Rattle.rows.proofs.put.Lts as lts
+use Rattle.rows.proofs.kept.put.Statement.{statement}
+use Rattle.rows.proofs.kept.put.Tie as tie
+use Rattle.rows.proofs.kept.put.Reads as reads
+use Rattle.rows.proofs.kept.put.Lts as lts
 
 -- the first places of the row are copied
 record Copied (bytes₀ row : List ℕ) (start : ℕ) (bytes : List ℕ) (place : ℕ) : Type 0 where

@@ -18,8 +18,8 @@ use Rattle.sides.specs.Limits.{Limits, limits}
 use Rattle.sides.specs.Parted.{padded, excess, PairOf}
 use Rattle.sides.specs.declared.Pair.{Pair}
 use Rattle.rows.specs.Flat.{rowsOf}
-use Rattle.rows.specs.Found.{Finds, Finds.few, Finds.more}
-use Rattle.solve.specs.Steps.{equationFrom, RowIn, More, FoundOf}
+use Rattle.rows.specs.Found.{equation, Finds, Finds.few, Finds.more}
+use Rattle.solve.specs.Steps.{RowIn, More, FoundOf}
 
 -- what stands at a place of a list that is padded, or made of another
 pub take-padded : (size : ℕ) (xs : List ℕ) {n : ℕ} → n ≡ length xs → take n (padded size xs) ≡ xs
@@ -55,37 +55,34 @@ module _ {M : Mode} {L R : List ℕ} {pair : Pair} (of : PairOf limits M L R pai
   abbrev occurrencesOf : List ℕ → List ℕ
   occurrencesOf side = map (λ x. count x side) (variables M L R)
 
-  abbrev equation : ℕ → ℕ → Bool → Equation
-  equation left-offset right-offset homogeneous =
-      record {
-        left = occurrencesOf L;
-        right = occurrencesOf R;
-        left-offset = left-offset;
-        right-offset = right-offset;
-        homogeneous = homogeneous;
-      }
+  -- an equation of the pair's variables, and one of their net parts
+  abbrev whole : ℕ → ℕ → Bool → Equation
+  whole = equation (occurrencesOf L) (occurrencesOf R)
+
+  abbrev parts : ℕ → ℕ → Bool → Equation
+  parts = equation (take (pair .variables .count) (pair .variables .left)) (take (pair .variables .count) (pair .variables .right))
 
   -- the coefficients of the variables are their net parts
-  net-parts : (side other parts : List ℕ) → parts ≡ padded 6 (map (excess side other) (variables M L R))
-      → take (pair .variables .count) parts ≡ beyond (occurrencesOf side) (occurrencesOf other)
-  net-parts side other parts e =
+  net-parts : (side other held : List ℕ) → held ≡ padded 6 (map (excess side other) (variables M L R))
+      → take (pair .variables .count) held ≡ beyond (occurrencesOf side) (occurrencesOf other)
+  net-parts side other held e =
       ap (take (pair .variables .count)) e
       ∙ take-padded 6 (map (excess side other) (variables M L R)) (of .the-variables .how-many ∙ sym (length-map (variables M L R) (excess side other)))
       ∙ sym (beyond-map (λ x. count x side) (λ x. count x other) (variables M L R))
 
   -- an equation with them, and with the net parts of two offsets, finds the rows that are its minimal solutions
   found-rows : {left-offset right-offset n : ℕ} {homogeneous : Bool} {bytes : List ℕ} {Row : List ℕ → Type 0}
-      → ((v : List ℕ) → Row v ↔ Minimal (equation left-offset right-offset homogeneous) v)
-      → Finds 16 (equationFrom (pair .variables .left) (pair .variables .right) (pair .variables .count) (left-offset - right-offset) (right-offset - left-offset) homogeneous) bytes n
+      → ((v : List ℕ) → Row v ↔ Minimal (whole left-offset right-offset homogeneous) v)
+      → Finds 16 (parts (left-offset - right-offset) (right-offset - left-offset) homogeneous) bytes n
       → FoundOf 16 Row (pair .variables .count) bytes n
   found-rows {left-offset} {right-offset} {n} {homogeneous} {bytes} rows found =
-      found-as (λ v. Iff·trans (netted-minimal (equation left-offset right-offset homogeneous) v) (Iff·symm (rows v))) size
+      found-as (λ v. Iff·trans (netted-minimal (whole left-offset right-offset homogeneous) v) (Iff·symm (rows v))) size
       (subst (λ E. Finds 16 E bytes n) netted-parts found)
     where
       size : length (beyond (occurrencesOf L) (occurrencesOf R)) ≡ pair .variables .count
       size = length-beyond (occurrencesOf L) (occurrencesOf R) ∙ length-map (variables M L R) (λ x. count x L) ∙ sym (of .the-variables .how-many)
 
-      netted-parts : equationFrom (pair .variables .left) (pair .variables .right) (pair .variables .count) (left-offset - right-offset) (right-offset - left-offset) homogeneous ≡ netted (equation left-offset right-offset homogeneous)
+      netted-parts : parts (left-offset - right-offset) (right-offset - left-offset) homogeneous ≡ netted (whole left-offset right-offset homogeneous)
       netted-parts i =
           record {
             left = net-parts L R (pair .variables .left) (of .the-variables .left-parts) i;
@@ -96,16 +93,16 @@ module _ {M : Mode} {L R : List ℕ} {pair : Pair} (of : PairOf limits M L R pai
           }
 
   pub found-balanced : {n : ℕ} {bytes : List ℕ}
-      → Finds 16 (equationFrom (pair .variables .left) (pair .variables .right) (pair .variables .count) 0 0 true) bytes n
+      → Finds 16 (parts 0 0 true) bytes n
       → FoundOf 16 (RowIn M L R 0) (pair .variables .count) bytes n
   found-balanced = found-rows (balanced-row-is-minimal M L R)
 
   pub found-constant : {g n : ℕ} {bytes : List ℕ} → g < pair .constants .count
-      → Finds 16 (equationFrom (pair .variables .left) (pair .variables .right) (pair .variables .count) (getD (pair .constants .left) g 0) (getD (pair .constants .right) g 0) false) bytes n
+      → Finds 16 (parts (getD (pair .constants .left) g 0) (getD (pair .constants .right) g 0) false) bytes n
       → FoundOf 16 (RowIn M L R (suc g)) (pair .variables .count) bytes n
   found-constant {g} {n} {bytes} within found =
       found-rows (row-of-constant-is-minimal M L R constant)
-      (subst (λ o. Finds 16 (equationFrom (pair .variables .left) (pair .variables .right) (pair .variables .count) (o .0) (o .1) false) bytes n) offsets found)
+      (subst (λ o. Finds 16 (parts (o .0) (o .1) false) bytes n) offsets found)
     where
       constant : ℕ
       constant = getD (unbalanced M L R) g 0

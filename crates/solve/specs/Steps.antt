@@ -3,25 +3,14 @@ use Prim.Native.Nat.{ℕ, zero, suc, _≤_, _<_}
 use mathlib.Core.Path.{_≡_}
 use mathlib.Core.Bool.{Bool, true, false}
 use mathlib.Core.List.{List}
-use lib.ListN.{length, getD, take}
+use lib.ListN.{length, getD}
 use Rattle.ac.specs.Pair.{Mode, unbalanced}
 use Rattle.ac.specs.Rows.{Exactly, BalancedRow, RowOf}
-use Rattle.ac.specs.Equation.{Equation}
 use Rattle.sides.specs.Limits.{Limits}
 use Rattle.sides.specs.Given.{PairGiven}
 use Rattle.sides.specs.declared.Pair.{Pair}
 use Rattle.rows.specs.Flat.{rowsOf}
 use Rattle.solve.specs.Spread.{groupIn}
-
-abbrev pub equationFrom : List ℕ → List ℕ → ℕ → ℕ → ℕ → Bool → Equation
-equationFrom left right places left-offset right-offset homogeneous =
-    record {
-      left = take places left;
-      right = take places right;
-      left-offset = left-offset;
-      right-offset = right-offset;
-      homogeneous = homogeneous;
-    }
 
 -- the numbers in a pair are within its room
 pub record Roomy (pair : Pair) : Type 0 where

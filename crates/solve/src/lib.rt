@@ -1,6 +1,8 @@
 // Solving a pair: the rows of all its groups, or the first of the numbers 7 to 12 that is given.
 use buffer::put_bytes;
 use numbers::Refusal;
+use rows::Found;
+use rows::find_rows;
 use sides::Pair;
 use sides::Verdict;
 use sides::take_apart;
@@ -15,37 +17,14 @@ ghost use lib.ListN.{length, getD};
 ghost use Rattle.ac.specs.Pair.{Mode, unifying};
 ghost use Rattle.sides.specs.Limits.{limits};
 ghost use Rattle.sides.specs.Parted.{PairOf};
-ghost use Rattle.rows.specs.Found.{Finds};
 ghost use Rattle.solve.specs.Spread.{Spreads};
 ghost use Rattle.solve.specs.Solved.{pairNumbers, SolvedOf};
-ghost use Rattle.solve.specs.Steps.{Roomy, RowIn, FoundOf, PutOf, equationFrom};
+ghost use Rattle.solve.specs.Steps.{Roomy, RowIn, FoundOf, PutOf};
 
 // What solving gives. The table says something only where the sides are accepted.
 pub struct Solved {
     pub verdict: Verdict,
     pub table: Table,
-}
-
-pub struct Found {
-    pub rows: [u8; 96],
-    pub count: usize,
-}
-
-fn find_rows(
-    left: [u8; 6],
-    right: [u8; 6],
-    places: usize,
-    left_offset: u8,
-    right_offset: u8,
-    homogeneous: bool,
-) -> Found
-    requires { ⌜ places ≤ 6 ⌝ }
-    ensures { λ r. ⌜ Finds 16 (equationFrom left right places «left_offset» «right_offset» homogeneous) (r .rows) (r .count) ⌝ }
-{
-    Found {
-        rows: [0; 96],
-        count: 0,
-    }
 }
 
 // Puts rows that stand one after the other at the places of a group.
@@ -67,7 +46,7 @@ fn spread(found: &[u8], count: usize, places: usize, group: usize, rows: &mut [u
 fn find_group(pair: Pair, group: usize) -> Found
     requires { ⌜ Roomy pair × (group ≤ pair .constants .count) ⌝ }
     ensures { λ r. ⌜ ((M : Mode) (L R : List ℕ) → PairOf limits M L R pair
-        → FoundOf (limits .balanced-rows) (RowIn M L R group) (pair .variables .count) (r .rows) (r .count)) ⌝ }
+        → FoundOf (limits .balanced-rows) (RowIn M L R group) (pair .variables .count) (r .rows) (r .number)) ⌝ }
 {
     let variables = pair.variables;
     let constants = pair.constants;
@@ -92,7 +71,7 @@ fn put_groups(pair: Pair, rows: &mut [u8], sizes: &mut [usize]) -> bool
     let mut group = 0;
     while group <= unbalanced {
         let found = find_group(pair, group);
-        let count = found.count;
+        let count = found.number;
         if ROWS < count {
             return false;
         }

@@ -9,7 +9,6 @@ use Rattle.solve.proofs.find_group.Statement.{statement}
 use Rattle.solve.proofs.find_group.Tie as tie
 use Rattle.solve.proofs.find_group.Reads as reads
 use Rattle.solve.proofs.find_group.Lts as lts
-use Rattle.solve.proofs.find_rows.Reads as find-rows-reads
 
 -- src/lib.rt:77:9
 find-rows-requires : tie.Need-find-rows-requires
@@ -19,7 +18,7 @@ find-rows-requires c κs = search needs
 returns : tie.Need-returns
 returns c = λ M L R of.
     let r = c .find-rows .result in
-    subst (λ g. FoundOf 16 (RowIn M L R g) (c .before .before .before .before .before .before .args .pair .variables .count) (r .rows) (r .count)) (sym (c .before .if1 .taken)) (found-balanced of (c .find-rows .ensures))
+    subst (λ g. FoundOf 16 (RowIn M L R g) (c .before .before .before .before .before .before .args .pair .variables .count) (r .rows) (r .number)) (sym (c .before .if1 .taken)) (found-balanced of (c .find-rows .ensures))
 
 -- src/lib.rt:79:31
 sub-left : tie.Need-sub-left
@@ -48,7 +47,7 @@ returns-2 c = λ M L R of.
     let r = c .find-rows2 .result in
     let above : suc (a .group - 1) ≡ a .group = omega arith in
     let within : a .group - 1 < a .pair .constants .count = omega arith in
-    subst (λ g. FoundOf 16 (RowIn M L R g) (a .pair .variables .count) (r .rows) (r .count)) above (found-constant of within (c .find-rows2 .ensures))
+    subst (λ g. FoundOf 16 (RowIn M L R g) (a .pair .variables .count) (r .rows) (r .number)) above (found-constant of within (c .find-rows2 .ensures))
 
 pub find-group-spec : {M : Type 1} → statement M
 find-group-spec =

@@ -51,8 +51,8 @@ slice-aggregate-spread c = search needs
 -- src/lib.rt:100:9
 spread-requires : tie.Need-spread-requires Inv-loop μ-loop
 spread-requires c κs = let found = c .before .before .before .before .find-group .result in
-    let few : found .count ≤ 16 = omega arith in
-    let room : found .count * c .before .before .before .before .before .before .before .before .before .args .pair .variables .count ≤ 96 = mul-le-mul few (c .before .before .before .before .before .before .before .before .before .pre .0 .variables-fit) in
+    let few : found .number ≤ 16 = omega arith in
+    let room : found .number * c .before .before .before .before .before .before .before .before .before .args .pair .variables .count ≤ 96 = mul-le-mul few (c .before .before .before .before .before .before .before .before .before .pre .0 .variables-fit) in
     let long : length (found .rows) ≡ 96 = search needs in
     ((c .before .before .before .before .before .before .before .before .before .pre .0 .variables-fit, few, omega (arith, c .before .before .before .before .before .before .before .before .before .pre .0 .constants-fit)), (omega (arith, room, long), c .before .before .before .before .before .before .loop .inv .1 .rows-size))
 
@@ -75,11 +75,11 @@ loop-less c = omega arith
 -- src/lib.rt:93:5
 loop-again : tie.Need-loop-again Inv-loop μ-loop
 loop-again c = let l = c .before .before .before .before .before .before .before .before .before .loop in
-    let few : c .before .before .before .before .before .before .before .find-group .result .count ≤ 16 = omega arith in (
+    let few : c .before .before .before .before .before .before .before .find-group .result .number ≤ 16 = omega arith in (
       omega arith,
       record {
         rows-size = c .before .before .spread .kept .1 .1 .1 .1 .0 ∙ l .inv .1 .rows-size;
-        sizes-size = length-set (l .sizes) (l .group) (c .before .before .before .before .before .before .before .find-group .result .count) ∙ l .inv .1 .sizes-size;
+        sizes-size = length-set (l .sizes) (l .group) (c .before .before .before .before .before .before .before .find-group .result .number) ∙ l .inv .1 .sizes-size;
         groups = λ M L R of. groups-next (omega (arith, c .before .before .before .before .before .before .before .before .before .before .before .before .pre .0 .constants-fit, l .inv .1 .sizes-size)) few (c .before .before .before .before .before .before .before .find-group .ensures M L R of) (c .before .before .spread .ensures) (l .inv .1 .groups M L R of);
       },
     )

@@ -1,7 +1,8 @@
-use borrow.Author.Needs.{needs}
-use borrow.Author.Count.{below-more}
+-- `keys::stands` meets its contract. The invariant: the fields before this one are below their limits.
 use Prim.Native.Nat.{ℕ, _≤_, _<_, _-_}
 use native.Mathlib.Omega.{arith}
+use borrow.Author.Needs.{needs}
+use borrow.Author.Count.{below-more}
 use lib.ListN.{getD}
 use Rattle.ac.specs.Keys.{layout, fieldAt}
 use Rattle.keys.specs.Candidates.{fieldLimit, between, on-candidate}
@@ -9,11 +10,6 @@ use Rattle.keys.proofs.Candidates.{fieldEnd, below-block-end, block-end
 use Rattle.keys.proofs.Bits.{nothing-beyond, something-beyond}
 use Rattle.keys.proofs.stands.Statement.{statement}
 use Rattle.keys.proofs.stands.Tie as tie
-use Rattle.keys.proofs.stands.Reads as reads
-use Rattle.keys.proofs.stands.Lts as lts
-use Rattle.keys.proofs.block_end.Reads as block-end-reads
-use Rattle.keys.proofs.field_limit.Reads as field-limit-reads
-use Rattle.keys.proofs.index_at.Reads as index-at-reads
 
 abbrev Inv-loop : tie.InvT-loop
 Inv-loop sizes unbalanced key g₀ g = (g ≤ 4) × ((h : ℕ) → h < g → fieldAt layout key h < fieldLimit sizes unbalanced h)

@@ -98,7 +98,7 @@ module _ {t : Table} {start at : ℕ} (passed : Passed t start at) where
 
 between-none : {G : Groups} {key later : ℕ} → Stands G key (NoneBefore later)
     → (key < later) × ((other : ℕ) → key ≤ other → other < later → Candidate layout G other → ⊥)
-between-none (between less end none) = (less, none)
+between-none (between less none) = (less, none)
 
 stands-candidate : {G : Groups} {key : ℕ} → Stands G key IsCandidate → Candidate layout G key
 stands-candidate (on-candidate candidate) = candidate

@@ -43,7 +43,7 @@ fn wanted_count(wanted: usize) -> usize
 }
 
 // The first key of a page, or why there is none.
-pub enum Settled {
+enum Settled {
     FirstKey(u32),
     Refused(Refusal),
 }

@@ -108,7 +108,8 @@ module _ {M : Mode} {L R : List ℕ} {begin : Begin} {wanted : ℕ} {out : List 
   module _ {n : ℕ} (first : First (PageGiven M L R begin wanted out) pageNumbers n) where
     only-13 : n ≡ 13 → NoneUnifies M L R
     only-13 e =
-        let none = first-past (16 ∷ 7 ∷ 8 ∷ 9 ∷ 10 ∷ 11 ∷ 12 ∷ []) (13 ∷ 14 ∷ 15 ∷ []) refl (subst (First (PageGiven M L R begin wanted out) pageNumbers) e first) in
+        let at-13 = subst (First (PageGiven M L R begin wanted out) pageNumbers) e first in
+        let none = first-past (16 ∷ 7 ∷ 8 ∷ 9 ∷ 10 ∷ 11 ∷ 12 ∷ []) (13 ∷ 14 ∷ 15 ∷ []) refl at-13 in
         empty-none (fine-sides none) (groups-exist M L R)
         (empty-list e (given-list (groups-exist M L R) (omega arith) (omega arith) (first-given first)))
 
@@ -152,7 +153,8 @@ module _ {M : Mode} {L R : List ℕ} {begin : Begin} {wanted : ℕ} {out : List 
       where
         whole : nextKeys M L R G begin wanted ≡ keys M layout L R G
         whole =
-            take-all (wantedCount wanted) (remaining begin (keys M layout L R G)) (ltb-false (wantedCount wanted) (length (remaining begin (keys M layout L R G))) no-more)
+            take-all (wantedCount wanted) (remaining begin (keys M layout L R G))
+            (ltb-false (wantedCount wanted) (length (remaining begin (keys M layout L R G))) no-more)
             ∙ ap (λ b. remaining b (keys M layout L R G)) from-start
 
 refused-not-page : {n written : ℕ} {more : Bool} → refused n ≡ page written more → ⊥

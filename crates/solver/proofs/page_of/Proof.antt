@@ -34,7 +34,8 @@ returns-2 c = λ M L R full of none.
     let settled = c .before .before .before .before .before .before .before in
     let long = settled .before in
     promise-page of none (rw (long .before .wanted-count .ensures) at (long .if1 .left)) (settled .settle .ensures M L R full of)
-    (c .before .before .before .before .before .settled .given .1) (rw (long .before .wanted-count .ensures) at (c .before .before .write-keys .ensures M L R full of))
+    (c .before .before .before .before .before .settled .given .1)
+    (rw (long .before .wanted-count .ensures) at (c .before .before .write-keys .ensures M L R full of))
 
 returns-3 : tie.Need-returns-3
 returns-3 c = λ M L R full of none.

@@ -31,8 +31,8 @@ later-weighing {weigh} {n} t w =
 
 module _ (i : ℕ) where
   -- each taken row counts
-  pub takenBalanced-each : (weigh : ℕ → ℕ) (n : ℕ) (rows : List (List ℕ)) (ts : List Bool) (a j : ℕ) → a ≡ n + j → j < length rows → getD ts j false ≡ true
-      → weigh a * getD (getD rows j []) i 0 ≤ total i weigh (takenBalanced n rows ts)
+  pub takenBalanced-each : (weigh : ℕ → ℕ) (n : ℕ) (rows : List (List ℕ)) (ts : List Bool) (a j : ℕ) → a ≡ n + j → j < length rows
+      → getD ts j false ≡ true → weigh a * getD (getD rows j []) i 0 ≤ total i weigh (takenBalanced n rows ts)
   takenBalanced-each weigh n [] ts a j e h t = absurd (omega arith)
   takenBalanced-each weigh n (r ∷ rows) [] a j e h t = absurd (false≢true t)
   takenBalanced-each weigh n (r ∷ rows) (true ∷ ts) a zero e h t = rw (let z : a ≡ n = omega arith in z) (omega arith)
@@ -43,7 +43,8 @@ module _ (i : ℕ) where
 
   pub takenBalanced-weighs : (weigh : ℕ → ℕ) (n : ℕ) (rows : List (List ℕ)) (ts : List Bool) (j : ℕ) → j < length rows → getD ts j false ≡ true
       → 0 < weigh (n + j) → 0 < getD (getD rows j []) i 0 → 0 < total i weigh (takenBalanced n rows ts)
-  takenBalanced-weighs weigh n rows ts j h is-taken weighs entry = omega (arith, mul-pos weighs entry, takenBalanced-each weigh n rows ts (n + j) j refl h is-taken)
+  takenBalanced-weighs weigh n rows ts j h is-taken weighs entry =
+      omega (arith, mul-pos weighs entry, takenBalanced-each weigh n rows ts (n + j) j refl h is-taken)
 
   -- a sum above 0 has a taken row whose atom weighs something
   pub takenBalanced-some : (weigh : ℕ → ℕ) (n : ℕ) (rows : List (List ℕ)) (ts : List Bool) → 0 < total i weigh (takenBalanced n rows ts)
@@ -52,7 +53,8 @@ module _ (i : ℕ) where
   takenBalanced-some weigh n (r ∷ rows) [] h = absurd (omega arith)
   takenBalanced-some weigh n (r ∷ rows) (true ∷ ts) h = go (decLt 0 (weigh n)) (takenBalanced-some weigh (suc n) rows ts)
     where
-      go : Dec (0 < weigh n) → (0 < total i weigh (takenBalanced (suc n) rows ts) → Weighing weigh (suc n) rows ts) → Weighing weigh n (r ∷ rows) (true ∷ ts)
+      go : Dec (0 < weigh n) → (0 < total i weigh (takenBalanced (suc n) rows ts) → Weighing weigh (suc n) rows ts)
+          → Weighing weigh n (r ∷ rows) (true ∷ ts)
       go (yes p) rest =
           record { at = 0; within = omega arith; is-taken = refl; weighs = subst (λ m. 0 < weigh m) (let z : n ≡ n + 0 = omega arith in z) p }
       go (no p) rest =
@@ -69,7 +71,8 @@ module _ (i : ℕ) where
   takenBalanced-none b n (r ∷ rows) (false ∷ ts) h = takenBalanced-none b (suc n) rows ts (omega arith)
 
   -- a new variable stands in its own row only
-  pub takenBalanced-own : (b j n : ℕ) (rows : List (List ℕ)) (ts : List Bool) → b ≡ n + j → total i (same b) (takenBalanced n rows ts) ≤ getD (getD rows j []) i 0
+  pub takenBalanced-own : (b j n : ℕ) (rows : List (List ℕ)) (ts : List Bool) → b ≡ n + j
+      → total i (same b) (takenBalanced n rows ts) ≤ getD (getD rows j []) i 0
   takenBalanced-own b j n [] ts e = omega arith
   takenBalanced-own b j n (r ∷ rows) [] e = omega arith
   takenBalanced-own b zero n (r ∷ rows) (true ∷ ts) e =

@@ -4,11 +4,12 @@ use native.Mathlib.Omega.{arith}
 use mathlib.Core.Path.{_≡_, refl, sym, ap, subst, _∙_}
 use mathlib.Core.List.{List, [], _∷_, List·Memᴰ, List·Memᴰ·head, List·Memᴰ·tail, List·Memᴰ·not-nil}
 use lib.ListN.{length, getD}
-use Rattle.ac.specs.Lists.{Ascending, Ascending.none, Ascending.next}
+use Rattle.ac.specs.Lists.{Ascending}
 use Rattle.ac.specs.Rows.{Exactly, _≼_, _≺_}
 use Rattle.ac.specs.Equation.{Equation, Minimal}
 use Rattle.ac.specs.Search.{box, search, Enough}
 use Rattle.ac.proofs.Vectors.{same-length, rest-of}
+use Rattle.ac.proofs.Order.{ascending-single}
 use Rattle.ac.proofs.Bound.{huet-bound}
 use Rattle.ac.proofs.Search.{Region, search-exact}
 use Rattle.ac.proofs.Placed.{Front, front-of, front-member, numbers-ascending}
@@ -36,7 +37,7 @@ box-member (suc k) bound (x ∷ v) e small =
     front-member (λ x. box k bound) 0 (suc bound) x (omega arith) (omega (arith, small 0)) (box-member k bound v (omega arith) (λ i. small (suc i)))
 
 box-ascending : (k bound : ℕ) → Ascending _≺_ (box k bound)
-box-ascending zero bound = next (λ b m. absurd (List·Memᴰ·not-nil m)) none
+box-ascending zero bound = ascending-single []
 box-ascending (suc k) bound = numbers-ascending (λ x. box k bound) (λ x. box-ascending k bound) 0 (suc bound)
 
 ≼-entry : {u v : List ℕ} → u ≼ v → (i : ℕ) → getD u i 0 ≤ getD v i 0

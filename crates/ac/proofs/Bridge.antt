@@ -21,9 +21,15 @@ use Rattle.ac.specs.Equation.{dot, Solves, Minimal, balancedEquation, eq
 difference-add : (a b c d : ℕ) → (pos a -ℤ pos b) +ℤ (pos c -ℤ pos d) ≡ pos (a + c) -ℤ pos (b + d)
 difference-add a b c d =
     +ℤ-assoc (pos a) (negℤ (pos b)) (pos c +ℤ negℤ (pos d))
-    ∙ ap (λ z. pos a +ℤ z) (sym (+ℤ-assoc (negℤ (pos b)) (pos c) (negℤ (pos d))) ∙ ap (λ z. z +ℤ negℤ (pos d)) (+ℤ-comm (negℤ (pos b)) (pos c)) ∙ +ℤ-assoc (pos c) (negℤ (pos b)) (negℤ (pos d)))
+    ∙ ap (λ z. pos a +ℤ z) middle
     ∙ sym (+ℤ-assoc (pos a) (pos c) (negℤ (pos b) +ℤ negℤ (pos d)))
     ∙ ap (λ z. pos (a + c) +ℤ z) (sym (negℤ-+ℤ (pos b) (pos d)))
+  where
+    middle : negℤ (pos b) +ℤ (pos c +ℤ negℤ (pos d)) ≡ pos c +ℤ (negℤ (pos b) +ℤ negℤ (pos d))
+    middle =
+        sym (+ℤ-assoc (negℤ (pos b)) (pos c) (negℤ (pos d)))
+        ∙ ap (λ z. z +ℤ negℤ (pos d)) (+ℤ-comm (negℤ (pos b)) (pos c))
+        ∙ +ℤ-assoc (pos c) (negℤ (pos b)) (negℤ (pos d))
 
 -- a difference times a natural is the difference of the products
 difference-times : (a b n : ℕ) → (pos a -ℤ pos b) *ℤ pos n ≡ pos (a * n) -ℤ pos (b * n)
@@ -63,11 +69,11 @@ difference-equal a b c d = (to, back)
         difference-shifted a b d = sym (+ℤ-idr (pos a -ℤ pos b)) ∙ ap (λ z. (pos a -ℤ pos b) +ℤ z) (sym (+ℤ-invr (pos d))) ∙ difference-add a b d d
 
 -- The weight, over any list of atoms, is the difference of the two sums of products.
-weigh-is : (L R : List ℕ) (xs v : List ℕ) → weigh (net L R) xs v ≡ pos (dot (map (λ x. count x L) xs) v) -ℤ pos (dot (map (λ x. count x R) xs) v)
-weigh-is L R [] v = refl
-weigh-is L R (x ∷ xs) [] = refl
-weigh-is L R (x ∷ xs) (n ∷ v) =
-    ap₂ (λ y z. y +ℤ z) (difference-times (count x L) (count x R) n) (weigh-is L R xs v)
+pub weigh-difference : (L R : List ℕ) (xs v : List ℕ) → weigh (net L R) xs v ≡ pos (dot (map (λ x. count x L) xs) v) -ℤ pos (dot (map (λ x. count x R) xs) v)
+weigh-difference L R [] v = refl
+weigh-difference L R (x ∷ xs) [] = refl
+weigh-difference L R (x ∷ xs) (n ∷ v) =
+    ap₂ (λ y z. y +ℤ z) (difference-times (count x L) (count x R) n) (weigh-difference L R xs v)
     ∙ difference-add (count x L * n) (count x R * n) (dot (map (λ x. count x L) xs) v) (dot (map (λ x. count x R) xs) v)
 
 module _ (M : Mode) (L R : List ℕ) where
@@ -77,16 +83,18 @@ module _ (M : Mode) (L R : List ℕ) where
   abbrev rightDot : List ℕ → ℕ
   rightDot v = dot (map (λ x. count x R) (variables M L R)) v
 
+  -- A weight is 0 exactly when the two sums of products agree.
   pub weight-zero : (v : List ℕ) → IsVector (variables M L R) v
       → (weight M L R v ≡ pos 0) ↔ (dot (map (λ x. count x L) (variables M L R)) v ≡ dot (map (λ x. count x R) (variables M L R)) v)
   weight-zero v vector = (to, back)
     where
       to : weight M L R v ≡ pos 0 → leftDot v ≡ rightDot v
-      to e = omega (arith, difference-equal (leftDot v) (rightDot v) 0 0 .0 (sym (weigh-is L R (variables M L R) v) ∙ e))
+      to e = omega (arith, difference-equal (leftDot v) (rightDot v) 0 0 .0 (sym (weigh-difference L R (variables M L R) v) ∙ e))
 
       back : leftDot v ≡ rightDot v → weight M L R v ≡ pos 0
-      back e = weigh-is L R (variables M L R) v ∙ difference-equal (leftDot v) (rightDot v) 0 0 .1 (let h : leftDot v + 0 ≡ 0 + rightDot v = omega arith in h)
+      back e = weigh-difference L R (variables M L R) v ∙ difference-equal (leftDot v) (rightDot v) 0 0 .1 (let h : leftDot v + 0 ≡ 0 + rightDot v = omega arith in h)
 
+  -- A weight is minus a constant's net count exactly when they agree with the constant's occurrences added.
   pub weight-of-constant : (c : ℕ) (v : List ℕ) → IsVector (variables M L R) v
       → (weight M L R v ≡ negℤ (net L R c))
       ↔ (dot (map (λ x. count x L) (variables M L R)) v + count c L ≡ dot (map (λ x. count x R) (variables M L R)) v + count c R)
@@ -96,11 +104,11 @@ module _ (M : Mode) (L R : List ℕ) where
       crosswise = difference-equal (leftDot v) (rightDot v) (count c R) (count c L)
 
       to : weight M L R v ≡ negℤ (net L R c) → leftDot v + count c L ≡ rightDot v + count c R
-      to e = omega (arith, crosswise .0 (sym (weigh-is L R (variables M L R) v) ∙ e ∙ difference-negated (count c L) (count c R)))
+      to e = omega (arith, crosswise .0 (sym (weigh-difference L R (variables M L R) v) ∙ e ∙ difference-negated (count c L) (count c R)))
 
       back : leftDot v + count c L ≡ rightDot v + count c R → weight M L R v ≡ negℤ (net L R c)
       back e =
-          weigh-is L R (variables M L R) v
+          weigh-difference L R (variables M L R) v
           ∙ crosswise .1 (let h : leftDot v + count c L ≡ count c R + rightDot v = omega arith in h)
           ∙ sym (difference-negated (count c L) (count c R))
 

@@ -26,6 +26,7 @@ same-positive a b h = go (ℕ-discrete a b)
     go (yes e) = e
     go (no n) = absurd (let z : ⊥ = omega (arith, same-other a b n) in z)
 
+-- in a list joined from two, in one atom repeated, and what a replacement makes of a joined list
 pub count-append : (b : ℕ) (s t : List ℕ) → count b (s ++ t) ≡ count b s + count b t
 count-append b [] t = omega arith
 count-append b (a ∷ s) t = omega (arith, count-append b s t)
@@ -99,7 +100,8 @@ cond-add true m n = omega arith
 cond-add false m n = refl
 
 -- After a replacement b stands on a side as often as in the values of the variables that stand there, and where it stays.
-module _ (moves : ℕ → Bool) (θ : Replacement) (b : ℕ) {xs : List ℕ} (ascending : Ascending _<_ xs) (all : (a : ℕ) → List·Memᴰ a xs → moves a ≡ true) where
+module _ (moves : ℕ → Bool) (θ : Replacement) (b : ℕ) {xs : List ℕ} (ascending : Ascending _<_ xs)
+    (all : (a : ℕ) → List·Memᴰ a xs → moves a ≡ true) where
   count-put-atom : (a : ℕ) → (moves a ≡ true → List·Memᴰ a xs)
       → count b (cond (moves a) (θ a) (a ∷ [])) ≡ dot (map (λ x. same x a) xs) (occurrences θ xs b) + cond (moves b) 0 (same b a)
   count-put-atom a moving = go (moves a) refl (moves b) refl

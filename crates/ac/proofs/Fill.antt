@@ -1,4 +1,4 @@
--- Filling the new variables: each gets every atom as often as that atom's multiplicities say; the rows whose new variable is not left empty are taken.
+-- Filling the new variables: each gets every atom as often as that atom's multiplicities say, and the rows whose new variable gets one are taken.
 use Prim.Native.Nat.{ℕ, zero, suc, _+_, _*_, _<_, _≤_}
 use mathlib.Core.Path.{_≡_, refl, sym, ap, ap₂, _∙_, subst}
 use mathlib.Core.Bool.{Bool, true, false, _||_, true≢false, and-eq-true-iff}
@@ -40,11 +40,6 @@ module _ (f : ℕ → ℕ) (b : ℕ) where
   count-spread k (suc n) (List·Memᴰ·tail m) =
       count-spread-cons k n
       ∙ rw (same-other b k (λ (e : b ≡ k). omega (arith, from-bounds (suc k) n b m))) (omega (arith, count-spread (suc k) n m))
-
--- a bound on the atoms of the values
-pub member-flatMap : (f : ℕ → List ℕ) (xs : List ℕ) (x a : ℕ) → List·Memᴰ x xs → List·Memᴰ a (f x) → List·Memᴰ a (flatMap f xs)
-member-flatMap f (y ∷ ys) x a (List·Memᴰ·head e) m = Memᴰ·append-left (flatMap f ys) (subst (λ (z : ℕ). List·Memᴰ a (f z)) e m)
-member-flatMap f (y ∷ ys) x a (List·Memᴰ·tail n) m = Memᴰ·append-right (f y) (member-flatMap f ys x a n m)
 
 pub member-le-sum : (a : ℕ) (s : List ℕ) → List·Memᴰ a s → a ≤ sum s
 member-le-sum a (x ∷ s) (List·Memᴰ·head e) = omega arith

@@ -12,6 +12,9 @@ pub mod Solutions
 pub mod Keeping
 pub mod Sums
 pub mod Groups
+pub mod WorkedRows
+pub mod WrongRows
+pub mod Pruning
 pub mod Places
 pub mod Counts
 pub mod Taken
@@ -22,12 +25,10 @@ pub mod Sound
 pub mod Balances
 pub mod Fill
 pub mod Complete
+pub mod Entries
 pub mod Independent
 pub mod Theorems
 pub mod WrongSelections
-pub mod WorkedRows
-pub mod WrongRows
-pub mod Pruning
 pub mod Members
 pub mod Keys
 pub mod Fields

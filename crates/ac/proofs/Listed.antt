@@ -14,7 +14,7 @@ use Rattle.ac.specs.Rows.{Group, Groups}
 use Rattle.ac.specs.Selection.{Selection, SelectionOf, Within, none, index, admissible}
 use Rattle.ac.specs.Keys.{Layout, Fits, Candidate, Listed, fields, mask, bits, keyOf, selectionAt, tuples, selections, listed, keys}
 use Rattle.ac.proofs.Places.{from-ascending}
-use Rattle.ac.proofs.Search.{filter-member, member-filter, filter-ascending}
+use Rattle.ac.proofs.Order.{filter-member, member-filter, filter-ascending}
 use Rattle.ac.proofs.Members.{below-members, members-below, map-members, members-map, flatMap-members, members-flatMap}
 use Rattle.ac.proofs.Members.{ascending-map, ascending-flatMap, ascending-in}
 use Rattle.ac.proofs.Keys.{Few, bits-mask-below, mask-bits, mask-below, length-bits, fields-below, taken-apart, packed, candidate-selection}

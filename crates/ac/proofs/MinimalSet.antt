@@ -14,7 +14,7 @@ use Rattle.ac.specs.Selection.{Selection, SelectionOf, Taken, takenRows,
 use Rattle.ac.specs.Keys.{Layout, layout, selections, listed}
 use Rattle.ac.specs.Replacement.{Replacement, Unifies, ComesFrom}
 use Rattle.ac.specs.Fages.{Substitution, ACUnifier, MoreGeneral, Pure, anyVariable, variablesOf, tree, substitutionOf, MinimalSet}
-use Rattle.ac.proofs.Search.{filter-member, member-filter}
+use Rattle.ac.proofs.Order.{filter-member, member-filter}
 use Rattle.ac.proofs.Members.{map-members, members-map}
 use Rattle.ac.proofs.Listed.{selections-are}
 use Rattle.ac.proofs.Counts.{count-some, count-none}

@@ -15,7 +15,7 @@ use Rattle.ac.specs.Lists.{keep, filter, Ascending, next}
 use Rattle.ac.specs.Keys.{Begin, start, after, remaining}
 use Rattle.ac.specs.Pages.{page, more, Asked, no-more, one-more, together, WholeList, LeastFrom, NoneFrom, boundOf}
 use Rattle.ac.proofs.Order.{ascending-unique}
-use Rattle.ac.proofs.Search.{filter-member, member-filter, filter-ascending}
+use Rattle.ac.proofs.Order.{filter-member, member-filter, filter-ascending}
 use Rattle.ac.proofs.Members.{filter-all, member-splits}
 
 -- a number that is below another is not above it

@@ -2,21 +2,13 @@
 use Prim.Native.Nat.{ℕ, zero, suc, _+_, _≤_, _<_}
 use native.Mathlib.Omega.{arith}
 use native.Mathlib.Decide.{ℕ-discrete}
-use mathlib.Core.Path.{_≡_, refl, sym, subst}
+use mathlib.Core.Path.{_≡_, sym, subst}
 use mathlib.Core.Logic.{_⊎_, inl, inr}
-use mathlib.Core.List.{List, _∷_, _++_, map, List·Memᴰ, List·Memᴰ·head, List·Memᴰ·tail, List·Memᴰ·not-nil, List·Memᴰ·append-cases, Memᴰ·append-left, Memᴰ·append-right, Memᴰ·map, Memᴰ·of-map}
+use mathlib.Core.List.{List, _∷_, map, List·Memᴰ, List·Memᴰ·not-nil, List·Memᴰ·append-cases, Memᴰ·append-left, Memᴰ·append-right, Memᴰ·map, Memᴰ·of-map}
 use Rattle.ac.specs.Lists.{Ascending, Ascending.none, Ascending.next}
 use Rattle.ac.specs.Rows.{_≺_, _≺_.here, _≺_.later}
 use Rattle.ac.specs.Search.{numbersFrom}
-
-ascending-append : {us vs : List (List ℕ)} → Ascending _≺_ us → Ascending _≺_ vs → ((u v : List ℕ) → List·Memᴰ u us → List·Memᴰ v vs → u ≺ v) → Ascending _≺_ (us ++ vs)
-ascending-append none asc apart = asc
-ascending-append {vs = vs} (next {a = a} {rest = us} others ascending) asc apart =
-    next (λ b m. by-part b (List·Memᴰ·append-cases us m)) (ascending-append ascending asc (λ u v m m′. apart u v (List·Memᴰ·tail m) m′))
-  where
-    by-part : (b : List ℕ) → List·Memᴰ b us ⊎ List·Memᴰ b vs → a ≺ b
-    by-part b (inl m) = others b m
-    by-part b (inr m) = apart a b (List·Memᴰ·head refl) m
+use Rattle.ac.proofs.Order.{ascending-append}
 
 ascending-placed : (x : ℕ) {vs : List (List ℕ)} → Ascending _≺_ vs → Ascending _≺_ (map (λ v. x ∷ v) vs)
 ascending-placed x none = none

@@ -6,14 +6,13 @@ use native.Mathlib.Decide.{decLt}
 use mathlib.Core.Path.{_≡_, refl, ap}
 use mathlib.Core.Logic.{_≢_}
 use mathlib.Core.Bool.{Bool, true, false, cond}
-use mathlib.Core.List.{List, [], _∷_, List·Memᴰ, List·Memᴰ·head, List·Memᴰ·not-nil, List·Memᴰ·eq-of-singleton, Memᴰ·cast}
+use mathlib.Core.List.{List, [], _∷_, List·Memᴰ, List·Memᴰ·head, List·Memᴰ·eq-of-singleton, Memᴰ·cast}
 use lib.ListN.{length, getD}
 use lib.Dec.{leb}
 use borrow.Author.Tests.{leb-true, leb-false}
-use Rattle.ac.specs.Lists.{Ascending.none, Ascending.next}
 use Rattle.ac.specs.Search.{Carried, rests}
 use Rattle.ac.proofs.Vectors.{weighted, at}
-use Rattle.ac.proofs.Order.{≺-asymmetric, ascending-unique}
+use Rattle.ac.proofs.Order.{≺-asymmetric, ascending-unique, ascending-single}
 use Rattle.ac.proofs.Walk.{up, down}
 use Rattle.ac.proofs.Solutions.{Completes, rests-complete, complete-rests, rests-ascending}
 
@@ -36,7 +35,7 @@ module _ (left right : List ℕ) (same : length left ≡ length right) (c : Carr
   -- where one vector completes and no other does, it is the only rest
   pub only-rest : (w : List ℕ) → Completes left right c w → ((v : List ℕ) → Completes left right c v → v ≡ w) → rests left right c ≡ w ∷ []
   only-rest w h unique =
-      ascending-unique (λ u v. ≺-asymmetric) (rests-ascending left right c) (next (λ b m. absurd (List·Memᴰ·not-nil m)) none)
+      ascending-unique (λ u v. ≺-asymmetric) (rests-ascending left right c) (ascending-single w)
       (λ v. (
         λ m. List·Memᴰ·head (unique v (rests-complete left right c same v m)),
         λ m. Memᴰ·cast (List·Memᴰ·eq-of-singleton m) (complete-rests left right c same w h),

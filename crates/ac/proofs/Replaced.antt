@@ -1,4 +1,4 @@
--- A replacement makes the sides equal exactly when each atom's occurrences in the values solve that atom's equation.
+-- What stands on a side after a replacement: each atom as often as the variables that stand there hold it, and where it stays.
 use Prim.Native.Nat.{ℕ, _+_, _<_}
 use mathlib.Core.Path.{_≡_, refl, sym, ap, _∙_}
 use mathlib.Core.Bool.{Bool, true, false, not, cond, _&&_, true≢false, and-eq-true-iff}
@@ -11,7 +11,7 @@ use Rattle.ac.specs.Lists.{Ascending}
 use Rattle.ac.specs.Pair.{Mode, IsSide, count, occurs, atoms, variables, unbalanced}
 use Rattle.ac.specs.Equation.{dot}
 use Rattle.ac.specs.Replacement.{Replacement, put, occurrences}
-use Rattle.ac.proofs.Search.{filter-member, member-filter, filter-ascending}
+use Rattle.ac.proofs.Order.{filter-member, member-filter, filter-ascending}
 use Rattle.ac.proofs.Places.{from-bounds, from-member, from-ascending}
 use Rattle.ac.proofs.Counts.{count-some, count-member, staying, count-put}
 
@@ -60,7 +60,8 @@ module _ (M : Mode) (L R : List ℕ) where
   unbalanced-cases c m =
       let both = filter-member isUnbalanced atoms m in
       let tests = and-eq-true-iff (not (M .moves c)) (not (eqb (count c L) (count c R))) .0 (both .1) in
-      (from-bounds 0 128 c (both .0) .1, not-true (M .moves c) (tests .0), eqb-false (count c L) (count c R) (not-true (eqb (count c L) (count c R)) (tests .1)))
+      let differ = eqb-false (count c L) (count c R) (not-true (eqb (count c L) (count c R)) (tests .1)) in
+      (from-bounds 0 128 c (both .0) .1, not-true (M .moves c) (tests .0), differ)
 
   module _ (left : IsSide L) (right : IsSide R) where
     -- an atom whose counts differ stands on a side

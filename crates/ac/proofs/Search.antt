@@ -3,16 +3,16 @@ use Prim.Native.Nat.{ℕ, _+_, _<_}
 use mathlib.Core.Path.{_≡_, refl, sym, ap, ap₂, subst, _∙_}
 use mathlib.Core.Logic.{_↔_, _⊎_, inl, inr}
 use mathlib.Core.Bool.{Bool, true, false, not, cond, _&&_, _||_, true≢false, false≢true}
-use mathlib.Core.List.{List, [], _∷_, _++_, List·Memᴰ, List·Memᴰ·head, List·Memᴰ·tail, List·Memᴰ·not-nil, List·Memᴰ·append-cases, Memᴰ·append-left, Memᴰ·append-right, Memᴰ·cast}
+use mathlib.Core.List.{List, [], _∷_, _++_, List·Memᴰ, List·Memᴰ·head, List·Memᴰ·tail, List·Memᴰ·not-nil, List·Memᴰ·append-cases, List·Memᴰ·eq-of-singleton, Memᴰ·append-left, Memᴰ·append-right, Memᴰ·cast}
 use lib.ListN.{length}
 use lib.Dec.{leb, ltb, eqb}
 use borrow.Author.Tests.{leb-true, le-leb, ltb-true, lt-ltb, eqb-true, eq-eqb}
-use Rattle.ac.specs.Lists.{below, keep, filter, sum, Ascending, Ascending.none, Ascending.next}
+use Rattle.ac.specs.Lists.{below, filter, sum, Ascending, Ascending.none}
 use Rattle.ac.specs.Rows.{Exactly, _≼_, _≺_}
 use Rattle.ac.specs.Equation.{dot, Equation, Solves, Minimal}
 use Rattle.ac.specs.Search.{lower, someLower, keepOne, keepAll, kept, solves, search}
 use Rattle.ac.proofs.Vectors.{≼-refl, ≼-trans}
-use Rattle.ac.proofs.Order.{≼-not-after}
+use Rattle.ac.proofs.Order.{≼-not-after, ascending-append, ascending-next, ascending-single, filter-member, member-filter, filter-ascending}
 
 -- The tests decide what they say.
 
@@ -20,13 +20,13 @@ pub both-true : (b c : Bool) → (b && c) ≡ true → (b ≡ true) × (c ≡ tr
 both-true true c e = (refl, e)
 both-true false c e = absurd (false≢true e)
 
-lower-true : (u v : List ℕ) → lower u v ≡ true → u ≼ v
+pub lower-true : (u v : List ℕ) → lower u v ≡ true → u ≼ v
 lower-true [] [] e = _≼_.none
 lower-true [] (n ∷ v) e = absurd (false≢true e)
 lower-true (m ∷ u) [] e = absurd (false≢true e)
 lower-true (m ∷ u) (n ∷ v) e = let b = both-true (leb m n) (lower u v) e in _≼_.place (leb-true m n (b .0)) (lower-true u v (b .1))
 
-true-lower : {u v : List ℕ} → u ≼ v → lower u v ≡ true
+pub true-lower : {u v : List ℕ} → u ≼ v → lower u v ≡ true
 true-lower _≼_.none = refl
 true-lower (_≼_.place {m = m} {n = n} h below) = ap₂ (λ b c. b && c) (le-leb m n h) (true-lower below)
 
@@ -62,19 +62,6 @@ pub record Region (E : Equation) (vectors : List (List ℕ)) : Type 0 where
   pub lengths : (v : List ℕ) → List·Memᴰ v vectors → length v ≡ length (E .left)
   pub closed : (u v : List ℕ) → List·Memᴰ v vectors → u ≼ v → Solves E u → List·Memᴰ u vectors
   pub minimal : (v : List ℕ) → Minimal E v → List·Memᴰ v vectors
-
-ascending-last : {found : List (List ℕ)} {v : List ℕ} → Ascending _≺_ found → ((g : List ℕ) → List·Memᴰ g found → g ≺ v) → Ascending _≺_ (found ++ (v ∷ []))
-ascending-last none before-v = next (λ b m. absurd (List·Memᴰ·not-nil m)) none
-ascending-last {v = v} (next {a = a} {rest = rest} after ascending) before-v =
-    next (λ b m. by-part b (List·Memᴰ·append-cases rest m)) (ascending-last ascending (λ g m. before-v g (List·Memᴰ·tail m)))
-  where
-    by-part : (b : List ℕ) → List·Memᴰ b rest ⊎ List·Memᴰ b (v ∷ []) → a ≺ b
-    by-part b (inl m) = after b m
-    by-part b (inr (List·Memᴰ·head e)) = subst (λ w. a ≺ w) (sym e) (before-v a (List·Memᴰ·head refl))
-    by-part b (inr (List·Memᴰ·tail m)) = absurd (List·Memᴰ·not-nil m)
-
-ascending-next : {v : List ℕ} {todo : List (List ℕ)} → Ascending _≺_ (v ∷ todo) → ((w : List ℕ) → List·Memᴰ w todo → v ≺ w) × Ascending _≺_ todo
-ascending-next (next after ascending) = (after, ascending)
 
 module _ (E : Equation) {candidates : List (List ℕ)} (region : Region E candidates) (solving : (v : List ℕ) → List·Memᴰ v candidates → Solves E v) where
   -- What holds while the candidates of `todo` are still to come.
@@ -136,7 +123,7 @@ module _ (E : Equation) {candidates : List (List ℕ)} (region : Region E candid
       taken : Going (found ++ (v ∷ [])) todo
       taken =
           record {
-            ascending = ascending-last (g .ascending) (λ r m. g .before r v m (List·Memᴰ·head refl));
+            ascending = ascending-append (g .ascending) (ascending-single v) (λ r u m m′. earlier-one r u m (List·Memᴰ·eq-of-singleton m′));
             rows = λ r m. row r (List·Memᴰ·append-cases found m);
             todo-ascending = ascending-next (g .todo-ascending) .1;
             todo-candidates = λ u m. g .todo-candidates u (List·Memᴰ·tail m);
@@ -144,15 +131,16 @@ module _ (E : Equation) {candidates : List (List ℕ)} (region : Region E candid
             covered = λ u m. cover u (g .covered u m);
           }
         where
+          earlier-one : (r u : List ℕ) → List·Memᴰ r found → u ≡ v → r ≺ u
+          earlier-one r u m e = subst (λ w. r ≺ w) (sym e) (g .before r v m (List·Memᴰ·head refl))
+
           row : (r : List ℕ) → List·Memᴰ r found ⊎ List·Memᴰ r (v ∷ []) → Minimal E r
           row r (inl m) = g .rows r m
-          row r (inr (List·Memᴰ·head e)) = subst (Minimal E) (sym e) is-minimal
-          row r (inr (List·Memᴰ·tail m)) = absurd (List·Memᴰ·not-nil m)
+          row r (inr m) = subst (Minimal E) (sym (List·Memᴰ·eq-of-singleton m)) is-minimal
 
           earlier : (r u : List ℕ) → List·Memᴰ r found ⊎ List·Memᴰ r (v ∷ []) → List·Memᴰ u todo → r ≺ u
           earlier r u (inl m) m′ = g .before r u m (List·Memᴰ·tail m′)
-          earlier r u (inr (List·Memᴰ·head e)) m′ = subst (λ w. w ≺ u) (sym e) (ascending-next (g .todo-ascending) .0 u m′)
-          earlier r u (inr (List·Memᴰ·tail m)) m′ = absurd (List·Memᴰ·not-nil m)
+          earlier r u (inr m) m′ = subst (λ w. w ≺ u) (sym (List·Memᴰ·eq-of-singleton m)) (ascending-next (g .todo-ascending) .0 u m′)
 
           cover : (u : List ℕ) → List·Memᴰ u (v ∷ todo) ⊎ Covered found u → List·Memᴰ u todo ⊎ Covered (found ++ (v ∷ [])) u
           cover u (inl (List·Memᴰ·head e)) = inr (record { row = u; member = Memᴰ·append-right found (List·Memᴰ·head e); at-or-below = ≼-refl u })
@@ -180,7 +168,7 @@ module _ (E : Equation) {candidates : List (List ℕ)} (region : Region E candid
 
 -- Any region: the vectors that solve are candidates.
 
-solves-true : (E : Equation) (v : List ℕ) → (solves E v ≡ true) ↔ Solves E v
+pub solves-true : (E : Equation) (v : List ℕ) → (solves E v ≡ true) ↔ Solves E v
 solves-true E v = (to, back)
   where
     left-side : ℕ
@@ -204,35 +192,6 @@ solves-true E v = (to, back)
 
     back : Solves E v → solves E v ≡ true
     back s = ap₂ (λ b c. b && c) (eq-eqb left-side right-side (s .equal)) (tested (E .homogeneous) (s .not-all-zero))
-
--- the members that pass a test, and their order
-module _ {A : Type 0} (test : A → Bool) where
-  pub filter-member : (xs : List A) {a : A} → List·Memᴰ a (filter test xs) → List·Memᴰ a xs × (test a ≡ true)
-  filter-member [] m = absurd (List·Memᴰ·not-nil m)
-  filter-member (x ∷ xs) {a} m = by-test (test x) refl m (λ m′. filter-member xs m′)
-    where
-      by-test : (b : Bool) → test x ≡ b → List·Memᴰ a (keep b x (filter test xs)) → (List·Memᴰ a (filter test xs) → List·Memᴰ a xs × (test a ≡ true))
-          → List·Memᴰ a (x ∷ xs) × (test a ≡ true)
-      by-test true t (List·Memᴰ·head e) rest = (List·Memᴰ·head e, ap test e ∙ t)
-      by-test true t (List·Memᴰ·tail m) rest = (List·Memᴰ·tail (rest m .0), rest m .1)
-      by-test false t m rest = (List·Memᴰ·tail (rest m .0), rest m .1)
-
-  keep-tail : (b : Bool) (x : A) {a : A} {xs : List A} → List·Memᴰ a xs → List·Memᴰ a (keep b x xs)
-  keep-tail true x m = List·Memᴰ·tail m
-  keep-tail false x m = m
-
-  pub member-filter : {xs : List A} {a : A} → List·Memᴰ a xs → test a ≡ true → List·Memᴰ a (filter test xs)
-  member-filter {a = a} (List·Memᴰ·head {x = x} {xs = xs} e) t =
-      subst (λ b. List·Memᴰ a (keep b x (filter test xs))) (sym (ap test (sym e) ∙ t)) (List·Memᴰ·head e)
-  member-filter (List·Memᴰ·tail {x = x} m) t = keep-tail (test x) x (member-filter m t)
-
-  pub filter-ascending : {_before_ : A → A → Type 0} {xs : List A} → Ascending _before_ xs → Ascending _before_ (filter test xs)
-  filter-ascending none = none
-  filter-ascending {_before_} (next {a = x} {rest = xs} others ascending) = by-test (test x) (filter-ascending ascending)
-    where
-      by-test : (b : Bool) → Ascending _before_ (filter test xs) → Ascending _before_ (keep b x (filter test xs))
-      by-test true kept-ones = next (λ a m. others a (filter-member xs m .0)) kept-ones
-      by-test false kept-ones = kept-ones
 
 -- The search finds exactly the minimal solutions, in every region.
 pub search-exact : (E : Equation) {vectors : List (List ℕ)} → Region E vectors → Exactly (Minimal E) (search E vectors)

@@ -8,11 +8,12 @@ use mathlib.Core.List.{List, [], _∷_, List·Memᴰ, List·Memᴰ·head, List·
 use lib.ListN.{length, getD}
 use lib.Dec.{leb, ltb, eqb}
 use borrow.Author.Tests.{ltb-true, ltb-false, eqb-true, eq-eqb, not-false}
-use Rattle.ac.specs.Lists.{keep, sum, Ascending, Ascending.none, Ascending.next}
+use Rattle.ac.specs.Lists.{keep, sum, Ascending, Ascending.none}
 use Rattle.ac.specs.Rows.{Exactly, _≺_}
 use Rattle.ac.specs.Equation.{Equation, Solves, Minimal}
 use Rattle.ac.specs.Search.{kept, Enough, Carried, most, after, rests, start, solutions, beyond, largest, budgetUp, budgetDown, minimalSolutions}
 use Rattle.ac.proofs.Vectors.{same-length, weighted, at, dot-weighted, Rest, rest-of}
+use Rattle.ac.proofs.Order.{ascending-single}
 use Rattle.ac.proofs.Nets.{beyond-entry}
 use Rattle.ac.proofs.Walk.{up, down}
 use Rattle.ac.proofs.Bound.{lambert-bound}
@@ -128,7 +129,7 @@ pub rests-ascending : (left right : List ℕ) (c : Carried) → Ascending _≺_ 
 rests-ascending [] right c = at-most-one (c .counts && eqb (c .left-sum) (c .right-sum))
   where
     at-most-one : (t : Bool) → Ascending _≺_ (keep t [] [])
-    at-most-one true = next (λ b m. absurd (List·Memᴰ·not-nil m)) none
+    at-most-one true = ascending-single []
     at-most-one false = none
 rests-ascending (l ∷ left) [] c = none
 rests-ascending (l ∷ left) (r ∷ right) c =

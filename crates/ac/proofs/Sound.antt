@@ -13,12 +13,13 @@ use Rattle.ac.specs.Lists.{Ascending}
 use Rattle.ac.specs.Pair.{Mode, IsSide, same, count, variables, unbalanced}
 use Rattle.ac.specs.Rows.{Group, Groups, GroupsOf}
 use Rattle.ac.specs.Equation.{dot}
-use Rattle.ac.specs.Selection.{Selection, SelectionOf, Within, none, index, Taken, takenRows, takenBalanced, taken, placeOf, admissible, value}
-use Rattle.ac.specs.Replacement.{put, occurrences, Unifies}
+use Rattle.ac.specs.Selection.{Selection, SelectionOf, Within, none, index, Taken, takenRows, takenBalanced, taken, allReached, placeOf, admissible, value}
+use Rattle.ac.specs.Replacement.{put, occurrences, NonEmpty, Unifies}
 use Rattle.ac.proofs.Places.{getD-map, getD-member, placeOf-getD, placeOf-lt}
 use Rattle.ac.proofs.Counts.{same-self, same-other, count-none, count-once, staying}
 use Rattle.ac.proofs.Taken.{total, count-valueAt, reached-value, allReached-reached, admissible-reaches}
 use Rattle.ac.proofs.Replaced.{onLeft, onRight, variables-ascending, unbalanced-ascending, Kind, constant, other, kind-of, count-left, count-right}
+use Rattle.ac.proofs.Constants.{constantsOf}
 use Rattle.ac.proofs.Bridge.{weight-zero, weight-of-constant}
 
 -- a vector, read at the variables' places, is itself
@@ -68,21 +69,22 @@ totalDot-append coefficients weigh (t ∷ ts) us = omega (arith, totalDot-append
 
 -- The taken rows solve: those of the constants each with the constant's own occurrences, the balanced ones as they are.
 module _ (l r : List ℕ) (L R : List ℕ) (b : ℕ) where
+  abbrev Solved : List Group → List ℕ → Type 0
+  Solved gs is =
+      totalDot l (same b) (takenRows gs is) + count b (constantsOf gs) * count b L
+      ≡ totalDot r (same b) (takenRows gs is) + count b (constantsOf gs) * count b R
+
   pub takenRows-solve : {gs : List Group} {is : List ℕ} → Within gs is
       → ((g : Group) → List·Memᴰ g gs → (v : List ℕ) → List·Memᴰ v (g .rows) → dot l v + count (g .constant) L ≡ dot r v + count (g .constant) R)
-      → totalDot l (same b) (takenRows gs is) + count b (map (λ (g : Group). g .constant) gs) * count b L
-      ≡ totalDot r (same b) (takenRows gs is) + count b (map (λ (g : Group). g .constant) gs) * count b R
+      → Solved gs is
   takenRows-solve none solve = omega arith
-  takenRows-solve (index {g} {gs} {i} {is} h within) solve = go (ℕ-discrete b (g .constant)) (takenRows-solve within (λ g′ m. solve g′ (List·Memᴰ·tail m)))
+  takenRows-solve (index {g} {gs} {i} {is} h within) solve =
+      go (ℕ-discrete b (g .constant)) (takenRows-solve within (λ g′ m. solve g′ (List·Memᴰ·tail m)))
     where
       here : dot l (getD (g .rows) i []) + count (g .constant) L ≡ dot r (getD (g .rows) i []) + count (g .constant) R
       here = solve g (List·Memᴰ·head refl) (getD (g .rows) i []) (getD-member (g .rows) i [] h)
 
-      go : Dec (b ≡ g .constant)
-          → totalDot l (same b) (takenRows gs is) + count b (map (λ (g : Group). g .constant) gs) * count b L
-          ≡ totalDot r (same b) (takenRows gs is) + count b (map (λ (g : Group). g .constant) gs) * count b R
-          → totalDot l (same b) (takenRows (g ∷ gs) (i ∷ is)) + count b (map (λ (g : Group). g .constant) (g ∷ gs)) * count b L
-          ≡ totalDot r (same b) (takenRows (g ∷ gs) (i ∷ is)) + count b (map (λ (g : Group). g .constant) (g ∷ gs)) * count b R
+      go : Dec (b ≡ g .constant) → Solved gs is → Solved (g ∷ gs) (i ∷ is)
       go (yes e) rest = rw (same-self b (g .constant) e) (omega (arith, here, ap (λ c. count c L) e, ap (λ c. count c R) e))
       go (no n) rest = rw (same-other b (g .constant) n) (omega arith)
 
@@ -121,6 +123,12 @@ module _ (M : Mode) (L R : List ℕ) (left : IsSide L) (right : IsSide R) (G : G
       weight-zero M L R v (row .vector) .0 (row .least .has .1)
 
   module _ (new : ℕ) (s : Selection) (selection : SelectionOf G s) where
+    abbrev constantRows : List Taken
+    constantRows = takenRows (G .constants) (s .indexes)
+
+    abbrev balancedRows : List Taken
+    balancedRows = takenBalanced new (G .balanced) (s .takes)
+
     taken-vectors : (t : Taken) → List·Memᴰ t (taken new G s) → length (t .row) ≡ length (variables M L R)
     taken-vectors t m =
         ⊎-elim
@@ -136,64 +144,58 @@ module _ (M : Mode) (L R : List ℕ) (left : IsSide L) (right : IsSide R) (G : G
         (s .takes)
         (λ v k. groups .balanced-rows .only v k .vector)
         t)
-        (List·Memᴰ·append-cases (takenRows (G .constants) (s .indexes)) m)
+        (List·Memᴰ·append-cases constantRows m)
 
     -- the product with the occurrences of an atom in the values
     dot-value : (coefficients : List ℕ) (b : ℕ)
         → dot coefficients (occurrences (value M new L R G s) (variables M L R) b)
-        ≡ totalDot coefficients (same b) (takenRows (G .constants) (s .indexes)) + totalDot coefficients (same b) (takenBalanced new (G .balanced) (s .takes))
+        ≡ totalDot coefficients (same b) constantRows + totalDot coefficients (same b) balancedRows
     dot-value coefficients b =
         ap
         (λ (f : ℕ → ℕ). dot coefficients (map f (variables M L R)))
         (fun-ext (λ x. count-valueAt b (placeOf x (variables M L R)) (taken new G s)))
         ∙ dot-total coefficients (variables-ascending M L R) (same b) (taken new G s) taken-vectors
-        ∙ totalDot-append coefficients (same b) (takenRows (G .constants) (s .indexes)) (takenBalanced new (G .balanced) (s .takes))
+        ∙ totalDot-append coefficients (same b) constantRows balancedRows
 
-    -- at every atom the sides become equal: unbalanced constants by their taken rows, the others since as many stay on both sides
+    -- how often an atom stands on the replaced left and right side
+    left-value : (b : ℕ) → count b (put (M .moves) (value M new L R G s) L)
+        ≡ totalDot (onLeft M L R) (same b) constantRows + totalDot (onLeft M L R) (same b) balancedRows + staying (M .moves) b L
+    left-value b = count-left M L R left right (value M new L R G s) b ∙ ap (λ n. n + staying (M .moves) b L) (dot-value (onLeft M L R) b)
+
+    right-value : (b : ℕ) → count b (put (M .moves) (value M new L R G s) R)
+        ≡ totalDot (onRight M L R) (same b) constantRows + totalDot (onRight M L R) (same b) balancedRows + staying (M .moves) b R
+    right-value b = count-right M L R left right (value M new L R G s) b ∙ ap (λ n. n + staying (M .moves) b R) (dot-value (onRight M L R) b)
+
+    -- The sides become equal at every atom: an unbalanced constant by its taken row, any other atom since as many of it stay on both sides.
     sides-agree : (b : ℕ) → count b (put (M .moves) (value M new L R G s) L) ≡ count b (put (M .moves) (value M new L R G s) R)
     sides-agree b = go (kind-of M L R left right b)
       where
-        solved : totalDot (onLeft M L R) (same b) (takenRows (G .constants) (s .indexes)) + count b (unbalanced M L R) * count b L
-            ≡ totalDot (onRight M L R) (same b) (takenRows (G .constants) (s .indexes)) + count b (unbalanced M L R) * count b R
-        solved =
+        times : count b (constantsOf (G .constants)) ≡ count b (unbalanced M L R)
+        times = ap (count b) (groups .the-constants)
+
+        constants : (m : ℕ) → count b (constantsOf (G .constants)) ≡ m
+            → totalDot (onLeft M L R) (same b) constantRows + m * count b L ≡ totalDot (onRight M L R) (same b) constantRows + m * count b R
+        constants m e =
             subst
-            (λ (cs : List ℕ).
-            totalDot (onLeft M L R) (same b) (takenRows (G .constants) (s .indexes)) + count b cs * count b L
-            ≡ totalDot (onRight M L R) (same b) (takenRows (G .constants) (s .indexes)) + count b cs * count b R)
-            (groups .the-constants)
+            (λ n. totalDot (onLeft M L R) (same b) constantRows + n * count b L ≡ totalDot (onRight M L R) (same b) constantRows + n * count b R)
+            e
             (takenRows-solve (onLeft M L R) (onRight M L R) L R b (selection .a-row-each) rows-solve)
 
-        balanced : totalDot (onLeft M L R) (same b) (takenBalanced new (G .balanced) (s .takes))
-            ≡ totalDot (onRight M L R) (same b) (takenBalanced new (G .balanced) (s .takes))
+        balanced : totalDot (onLeft M L R) (same b) balancedRows ≡ totalDot (onRight M L R) (same b) balancedRows
         balanced = takenBalanced-solve (onLeft M L R) (onRight M L R) (same b) new (G .balanced) (s .takes) balanced-solve
 
-        -- from here on only numbers
-        add-up : (m : ℕ) → count b (unbalanced M L R) ≡ m
-            → m * count b L + staying (M .moves) b R ≡ m * count b R + staying (M .moves) b L
-            → count b (put (M .moves) (value M new L R G s) L) ≡ count b (put (M .moves) (value M new L R G s) R)
-        add-up m e stay =
-            let kept = subst (λ (n : ℕ). totalDot (onLeft M L R) (same b) (takenRows (G .constants) (s .indexes)) + n * count b L ≡ totalDot (onRight M L R) (same b) (takenRows (G .constants) (s .indexes)) + n * count b R) e solved in
-            omega
-            (arith, balanced, dot-value (onLeft M L R) b, dot-value (onRight M L R) b, count-left M L R left right (value M new L R G s) b, count-right M L R left right (value M new L R G s) b)
-
         go : Kind M L R b → count b (put (M .moves) (value M new L R G s) L) ≡ count b (put (M .moves) (value M new L R G s) R)
-        go (constant m l r) = add-up 1 (count-once b (unbalanced-ascending M L R) m) (omega arith)
-        go (other n e) = add-up 0 (count-none b (unbalanced M L R) n) (omega arith)
+        go (constant m l r) =
+            omega (arith, left-value b, right-value b, balanced, constants 1 (times ∙ count-once b (unbalanced-ascending M L R) m))
+        go (other n e) =
+            omega (arith, left-value b, right-value b, balanced, constants 0 (times ∙ count-none b (unbalanced M L R) n))
 
-    -- SOUND
+    -- where values may not be empty, none is: its place is reached
+    values-non-empty : admissible M new L R G s ≡ true → (x : ℕ) → List·Memᴰ x (variables M L R) → NonEmpty M (value M new L R G s x)
+    values-non-empty h x m e =
+        let place : ℕ = placeOf x (variables M L R) in
+        let all : allReached (taken new G s) (length (variables M L R)) ≡ true = sym (admissible-reaches M new L R G s e) ∙ h in
+        reached-value place (taken new G s) (allReached-reached (taken new G s) (length (variables M L R)) all place (placeOf-lt (variables M L R) x m))
+
     pub sound-selection : admissible M new L R G s ≡ true → Unifies M L R (value M new L R G s)
-    sound-selection h =
-        record {
-          non-empty =
-              λ x m e.
-              reached-value
-              (placeOf x (variables M L R))
-              (taken new G s)
-              (allReached-reached
-              (taken new G s)
-              (length (variables M L R))
-              (sym (admissible-reaches M new L R G s e) ∙ h)
-              (placeOf x (variables M L R))
-              (placeOf-lt (variables M L R) x m));
-          equal = sides-agree;
-        }
+    sound-selection h = record { non-empty = values-non-empty h; equal = sides-agree }

@@ -1,4 +1,4 @@
--- Taken rows and the values that they give, as sums of numbers: `total i weigh ts` adds up, over the taken rows, a weight of the atom times the entry at i.
+-- Taken rows and the values that they give, as sums of numbers, so that statements on multisets become statements on ℕ.
 use Prim.Native.Nat.{ℕ, zero, suc, _+_, _*_, _≤_, _<_}
 use mathlib.Core.Path.{_≡_, refl, ap, ap₂, _∙_}
 use mathlib.Core.Bool.{Bool, true, false, cond, _||_, false≢true, and-eq-true-iff}

@@ -54,6 +54,10 @@ record Unit-left (wanted : ℕ → Bool) (u v : List ℕ) : Type 0 where
   below : next ≼ v
   adds : (f : ℕ → ℕ) → weighted f next ≡ weighted f u + f at
 
+-- one unit is one more in the sum
+longer : {wanted : ℕ → Bool} {u v : List ℕ} (unit : Unit-left wanted u v) → sum (unit .next) ≡ suc (sum u)
+longer {u = u} unit = omega (arith, sum-weighted (unit .next), sum-weighted u, unit .adds (λ i. 1))
+
 -- no such unit is left: where f is at most g at the other places, v − u weighs no more by f than by g
 abbrev None-left : (ℕ → Bool) → List ℕ → List ℕ → Type 0
 None-left wanted u v = (f g : ℕ → ℕ) → ((i : ℕ) → wanted i ≡ false → f i ≤ g i) → weighted g u + weighted f v ≤ weighted f u + weighted g v
@@ -155,24 +159,31 @@ module _ (q r : ℕ → ℕ) (first limit : ℕ) where
         let positive : 0 < sum (d .rest) = omega (arith, d .sums, m .earlier) in
         omega (arith, no-smaller (d .rest) (≼-trans (d .below) below) equal positive, sum-mono (d .below))
 
-    one-start-more : {u u′ : List ℕ} {many s : ℕ} → u ≼ v → sum u < sum v → weighted q u ≡ weighted r u + (first + s) → s < limit
-        → u ≼ u′ → sum u < sum u′ → Starts u many → Starts u′ (suc many)
-    one-start-more {u} {u′} {many} {s} below unfinished here small le less st =
+    -- a unit is taken at a difference that is within the limits, and not met before
+    one-start-more : {wanted : ℕ → Bool} {u : List ℕ} {many : ℕ} (unit : Unit-left wanted u v) → u ≼ v
+        → weighted r u + first ≤ weighted q u → weighted q u < weighted r u + (first + limit) → Starts u many → Starts (unit .next) (suc many)
+    one-start-more {wanted} {u} {many} unit below low high st =
         record {
           starts = s ∷ st .starts;
           as-many = omega (arith, st .as-many);
-          distinct = also (λ m. not-again below unfinished here (st .met s m)) (st .distinct);
+          distinct = also (λ m. not-again below (omega (arith, longer unit, sum-mono (unit .below))) there (st .met s m)) (st .distinct);
           within = within-more;
           met = met-more;
         }
       where
+        s : ℕ
+        s = weighted q u - (weighted r u + first)
+
+        there : weighted q u ≡ weighted r u + (first + s)
+        there = omega arith
+
         within-more : (t : ℕ) → List·Memᴰ t (s ∷ st .starts) → t < limit
         within-more t (List·Memᴰ·head e) = omega arith
         within-more t (List·Memᴰ·tail m) = st .within t m
 
-        met-more : (t : ℕ) → List·Memᴰ t (s ∷ st .starts) → Met u′ t
-        met-more t (List·Memᴰ·head e) = record { vector = u; below = le; earlier = less; there = omega arith }
-        met-more t (List·Memᴰ·tail m) = met-later le (st .met t m)
+        met-more : (t : ℕ) → List·Memᴰ t (s ∷ st .starts) → Met (unit .next) t
+        met-more t (List·Memᴰ·head e) = record { vector = u; below = unit .above; earlier = omega (arith, longer unit); there = omega (arith, there) }
+        met-more t (List·Memᴰ·tail m) = met-later (unit .above) (st .met t m)
 
 -- whether a unit at a place is up, and the places' shares in the two sums
 abbrev pub isUp : (ℕ → ℕ) → (ℕ → ℕ) → ℕ → Bool
@@ -219,10 +230,6 @@ module _ (p n : ℕ → ℕ) (v : List ℕ) (smallest : Smallest p n v) (B C : �
     abbrev here : List ℕ
     here = w .vector
 
-    -- one unit is one more in the sum
-    longer : {wanted : ℕ → Bool} (unit : Unit-left wanted here v) → sum (unit .next) ≡ suc (sum here)
-    longer unit = omega (arith, sum-weighted (unit .next), sum-weighted here, unit .adds (λ i. 1))
-
     step-up : weighted p here ≤ weighted n here → Unit-left (isUp p n) here v → Walked (suc k)
     step-up low unit =
         record {
@@ -231,7 +238,7 @@ module _ (p n : ℕ → ℕ) (v : List ℕ) (smallest : Smallest p n v) (B C : �
           size = omega (arith, longer unit, w .size);
           low = omega (arith, unit .adds p, unit .adds n, leb-true (n (unit .at)) (p (unit .at)) (unit .is-wanted), w .low);
           high = omega (arith, unit .adds p, unit .adds n, bounded (unit .at) .0);
-          ups = recounted n p 0 C one-more more;
+          ups = recounted n p 0 C one-more (one-start-more n p 0 C reversed unit (w .below) (omega arith) (omega (arith, w .low)) (w .ups));
           downs = recounted p n 1 B as-many (starts-later p n 1 B (unit .above) (w .downs));
         }
       where
@@ -241,16 +248,8 @@ module _ (p n : ℕ → ℕ) (v : List ℕ) (smallest : Smallest p n v) (B C : �
         as-many : weighted (down p n) here ≡ weighted (down p n) (unit .next)
         as-many = omega (arith, unit .adds (down p n), ap (λ b. cond {A = ℕ} b 0 1) (unit .is-wanted))
 
-        more : Starts n p 0 C (unit .next) (suc (weighted (up p n) here))
-        more =
-            one-start-more n p 0 C (λ d le e positive. smallest .no-smaller d le (sym e) positive) {s = weighted n here - weighted p here}
-            (w .below)
-            (omega (arith, w .size))
-            (omega arith)
-            (omega (arith, w .low))
-            (unit .above)
-            (omega (arith, longer unit))
-            (w .ups)
+        reversed : (d : List ℕ) → d ≼ v → weighted n d ≡ weighted p d → 0 < sum d → sum v ≤ sum d
+        reversed d le e positive = smallest .no-smaller d le (sym e) positive
 
     step-down : weighted n here < weighted p here → Unit-left (λ i. not (isUp p n i)) here v → Walked (suc k)
     step-down high unit =
@@ -261,7 +260,9 @@ module _ (p n : ℕ → ℕ) (v : List ℕ) (smallest : Smallest p n v) (B C : �
           low = omega (arith, unit .adds p, unit .adds n, bounded (unit .at) .1);
           high = omega (arith, unit .adds p, unit .adds n, leb-false (n (unit .at)) (p (unit .at)) is-down, w .high);
           ups = recounted n p 0 C as-many (starts-later n p 0 C (unit .above) (w .ups));
-          downs = recounted p n 1 B one-more more;
+          downs =
+              recounted p n 1 B one-more
+              (one-start-more p n 1 B (smallest .no-smaller) unit (w .below) (omega arith) (omega (arith, w .high)) (w .downs));
         }
       where
         is-down : isUp p n (unit .at) ≡ false
@@ -272,17 +273,6 @@ module _ (p n : ℕ → ℕ) (v : List ℕ) (smallest : Smallest p n v) (B C : �
 
         as-many : weighted (up p n) here ≡ weighted (up p n) (unit .next)
         as-many = omega (arith, unit .adds (up p n), ap (λ b. cond {A = ℕ} b 1 0) is-down)
-
-        more : Starts p n 1 B (unit .next) (suc (weighted (down p n) here))
-        more =
-            one-start-more p n 1 B (smallest .no-smaller) {s = weighted p here - suc (weighted n here)}
-            (w .below)
-            (omega (arith, w .size))
-            (omega arith)
-            (omega (arith, w .high))
-            (unit .above)
-            (omega (arith, longer unit))
-            (w .downs)
 
     -- while the difference is at most 0, an up unit is left: otherwise nothing is
     take-up : weighted p here ≤ weighted n here → Unit-left (isUp p n) here v ⊎ None-left (isUp p n) here v → Walked (suc k)

@@ -7,6 +7,7 @@ pub mod Search
 pub mod Selection
 pub mod Keys
 pub mod Replacement
+pub mod Values
 pub mod Pages
 pub mod Fages
 pub mod Worked

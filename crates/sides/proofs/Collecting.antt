@@ -1,13 +1,13 @@
 -- Collecting the atoms that pass a test, with two numbers for each, one atom at a time.
-use mathlib.Core.Path.{_≡_, refl, sym, ap, _∙_, subst}
+use mathlib.Core.Path.{_≡_, refl, sym, ap, _∙_}
 use mathlib.Core.Bool.{Bool, true, false}
 use mathlib.Core.List.{List, [], _∷_, _++_, map, append-nil}
-use Prim.Native.Nat.{ℕ, zero, suc, _+_, _-_, _≤_, _<_}
+use Prim.Native.Nat.{ℕ, _+_, _≤_, _<_}
 use native.Mathlib.Omega.{arith}
 use lib.ListN.{length, set, length-map, length-set}
 use lib.Dec.{ltb}
 use borrow.Author.Tests.{lt-ltb}
-use Rattle.ac.specs.Lists.{below, keep, filter}
+use Rattle.ac.specs.Lists.{below, filter}
 use Rattle.sides.specs.Counting.{Written, Collected}
 use Rattle.sides.proofs.Lists.{filter-below, written-more, length-snoc, map-append}
 

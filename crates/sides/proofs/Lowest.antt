@@ -1,17 +1,27 @@
 -- The lowest atom whose net count is too far from 0, by the two tables.
-use mathlib.Core.Path.{_≡_, refl, sym, ap, ap₂, _∙_}
+use mathlib.Core.Path.{_≡_, refl, sym, ap, _∙_}
+use mathlib.Core.Bool.{Bool, true, false}
 use mathlib.Core.List.{List}
-use Prim.Native.Nat.{ℕ, _+_, _-_, _≤_, _<_}
+use Prim.Native.Nat.{ℕ, zero, suc, _+_, _-_, _≤_, _<_}
 use native.Mathlib.Decide.{decLt}
 use native.Mathlib.Omega.{arith}
 use lib.ListN.{length, getD, List·getD-eq-default}
-use lib.IntN.{natAbs}
+use lib.IntN.{natAbs, pos, _-ℤ_}
+use lib.Dec.{ltb}
+use borrow.Author.Tests.{ltb-true, ltb-false}
 use Rattle.ac.specs.Pair.{count, net}
 use Rattle.sides.specs.Limits.{limits}
-use Rattle.sides.specs.Counting.{CountsOf, Lowest}
-use Rattle.sides.specs.declared.Frequent.{Frequent}
+use Rattle.sides.specs.Counting.{Occurrences, Lowest}
 use Rattle.sides.specs.declared.Frequent.the-variants.{Atom, Nothing}
-use Rattle.sides.proofs.Counts.{natAbs-difference}
+
+-- the distance of a difference from 0, by the two differences of naturals
+pub natAbs-difference : (m n : ℕ) → natAbs (pos m -ℤ pos n) ≡ (m - n) + (n - m)
+natAbs-difference m zero = omega arith
+natAbs-difference m (suc k) = go (ltb m (suc k)) refl
+  where
+    go : (t : Bool) → ltb m (suc k) ≡ t → natAbs (pos m -ℤ pos (suc k)) ≡ (m - suc k) + (suc k - m)
+    go true e = rw e (omega (arith, ltb-true m (suc k) e))
+    go false e = rw e (omega (arith, ltb-false m (suc k) e))
 
 -- how far the two tables are apart at an atom
 abbrev pub apart : List ℕ → List ℕ → ℕ → ℕ
@@ -22,7 +32,7 @@ module _ (left right : List ℕ) where
   apart-beyond : (atom : ℕ) → length left ≤ atom → length right ≤ atom → apart left right atom ≡ 0
   apart-beyond atom l r = omega (arith, List·getD-eq-default left 0 l, List·getD-eq-default right 0 r)
 
-  module _ (L R : List ℕ) (counts-left : CountsOf L left) (counts-right : CountsOf R right) where
+  module _ (L R : List ℕ) (counts-left : Occurrences L left) (counts-right : Occurrences R right) where
     -- a net count is as far from 0 as the two counts are apart
     net-apart : (atom : ℕ) → natAbs (net L R atom) ≡ apart left right atom
     net-apart atom = natAbs-difference (count atom L) (count atom R) ∙ sym (rw (counts-left .entries atom, counts-right .entries atom))

@@ -1,28 +1,29 @@
 -- The ways out of taking a pair apart, each from the facts that its test leaves.
 use mathlib.Core.Path.{_≡_, refl, subst}
+use mathlib.Core.Bool.{Bool, _||_}
 use mathlib.Core.Logic.{_⊎_, inl, inr, ⊎-elim}
-use mathlib.Core.List.{List, [], _∷_}
-use Prim.Native.Nat.{ℕ, _≤_, _<_}
+use mathlib.Core.List.{List, _∷_}
+use Prim.Native.Nat.{ℕ, _<_}
 use native.Mathlib.Omega.{arith}
-use lib.ListN.{length}
+use lib.Dec.{ltb}
 use Rattle.ac.specs.Pair.{Mode, variables, unbalanced}
 use Rattle.numbers.specs.Numbers.{numberOf}
-use Rattle.numbers.specs.First.{First, here, later, NoneOf, end, also}
+use Rattle.numbers.specs.First.{First, later, NoneOf, also}
 use Rattle.numbers.specs.declared.Refusal.{Refusal}
-use Rattle.numbers.specs.declared.Refusal.the-variants.{SideLength, NoAtom, Variables, NetCount, Constants}
 use Rattle.sides.specs.Limits.{Limits}
-use Rattle.sides.specs.Given.{Side, left, right, WrongLength, WrongByte, Far, PairGiven, side-length, no-atom, many-variables, far-net-count, many-constants}
-use Rattle.sides.specs.Parted.{excess, PairOf, PartedOf}
-use Rattle.sides.specs.Counting.{Gathered, Lowest}
-use Rattle.sides.specs.declared.Verdict.{Verdict}
+use Rattle.sides.specs.Given.{left, right, WrongLength, WrongByte, PairGiven, side-length, no-atom, many-variables, far-net-count, many-constants}
+use Rattle.sides.specs.Parted.{PairOf, PartedOf}
+use Rattle.sides.specs.Counting.{Tells, Gathered, Lowest, isAtom}
+use Rattle.sides.specs.declared.Pair.{Pair}
 use Rattle.sides.specs.declared.Verdict.the-variants.{Refused, Accepted}
 use Rattle.sides.specs.declared.Parted.{Parted}
 use Rattle.sides.specs.declared.Frequent.{Frequent}
 use Rattle.sides.specs.declared.Frequent.the-variants.{Atom, Nothing}
+use Rattle.sides.proofs.Telling.{tells-true, tells-false, tells-less, tells-either, tells-same, at-most}
 
 module _ {numbers : List ℕ} {limits : Limits} {M : Mode} {L R : List ℕ} {parted : Parted} where
-  pub parted-refused : (refusal : Refusal) → parted .verdict ≡ Refused refusal → First (PairGiven limits M L R) numbers (numberOf refusal) → PartedOf numbers limits M L R parted
-  parted-refused refusal verdict first =
+  pub parted-refused : {refusal : Refusal} → parted .verdict ≡ Refused refusal → First (PairGiven limits M L R) numbers (numberOf refusal) → PartedOf numbers limits M L R parted
+  parted-refused {refusal} verdict first =
       record {
         refused = λ other e.
             let same : refusal ≡ other = cc (verdict, e) in
@@ -42,52 +43,63 @@ module _ {numbers : List ℕ} {limits : Limits} {M : Mode} {L R : List ℕ} {par
         the-pair = λ e. pair;
       }
 
+-- a number before the others that is not given
+pub parted-later : {number : ℕ} {numbers : List ℕ} {limits : Limits} {M : Mode} {L R : List ℕ} {parted : Parted}
+    → (PairGiven limits M L R number → ⊥) → PartedOf numbers limits M L R parted → PartedOf (number ∷ numbers) limits M L R parted
+parted-later not-given parted =
+    record {
+      refused = λ refusal e. later not-given (parted .refused refusal e);
+      none-given = λ e. also not-given (parted .none-given e);
+      the-pair = parted .the-pair;
+    }
+
+-- what tells of each number
 module _ {limits : Limits} {M : Mode} {L R : List ℕ} where
-  -- when a number is not given
-  right-lengths : (WrongLength limits L ⊎ WrongLength limits R → ⊥) → PairGiven limits M L R 7 → ⊥
-  right-lengths right-both (side-length left wrong) = right-both (inl wrong)
-  right-lengths right-both (side-length right wrong) = right-both (inr wrong)
+  pub tells-7 : {first second : Bool} → Tells (WrongLength limits L) first → Tells (WrongLength limits R) second → Tells (PairGiven limits M L R 7) (first || second)
+  tells-7 {first} {second} of-left of-right = tells-same (⊎-elim (side-length left) (side-length right)) either (tells-either first second of-left of-right)
+    where
+      either : PairGiven limits M L R 7 → WrongLength limits L ⊎ WrongLength limits R
+      either (side-length left wrong) = inl wrong
+      either (side-length right wrong) = inr wrong
 
-  right-bytes : (WrongByte limits L ⊎ WrongByte limits R → ⊥) → PairGiven limits M L R 8 → ⊥
-  right-bytes right-both (no-atom left wrong) = right-both (inl wrong)
-  right-bytes right-both (no-atom right wrong) = right-both (inr wrong)
+  pub tells-8 : {first second : Bool} → Tells (WrongByte limits L) first → Tells (WrongByte limits R) second → Tells (PairGiven limits M L R 8) (first || second)
+  tells-8 {first} {second} of-left of-right = tells-same (⊎-elim (no-atom left) (no-atom right)) either (tells-either first second of-left of-right)
+    where
+      either : PairGiven limits M L R 8 → WrongByte limits L ⊎ WrongByte limits R
+      either (no-atom left wrong) = inl wrong
+      either (no-atom right wrong) = inr wrong
 
-  few-variables : length (variables M L R) ≤ limits .variables → PairGiven limits M L R 9 → ⊥
-  few-variables few (many-variables many) = omega (arith, few, many)
+  pub tells-9 : {atoms left right : List ℕ} {number : ℕ}
+      → Gathered (limits .variables) L R (variables M L R) atoms number left right → Tells (PairGiven limits M L R 9) (ltb (limits .variables) number)
+  tells-9 {number = number} gathered = tells-same (λ many. many-variables (rw (gathered .how-many) at many)) above (tells-less (limits .variables) number)
+    where
+      above : PairGiven limits M L R 9 → limits .variables < number
+      above (many-variables many) = rw (gathered .how-many) many
 
-  near-net-counts : ((atom : ℕ) → Far limits L R atom → ⊥) → PairGiven limits M L R 10 → ⊥
-  near-net-counts near (far-net-count atom far) = near atom far
+  pub tells-10 : {found : Frequent} → Lowest limits L R found → Tells (PairGiven limits M L R 10) (isAtom found)
+  tells-10 {found} lowest = go found refl
+    where
+      go : (answer : Frequent) → found ≡ answer → Tells (PairGiven limits M L R 10) (isAtom answer)
+      go (Atom atom) e = tells-true (far-net-count atom (lowest .far atom e))
+      go Nothing e = tells-false near
+        where
+          near : PairGiven limits M L R 10 → ⊥
+          near (far-net-count atom far) = lowest .nowhere atom e far
 
-  few-constants : length (unbalanced M L R) ≤ limits .constants → PairGiven limits M L R 11 → ⊥
-  few-constants few (many-constants many) = omega (arith, few, many)
+  pub tells-11 : {atoms left right : List ℕ} {number : ℕ}
+      → Gathered (limits .constants) L R (unbalanced M L R) atoms number left right → Tells (PairGiven limits M L R 11) (ltb (limits .constants) number)
+  tells-11 {number = number} gathered = tells-same (λ many. many-constants (rw (gathered .how-many) at many)) above (tells-less (limits .constants) number)
+    where
+      above : PairGiven limits M L R 11 → limits .constants < number
+      above (many-constants many) = rw (gathered .how-many) many
 
-  -- the first of 9, 10 and 11 that is given
-  pub first-9 : limits .variables < length (variables M L R) → First (PairGiven limits M L R) (9 ∷ 10 ∷ 11 ∷ []) 9
-  first-9 many = here (many-variables many)
-
-  module _ {found : Frequent} (few : length (variables M L R) ≤ limits .variables) (frequent : Lowest limits L R found) where
-    pub first-10 : (atom : ℕ) → found ≡ Atom atom → First (PairGiven limits M L R) (9 ∷ 10 ∷ 11 ∷ []) 10
-    first-10 atom e = later (few-variables few) (here (far-net-count atom (frequent .far atom e)))
-
-    pub first-11 : found ≡ Nothing → limits .constants < length (unbalanced M L R) → First (PairGiven limits M L R) (9 ∷ 10 ∷ 11 ∷ []) 11
-    first-11 e many = later (few-variables few) (later (near-net-counts (λ atom. frequent .nowhere atom e)) (here (many-constants many)))
-
-    pub none-of-9-to-11 : found ≡ Nothing → length (unbalanced M L R) ≤ limits .constants → NoneOf (PairGiven limits M L R) (9 ∷ 10 ∷ 11 ∷ [])
-    none-of-9-to-11 e few′ = also (few-variables few) (also (near-net-counts (λ atom. frequent .nowhere atom e)) (also (few-constants few′) end))
-
-  -- 7 and 8 come before them
-  pub first-7 : {numbers : List ℕ} → WrongLength limits L ⊎ WrongLength limits R → First (PairGiven limits M L R) (7 ∷ numbers) 7
-  first-7 wrong = here (⊎-elim (side-length left) (side-length right) wrong)
-
-  module _ {numbers : List ℕ} (right-length : WrongLength limits L ⊎ WrongLength limits R → ⊥) where
-    pub first-8 : WrongByte limits L ⊎ WrongByte limits R → First (PairGiven limits M L R) (7 ∷ 8 ∷ numbers) 8
-    first-8 wrong = later (right-lengths right-length) (here (⊎-elim (no-atom left) (no-atom right) wrong))
-
-    -- where neither is given, what the other numbers settle stays
-    pub parted-after : {parted : Parted} → (WrongByte limits L ⊎ WrongByte limits R → ⊥) → PartedOf numbers limits M L R parted → PartedOf (7 ∷ 8 ∷ numbers) limits M L R parted
-    parted-after right-byte parted =
-        record {
-          refused = λ refusal e. later (right-lengths right-length) (later (right-bytes right-byte) (parted .refused refusal e));
-          none-given = λ e. also (right-lengths right-length) (also (right-bytes right-byte) (parted .none-given e));
-          the-pair = parted .the-pair;
-        }
+  -- where no number refuses, all that was found is held
+  pub pair-held : {pair : Pair}
+      → Gathered (limits .variables) L R (variables M L R) (pair .variables .atoms) (pair .variables .count) (pair .variables .left) (pair .variables .right)
+      → Gathered (limits .constants) L R (unbalanced M L R) (pair .constants .atoms) (pair .constants .count) (pair .constants .left) (pair .constants .right)
+      → (PairGiven limits M L R 9 → ⊥) → (PairGiven limits M L R 11 → ⊥) → PairOf limits M L R pair
+  pair-held the-variables the-constants not9 not11 =
+      record {
+        the-variables = the-variables .held (at-most _ _ (λ many. not9 (many-variables many)));
+        the-constants = the-constants .held (at-most _ _ (λ many. not11 (many-constants many)));
+      }

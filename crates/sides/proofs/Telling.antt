@@ -2,7 +2,8 @@
 use mathlib.Core.Path.{_≡_, refl}
 use mathlib.Core.Bool.{Bool, true, false, _||_}
 use mathlib.Core.Logic.{_⊎_, inl, inr, ⊎-elim}
-use Prim.Native.Nat.{ℕ, _<_}
+use Prim.Native.Nat.{ℕ, _<_, _≤_}
+use native.Mathlib.Decide.{decLe}
 use native.Mathlib.Omega.{arith}
 use lib.Dec.{ltb}
 use borrow.Author.Tests.{ltb-true, ltb-false}
@@ -27,3 +28,15 @@ tells-second not-first second = record { if-true = λ e. inr (second .if-true e)
 pub tells-either : {A B : Type 0} (first second : Bool) → Tells A first → Tells B second → Tells (A ⊎ B) (first || second)
 tells-either true second a b = tells-true (inl (a .if-true refl))
 tells-either false second a b = tells-second (a .if-false refl) b
+
+-- a truth value tells of what is so exactly where something else is
+pub tells-same : {A B : Type 0} {told : Bool} → (A → B) → (B → A) → Tells A told → Tells B told
+tells-same to from tells = record { if-true = λ e. to (tells .if-true e); if-false = λ e b. tells .if-false e (from b) }
+
+-- what is not above a limit is at most the limit
+pub at-most : (m n : ℕ) → (n < m → ⊥) → m ≤ n
+at-most m n not-above = go (decLe m n)
+  where
+    go : Dec (m ≤ n) → m ≤ n
+    go (yes fits) = fits
+    go (no above) = absurd (not-above (omega arith))

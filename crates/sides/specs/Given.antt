@@ -1,7 +1,7 @@
 -- Numbers 7 to 12 of document 01's table: when each is given, of any two sides.
 use Prim.Native.Nat.{ℕ, _<_}
 use mathlib.Core.Logic.{_⊎_}
-use mathlib.Core.List.{List, [], _∷_, List·Memᴰ}
+use mathlib.Core.List.{List, List·Memᴰ}
 use lib.ListN.{length}
 use lib.IntN.{natAbs}
 use Rattle.ac.specs.Pair.{Mode, net, variables, unbalanced}

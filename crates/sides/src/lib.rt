@@ -2,15 +2,14 @@
 // first of the numbers 7 to 11 that is given.
 use numbers::Refusal;
 ghost use mathlib.Core.Path.{_≡_};
-ghost use mathlib.Core.Bool.{Bool, false};
-ghost use mathlib.Core.List.{List, [], _∷_, map};
-ghost use Prim.Native.Nat.{ℕ, _+_, _-_, _<_, _≤_};
-ghost use lib.ListN.{length, getD, set};
+ghost use mathlib.Core.List.{List, [], _∷_};
+ghost use Prim.Native.Nat.{ℕ, _+_, _-_};
+ghost use lib.ListN.{set};
 ghost use Rattle.ac.specs.Pair.{Mode, unifying, variables, unbalanced};
 ghost use Rattle.sides.specs.Limits.{limits};
 ghost use Rattle.sides.specs.Given.{WrongLength, WrongByte};
-ghost use Rattle.sides.specs.Counting.{Tells, CountsOf, MovesOf, Lowest, Collected, Gathered, passes, atomsOf, exceeds};
-ghost use Rattle.sides.specs.Parted.{PartedOf};
+ghost use Rattle.sides.specs.Parted.{excess, PartedOf};
+ghost use Rattle.sides.specs.Counting.{Tells, Occurrences, Moves, CountsOf, Collected, Gathered, Lowest, isOf, allOf, isAtom};
 
 // The limits of document 01's table.
 const LEAST_ATOMS: usize = 1;
@@ -47,11 +46,13 @@ pub struct Constants {
     pub right: [u8; 4],
 }
 
+// A pair taken apart.
 pub struct Pair {
     pub variables: Variables,
     pub constants: Constants,
 }
 
+// Whether the sides are refused, and why.
 pub enum Verdict {
     Refused(Refusal),
     Accepted,
@@ -63,14 +64,21 @@ pub struct Parted {
     pub pair: Pair,
 }
 
+// What is counted of a pair: for each atom whether it moves, and how often it stands on the left and on the right.
+struct Counts {
+    moving: [bool; 128],
+    left: [u8; 128],
+    right: [u8; 128],
+}
+
 // Which atoms are collected: the variables of a pair, or its unbalanced constants.
-pub enum Kind {
+enum Kind {
     Variable,
     Constant,
 }
 
 // The lowest atom whose net count is too far from 0, if there is one.
-pub enum Frequent {
+enum Frequent {
     Atom(u8),
     Nothing,
 }
@@ -100,7 +108,7 @@ fn wrong_byte(side: &[u8]) -> bool
 fn occurrences(side: &[u8]) -> [u8; 128]
     requires { ⌜ (WrongLength limits (now side) → ⊥) ⌝ }
     requires { ⌜ (WrongByte limits (now side) → ⊥) ⌝ }
-    ensures { λ r. ⌜ CountsOf (now (side .entry)) r ⌝ }
+    ensures { λ r. ⌜ Occurrences (now (side .entry)) r ⌝ }
 {
     let mut table = [0u8; 128];
     let mut i = 0;
@@ -114,7 +122,7 @@ fn occurrences(side: &[u8]) -> [u8; 128]
 
 // The atoms that move: the variables. Every other atom counts as a constant.
 fn moving_variables() -> [bool; 128]
-    ensures { λ r. ⌜ MovesOf unifying r ⌝ }
+    ensures { λ r. ⌜ Moves unifying r ⌝ }
 {
     let mut moving = [false; 128];
     let mut atom = 0;
@@ -139,7 +147,7 @@ fn distance(a: u8, b: u8) -> u8
     if a < b { b - a } else { a - b }
 }
 
-// Stores the byte at its place, where the list has it.
+// Stores the byte at its place, where the list reaches so far.
 fn put(list: &mut [u8], place: usize, byte: u8)
     ensures { λ _. ⌜ now (list .exit) ≡ set (now (list .entry)) place byte ⌝ }
 {
@@ -148,9 +156,9 @@ fn put(list: &mut [u8], place: usize, byte: u8)
     }
 }
 
-// Whether the atom is one of its kind in the pair that has these counts.
-fn wanted(kind: Kind, moves: bool, left: u8, right: u8) -> bool
-    ensures { λ r. ⌜ r ≡ passes kind moves left right ⌝ }
+// Whether an atom is one of the kind, from whether it moves and how often it stands on the left and on the right.
+fn is_of(kind: Kind, moves: bool, left: u8, right: u8) -> bool
+    ensures { λ r. ⌜ r ≡ isOf kind moves left right ⌝ }
 {
     match kind {
         Kind::Variable => moves && (0 < left || 0 < right),
@@ -162,24 +170,24 @@ fn wanted(kind: Kind, moves: bool, left: u8, right: u8) -> bool
 // many they are.
 fn collect(
     kind: Kind,
-    moving: &[bool; 128],
-    left: &[u8; 128],
-    right: &[u8; 128],
+    counts: Counts,
     atoms: &mut [u8],
     lefts: &mut [u8],
     rights: &mut [u8],
 ) -> usize
-    ensures { λ r. ⌜ Collected (exceeds (now (left .entry)) (now (right .entry))) (exceeds (now (right .entry)) (now (left .entry))) (atomsOf kind (now (moving .entry)) (now (left .entry)) (now (right .entry))) (now (atoms .entry)) (now (lefts .entry)) (now (rights .entry)) r (now (atoms .exit)) (now (lefts .exit)) (now (rights .exit)) ⌝ }
+    ensures { λ r. ⌜ ((M : Mode) (L R : List ℕ) → CountsOf M L R counts →
+        Collected (excess L R) (excess R L) (allOf kind M L R) (now (atoms .entry)) (now (lefts .entry)) (now (rights .entry)) r
+        (now (atoms .exit)) (now (lefts .exit)) (now (rights .exit))) ⌝ }
 {
     let mut count = 0;
     let mut atom = 0;
     while atom < ATOMS {
-        let l = left[atom];
-        let r = right[atom];
-        if wanted(kind, moving[atom], l, r) {
+        let left = counts.left[atom];
+        let right = counts.right[atom];
+        if is_of(kind, counts.moving[atom], left, right) {
             put(atoms, count, atom as u8);
-            put(lefts, count, excess(l, r));
-            put(rights, count, excess(r, l));
+            put(lefts, count, excess(left, right));
+            put(rights, count, excess(right, left));
             count += 1;
         }
         atom += 1;
@@ -188,21 +196,14 @@ fn collect(
 }
 
 // The variables of the pair that has these counts.
-fn variables_of(moving: &[bool; 128], left: &[u8; 128], right: &[u8; 128]) -> Variables
-    ensures { λ r. ⌜ Gathered 6 (exceeds (now (left .entry)) (now (right .entry))) (exceeds (now (right .entry)) (now (left .entry))) (atomsOf Kind.Variable (now (moving .entry)) (now (left .entry)) (now (right .entry))) (r .atoms) (r .count) (r .left) (r .right) ⌝ }
+fn variables_of(counts: Counts) -> Variables
+    ensures { λ r. ⌜ ((M : Mode) (L R : List ℕ) → CountsOf M L R counts →
+        Gathered (limits .variables) L R (variables M L R) (r .atoms) (r .count) (r .left) (r .right)) ⌝ }
 {
     let mut atoms = [0u8; 6];
     let mut lefts = [0u8; 6];
     let mut rights = [0u8; 6];
-    let count = collect(
-        Kind::Variable,
-        moving,
-        left,
-        right,
-        &mut atoms,
-        &mut lefts,
-        &mut rights,
-    );
+    let count = collect(Kind::Variable, counts, &mut atoms, &mut lefts, &mut rights);
     Variables {
         atoms: atoms,
         count: count,
@@ -212,21 +213,14 @@ fn variables_of(moving: &[bool; 128], left: &[u8; 128], right: &[u8; 128]) -> Va
 }
 
 // The unbalanced constants of the pair that has these counts.
-fn constants_of(moving: &[bool; 128], left: &[u8; 128], right: &[u8; 128]) -> Constants
-    ensures { λ r. ⌜ Gathered 4 (exceeds (now (left .entry)) (now (right .entry))) (exceeds (now (right .entry)) (now (left .entry))) (atomsOf Kind.Constant (now (moving .entry)) (now (left .entry)) (now (right .entry))) (r .atoms) (r .count) (r .left) (r .right) ⌝ }
+fn constants_of(counts: Counts) -> Constants
+    ensures { λ r. ⌜ ((M : Mode) (L R : List ℕ) → CountsOf M L R counts →
+        Gathered (limits .constants) L R (unbalanced M L R) (r .atoms) (r .count) (r .left) (r .right)) ⌝ }
 {
     let mut atoms = [0u8; 4];
     let mut lefts = [0u8; 4];
     let mut rights = [0u8; 4];
-    let count = collect(
-        Kind::Constant,
-        moving,
-        left,
-        right,
-        &mut atoms,
-        &mut lefts,
-        &mut rights,
-    );
+    let count = collect(Kind::Constant, counts, &mut atoms, &mut lefts, &mut rights);
     Constants {
         atoms: atoms,
         count: count,
@@ -235,18 +229,28 @@ fn constants_of(moving: &[bool; 128], left: &[u8; 128], right: &[u8; 128]) -> Co
     }
 }
 
-// The lowest atom whose net count is too far from 0.
-fn too_frequent(left: &[u8; 128], right: &[u8; 128]) -> Frequent
-    ensures { λ r. ⌜ ((L R : List ℕ) → CountsOf L (now (left .entry)) → CountsOf R (now (right .entry)) → Lowest limits L R r) ⌝ }
+// The lowest atom whose net count is too far from 0: the first that is met, since they are tried in ascending order.
+fn too_frequent(counts: Counts) -> Frequent
+    ensures { λ r. ⌜ ((M : Mode) (L R : List ℕ) → CountsOf M L R counts → Lowest limits L R r) ⌝ }
 {
     let mut atom = 0;
     while atom < ATOMS {
-        if FARTHEST < distance(left[atom], right[atom]) {
+        if FARTHEST < distance(counts.left[atom], counts.right[atom]) {
             return Frequent::Atom(atom as u8);
         }
         atom += 1;
     }
     Frequent::Nothing
+}
+
+// Whether there is such an atom.
+fn is_atom(frequent: Frequent) -> bool
+    ensures { λ r. ⌜ r ≡ isAtom frequent ⌝ }
+{
+    match frequent {
+        Frequent::Atom(_) => true,
+        Frequent::Nothing => false,
+    }
 }
 
 // A refusal, with a pair that says nothing.
@@ -276,19 +280,21 @@ fn refused(refusal: Refusal) -> Parted
 }
 
 // The pair that has these counts, or the first of the numbers 9, 10 and 11 that is given.
-fn part(moving: &[bool; 128], left: &[u8; 128], right: &[u8; 128]) -> Parted
-    ensures { λ r. ⌜ ((M : Mode) (L R : List ℕ) → MovesOf M (now (moving .entry)) → CountsOf L (now (left .entry)) → CountsOf R (now (right .entry)) → PartedOf (9 ∷ 10 ∷ 11 ∷ []) limits M L R r) ⌝ }
+fn part(counts: Counts) -> Parted
+    ensures { λ r. ⌜ ((M : Mode) (L R : List ℕ) → CountsOf M L R counts → PartedOf (9 ∷ 10 ∷ 11 ∷ []) limits M L R r) ⌝ }
 {
-    let variables = variables_of(moving, left, right);
-    let constants = constants_of(moving, left, right);
-    let frequent = too_frequent(left, right);
-    if MOST_VARIABLES < variables.count {
+    let variables = variables_of(counts);
+    let constants = constants_of(counts);
+    let many_variables = MOST_VARIABLES < variables.count;
+    let far_net_count = is_atom(too_frequent(counts));
+    let many_constants = MOST_CONSTANTS < constants.count;
+    if many_variables {
         return refused(Refusal::Variables);
     }
-    if let Frequent::Atom(_) = frequent {
+    if far_net_count {
         return refused(Refusal::NetCount);
     }
-    if MOST_CONSTANTS < constants.count {
+    if many_constants {
         return refused(Refusal::Constants);
     }
     let pair = Pair {
@@ -301,20 +307,26 @@ fn part(moving: &[bool; 128], left: &[u8; 128], right: &[u8; 128]) -> Parted
     }
 }
 
-// Takes two sides apart.
+// Takes two sides apart: the first of the numbers 7 to 11 that is given, or their pair. Nothing is counted before both sides are
+// known to hold atoms alone, and not too many.
 pub fn take_apart(left: &[u8], right: &[u8]) -> Parted
     ensures { λ r. ⌜ PartedOf (7 ∷ 8 ∷ 9 ∷ 10 ∷ 11 ∷ []) limits unifying (now (left .entry)) (now (right .entry)) r ⌝ }
 {
-    let length = wrong_length(left) | wrong_length(right);
-    let byte = wrong_byte(left) | wrong_byte(right);
-    if length {
+    let wrong_lengths = wrong_length(left) | wrong_length(right);
+    let wrong_bytes = wrong_byte(left) | wrong_byte(right);
+    if wrong_lengths {
         return refused(Refusal::SideLength);
     }
-    if byte {
+    if wrong_bytes {
         return refused(Refusal::NoAtom);
     }
     let moving = moving_variables();
     let lefts = occurrences(left);
     let rights = occurrences(right);
-    part(&moving, &lefts, &rights)
+    let counts = Counts {
+        moving: moving,
+        left: lefts,
+        right: rights,
+    };
+    part(counts)
 }

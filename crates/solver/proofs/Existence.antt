@@ -24,7 +24,6 @@ use Rattle.ac.proofs.Theorems.{sound, complete}
 use Rattle.numbers.specs.First.{First, NoneOf, here, also, end}
 use Rattle.numbers.proofs.Laws.{first-unique, first-not-none}
 use Rattle.numbers.proofs.Carried.{none-carried, first-after, none-front, first-given, elsewhere, first-past}
-use Rattle.sides.specs.Limits.{limits}
 use Rattle.solver.specs.Request.{wantedCount}
 use Rattle.solver.specs.Given.{ListGiven, none-admissible, not-listed, last-listed, PageGiven, of-the-sides, of-the-list, pageNumbers}
 use Rattle.solver.specs.Page.{nextKeys, moreFollow, PageOutcome, refused, page, receives, PagePromise, is-refused, is-page}

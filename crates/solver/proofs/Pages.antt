@@ -10,7 +10,7 @@ use lib.Seq.{take-all, take-append-seam}
 use Rattle.ac.specs.Lists.{Ascending}
 use Rattle.ac.specs.Pair.{Mode}
 use Rattle.ac.specs.Rows.{Groups, GroupsOf}
-use Rattle.ac.specs.Keys.{layout, keys, Begin, start, after, remaining}
+use Rattle.ac.specs.Keys.{layout, keys, Begin, start, remaining}
 use Rattle.ac.specs.Pages.{together, WholeList}
 use Rattle.ac.proofs.Groups.{groups-exist, groups-unique}
 use Rattle.ac.proofs.Listed.{keys-ascending}

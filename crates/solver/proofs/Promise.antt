@@ -14,7 +14,7 @@ use Rattle.table.specs.Table.{TableOf, groupsIn}
 use Rattle.table.specs.declared.Table.{Table}
 use Rattle.solver.specs.Request.{wantedCount}
 use Rattle.solver.specs.Given.{ListGiven}
-use Rattle.solver.specs.Page.{PageOutcome, refused, page, PagePromise, is-refused, is-page}
+use Rattle.solver.specs.Page.{PageOutcome, refused, PagePromise, is-refused, is-page}
 use Rattle.solver.specs.Steps.{SettledOf, to-refuse, to-answer, WrittenOf}
 use Rattle.solver.specs.declared.Settled.{Settled}
 use Rattle.solver.specs.declared.Settled.the-variants.{FirstKey, Refused}

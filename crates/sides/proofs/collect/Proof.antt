@@ -1,42 +1,37 @@
 -- `sides::collect` meets its contract. The loop's invariant: the atoms passed are visited. Assumes nothing.
-use mathlib.Core.Path.{_≡_, refl, sym, ap, _∙_}
-use mathlib.Core.Bool.{Bool, true, false}
+use mathlib.Core.Path.{_≡_, sym, ap, _∙_}
 use mathlib.Core.Logic.{⊎-elim}
-use Prim.Native.Nat.{ℕ, _≤_, _<_, _-_, _+_}
+use Prim.Native.Nat.{_≤_, _-_}
 use native.Mathlib.Omega.{arith}
-use lib.ListN.{length, getD, set}
-use denote.Ref.{now}
-use Rattle.sides.specs.Counting.{passes, exceeds}
+use lib.ListN.{set}
+use Rattle.sides.proofs.Gathering.{isCounted, exceeds, collected-all}
 use Rattle.sides.proofs.Collecting.{Visited, visited-none, visited-more, visited-skip}
 use Rattle.sides.proofs.collect.Statement.{statement}
 use Rattle.sides.proofs.collect.Tie as tie
 
 abbrev Inv-loop : tie.InvT-loop
-Inv-loop kind moving left right atoms₀ lefts₀ rights₀ count₀ atom₀ atoms lefts rights count atom =
+Inv-loop kind atoms₀ lefts₀ rights₀ counts count₀ atom₀ atoms lefts rights count atom =
     (atom ≤ 128) ×
-    Visited
-    (λ a. passes kind (getD moving a false) (getD left a 0) (getD right a 0))
-    (exceeds left right)
-    (exceeds right left)
+    Visited (isCounted kind counts) (exceeds (counts .left) (counts .right)) (exceeds (counts .right) (counts .left))
     atoms₀ lefts₀ rights₀ atom count atoms lefts rights
 
 abbrev μ-loop : tie.MeasureT-loop
-μ-loop kind moving left right atoms₀ lefts₀ rights₀ count₀ atom₀ atoms lefts rights count atom = 128 - atom
+μ-loop kind atoms₀ lefts₀ rights₀ counts count₀ atom₀ atoms lefts rights count atom = 128 - atom
 
 loop-holds : tie.Need-loop-holds Inv-loop μ-loop
 loop-holds c = (omega arith, visited-none _ _ _ _ _ _)
 
-element-copy-out-l : tie.Need-element-copy-out-l Inv-loop μ-loop
-element-copy-out-l c = omega arith
+element-copy-out-left : tie.Need-element-copy-out-left Inv-loop μ-loop
+element-copy-out-left c = omega arith
 
-element-copy-out-r : tie.Need-element-copy-out-r Inv-loop μ-loop
-element-copy-out-r c = omega arith
+element-copy-out-right : tie.Need-element-copy-out-right Inv-loop μ-loop
+element-copy-out-right c = omega arith
 
-element-copy-out-wanted : tie.Need-element-copy-out-wanted Inv-loop μ-loop
-element-copy-out-wanted c = omega arith
+element-copy-out-is-of : tie.Need-element-copy-out-is-of Inv-loop μ-loop
+element-copy-out-is-of c = omega arith
 
-wanted-requires : tie.Need-wanted-requires Inv-loop μ-loop
-wanted-requires c κs = tt
+is-of-requires : tie.Need-is-of-requires Inv-loop μ-loop
+is-of-requires c κs = tt
 
 cast-put : tie.Need-cast-put Inv-loop μ-loop
 cast-put c = omega arith
@@ -65,10 +60,12 @@ add-atom c = omega arith
 loop-less : tie.Need-loop-less Inv-loop μ-loop
 loop-less c = omega arith
 
+-- On the way through the branch `w` has the calls of `put` at 2, 7 and 12, those of `excess` at 6 and 11, and from 15 on what the buffers and the
+-- count are after it; on the way past it these stand from 1 on.
 loop-again : tie.Need-loop-again Inv-loop μ-loop
 loop-again c =
     let at = c .before .before .before .before .before .before .loop in
-    let told = c .before .wanted .ensures in (
+    let told = c .before .is-of .ensures in (
       omega arith,
       ⊎-elim
           (λ w. visited-more _ _ _ _ _ _ (at .atom) (at .count) (at .atoms) (at .lefts) (at .rights) (at .inv .1)
@@ -90,10 +87,11 @@ same-length-3 : tie.Need-same-length-3 Inv-loop μ-loop
 same-length-3 c = c .before .loop .inv .1 .same-rights
 
 returns : tie.Need-returns Inv-loop μ-loop
-returns c =
+returns c M L R counted =
     let at = c .before .loop in
+    let start = c .before .before .before .before .before in
     let end : at .atom ≡ 128 = omega arith in
-    rw end at (at .inv .1 .collected)
+    collected-all (start .args .kind) M L R (start .args .t2) counted (rw end at (at .inv .1 .collected))
 
 pub collect-spec : {M : Type 1} → statement M
 collect-spec =
@@ -102,10 +100,10 @@ collect-spec =
     Inv-loop
     μ-loop
     loop-holds
-    element-copy-out-l
-    element-copy-out-r
-    element-copy-out-wanted
-    wanted-requires
+    element-copy-out-left
+    element-copy-out-right
+    element-copy-out-is-of
+    is-of-requires
     cast-put
     put-requires
     excess-requires

@@ -1,10 +1,9 @@
 -- `sides::moving_variables` meets its contract. The loop's invariant: the table is true at the atoms passed and nowhere else. Assumes nothing.
 use mathlib.Core.Path.{_≡_, refl, subst}
-use mathlib.Core.Bool.{false}
 use Prim.Native.Nat.{ℕ, _≤_, _-_}
 use native.Mathlib.Omega.{arith}
 use lib.ListN.{length, length-set}
-use Rattle.sides.proofs.Moving.{TrueBelow, true-below-none, true-below-more}
+use Rattle.sides.proofs.Tables.{TrueBelow, true-below-none, true-below-more}
 use Rattle.sides.proofs.moving_variables.Statement.{statement}
 use Rattle.sides.proofs.moving_variables.Tie as tie
 
@@ -35,7 +34,7 @@ returns : tie.Need-returns Inv-loop μ-loop
 returns c =
     let at = c .before .loop in
     let end : at .atom ≡ 64 = omega arith in
-    record { entries = subst (λ (n : ℕ). TrueBelow n (at .moving)) end (at .inv .2) }
+    subst (λ (n : ℕ). TrueBelow n (at .moving)) end (at .inv .2)
 
 pub moving-variables-spec : {M : Type 1} → statement M
 moving-variables-spec =

@@ -1,20 +1,19 @@
 -- `sides::occurrences` meets its contract. The loop's invariant: the table counts the atoms passed. No count is above the side's length, so
 -- each fits a byte. Assumes nothing.
-use mathlib.Core.Path.{_≡_, refl, ap, subst}
+use mathlib.Core.Path.{subst}
 use mathlib.Core.List.{List}
 use Prim.Native.Nat.{ℕ, _≤_, _<_, _-_}
 use native.Mathlib.Omega.{arith}
-use lib.ListN.{length, length-set, length-take, take, getD}
+use lib.ListN.{length, take, getD}
 use lib.Seq.{take-all}
 use denote.Ref.{now}
-use Rattle.ac.specs.Pair.{count}
-use Rattle.sides.specs.Counting.{CountsOf}
-use Rattle.sides.proofs.Counts.{counts-none, counts-more, count-so-far, right-byte}
+use Rattle.sides.specs.Counting.{Occurrences}
+use Rattle.sides.proofs.Tables.{counts-none, counts-more, count-so-far, right-byte}
 use Rattle.sides.proofs.occurrences.Statement.{statement}
 use Rattle.sides.proofs.occurrences.Tie as tie
 
 abbrev Inv-loop : tie.InvT-loop
-Inv-loop side table₀ i₀ table i = (i ≤ length side) × CountsOf (take i side) table
+Inv-loop side table₀ i₀ table i = (i ≤ length side) × Occurrences (take i side) table
 
 abbrev μ-loop : tie.MeasureT-loop
 μ-loop side table₀ i₀ table i = length side - i
@@ -58,7 +57,7 @@ loop-again c =
 returns : tie.Need-returns Inv-loop μ-loop
 returns c =
     let at = c .before .loop in
-    subst (λ (s : List ℕ). CountsOf s (at .table)) (take-all (at .i) (now (c .before .before .args .side)) (omega arith)) (at .inv .1)
+    subst (λ (s : List ℕ). Occurrences s (at .table)) (take-all (at .i) (now (c .before .before .args .side)) (omega arith)) (at .inv .1)
 
 pub occurrences-spec : {M : Type 1} → statement M
 occurrences-spec =

@@ -1,19 +1,16 @@
 -- `sides::too_frequent` meets its contract. The loop's invariant: at no atom passed are the two counts too far apart. Assumes nothing.
-use mathlib.Core.Path.{_≡_}
 use Prim.Native.Nat.{ℕ, _≤_, _<_, _-_}
 use native.Mathlib.Omega.{arith}
 use borrow.Author.Count.{below-none, below-more}
-use lib.ListN.{length, getD}
-use denote.Ref.{now}
 use Rattle.sides.proofs.Lowest.{apart, lowest-at, lowest-nowhere}
 use Rattle.sides.proofs.too_frequent.Statement.{statement}
 use Rattle.sides.proofs.too_frequent.Tie as tie
 
 abbrev Inv-loop : tie.InvT-loop
-Inv-loop left right atom₀ atom = (atom ≤ 128) × ((k : ℕ) → k < atom → apart left right k ≤ 8)
+Inv-loop counts atom₀ atom = (atom ≤ 128) × ((k : ℕ) → k < atom → apart (counts .left) (counts .right) k ≤ 8)
 
 abbrev μ-loop : tie.MeasureT-loop
-μ-loop left right atom₀ atom = 128 - atom
+μ-loop counts atom₀ atom = 128 - atom
 
 loop-holds : tie.Need-loop-holds Inv-loop μ-loop
 loop-holds c = (omega arith, below-none _)
@@ -31,10 +28,10 @@ cast-t12 : tie.Need-cast-t12 Inv-loop μ-loop
 cast-t12 c = omega arith
 
 returns : tie.Need-returns Inv-loop μ-loop
-returns c L R counts-left counts-right =
+returns c M L R counted =
     let at = c .before .before .before .before .before .loop in
     let start = c .before .before .before .before .before .before in
-    lowest-at (now (start .args .left)) (now (start .args .right)) L R counts-left counts-right (at .atom) (omega arith) (at .inv .1)
+    lowest-at (start .args .t1 .left) (start .args .t1 .right) L R (counted .on-left) (counted .on-right) (at .atom) (omega arith) (at .inv .1)
 
 add-atom : tie.Need-add-atom Inv-loop μ-loop
 add-atom c = omega arith
@@ -46,10 +43,10 @@ loop-again : tie.Need-loop-again Inv-loop μ-loop
 loop-again c = (omega arith, below-more _ _ (c .before .before .before .before .before .loop .inv .1) (omega arith))
 
 returns-2 : tie.Need-returns-2 Inv-loop μ-loop
-returns-2 c L R counts-left counts-right =
+returns-2 c M L R counted =
     let at = c .before .loop in
     let start = c .before .before in
-    lowest-nowhere (now (start .args .left)) (now (start .args .right)) L R counts-left counts-right
+    lowest-nowhere (start .args .t1 .left) (start .args .t1 .right) L R (counted .on-left) (counted .on-right)
     (λ k within. at .inv .1 k (omega arith))
 
 pub too-frequent-spec : {M : Type 1} → statement M

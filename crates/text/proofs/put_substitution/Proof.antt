@@ -1,0 +1,89 @@
+-- `text::put_substitution` meets its contract: the first binding, and the others behind it. Assumes nothing.
+use Prim.Native.Nat.{_≤_, _<_, _*_, _-_}
+use native.Mathlib.Omega.{arith}
+use mathlib.Core.Path.{sym}
+use lib.ListN.{length, take, drop, length-take, length-drop}
+use lib.Seq.{length-take-le}
+use Rattle.text.specs.Text.{bound, bindingOf}
+use Rattle.buffer.proofs.Puts.{put-byte, put-as, put-length}
+use Rattle.text.proofs.Bindings.{substitution-none, substitution-first, bound-short, part-small}
+use borrow.Author.Needs.{needs}
+use Rattle.text.proofs.put_substitution.Statement.{statement}
+use Rattle.text.proofs.put_substitution.Tie as tie
+
+slice-write-out : tie.Need-slice-write-out
+slice-write-out c = search needs
+
+add-result : tie.Need-add-result
+add-result c = search needs
+
+same-length : tie.Need-same-length
+same-length c = search needs
+
+returns : tie.Need-returns
+returns c = λ bs e. put-as (substitution-none bs _ (c .if1 .taken) e) (put-byte _ _ 45)
+
+binding-end-requires : tie.Need-binding-end-requires
+binding-end-requires c κs = search needs
+
+slice-aggregate-put-bound : tie.Need-slice-aggregate-put-bound
+slice-aggregate-put-bound c =
+    let v = c .before .before .before .before .before .before .args .values .now in
+    sym (length-take-le (c .before .before .binding-end .result) v (omega (arith, c .before .before .binding-end .ensures)))
+
+put-bound-requires : tie.Need-put-bound-requires
+put-bound-requires c κs =
+    let v = c .before .before .before .before .before .before .args .values .now in
+    let end = c .before .before .binding-end in
+    let within : end .result ≤ length v = omega (arith, end .ensures) in
+    omega (arith, length-take-le (end .result) v within, end .ensures)
+
+sub-put-spaced : tie.Need-sub-put-spaced
+sub-put-spaced c = search needs
+
+part-put-spaced-start : tie.Need-part-put-spaced-start
+part-put-spaced-start c = search needs
+
+part-put-spaced-end : tie.Need-part-put-spaced-end
+part-put-spaced-end c = search needs
+
+put-spaced-requires : tie.Need-put-spaced-requires
+put-spaced-requires c κs =
+    let v = c .before .before .before .before .before .before .before .before .before .before .before .args .values .now in
+    let end = c .before .before .before .before .before .before .before .binding-end in
+    let within : end .result ≤ length v = omega (arith, end .ensures) in
+    let some : 0 < length (take (end .result) v) = omega (arith, length-take-le (end .result) v within, end .ensures) in
+    let short : length (bound (bindingOf (take (end .result) v))) ≤ 5 * length (take (end .result) v) =
+    bound-short (take (end .result) v) (part-small v 0 (end .result) (λ i. c .before .before .before .before .before .before .before .before .before .shared-slice-known .given i .fits)) some in
+    omega (
+      arith,
+      length-take-le (end .result) v within,
+      c .before .before .before .before .put-bound .ensures .place,
+      put-length (c .before .before .before .before .put-bound .ensures),
+      length-take (length v - end .result) (drop (end .result) v),
+      length-drop (end .result) v,
+    )
+
+same-length-2 : tie.Need-same-length-2
+same-length-2 c = search needs
+
+returns-2 : tie.Need-returns-2
+returns-2 c = λ bs e. substitution-first bs (omega arith) (c .before .before .before .before .before .before .before .before .before .before .binding-end .ensures) e (c .before .before .before .before .before .before .before .put-bound .ensures) (c .before .before .put-spaced .ensures)
+
+pub put-substitution-spec : {M : Type 1} → statement M
+put-substitution-spec =
+    tie.close
+    (tie.spec
+    slice-write-out
+    add-result
+    same-length
+    returns
+    binding-end-requires
+    slice-aggregate-put-bound
+    put-bound-requires
+    sub-put-spaced
+    part-put-spaced-start
+    part-put-spaced-end
+    put-spaced-requires
+    same-length-2
+    returns-2)

@@ -5,3 +5,4 @@ pub mod Counting
 pub mod Accepting
 pub mod Solving
 pub mod Putting
+pub mod Answering

@@ -190,7 +190,7 @@ fn put_group(
 // Puts the rows of all groups, the balanced ones first.
 fn put_groups(table: Table, out: &mut [u8]) -> usize
     requires { ⌜ Within table × (480 ≤ length (now out)) ⌝ }
-    ensures { λ r. ⌜ Put (now (out .entry)) 0 (bytesOf (allRows (groupsIn table))) r (now (out .exit)) ⌝ }
+    ensures { λ r. ⌜ Put (now (out .entry)) 0 (bytesOf (allRows (groupsIn table))) r (now (out .exit)) × (r ≤ 480) ⌝ }
 {
     let rows = table.rows;
     let sizes = table.sizes;
@@ -210,7 +210,11 @@ fn size_at(table: Table, place: usize) -> usize
     ensures { λ r. ⌜ r ≡ size (groupsIn table) place ⌝ }
 {
     let sizes = table.sizes;
-    if place < table.unbalanced { sizes[place + 1] } else { 0 }
+    if place < table.unbalanced {
+        sizes[place + 1]
+    } else {
+        0
+    }
 }
 
 // The question Rows on a solved pair.

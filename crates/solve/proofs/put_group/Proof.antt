@@ -75,10 +75,9 @@ loop-less c = omega arith
 loop-again : tie.Need-loop-again Inv-loop μ-loop
 loop-again c = let a = c .before .before .before .before .before .before .before .before .before .args in
     let l = c .before .before .before .before .before .before .loop in
-    let p = c .before .before .before .before .before .before .before .before .before .pre .0 in
-    (
+    let p = c .before .before .before .before .before .before .before .before .before .pre .0 in (
       omega arith,
-      put-row (a .places) (a .group) (a .rows .now) (l .i) (l .inv .1) (row-part (a .rows .now) (p .3) (p .0) (p .2) (l .i)) (c .before .before .put-bytes .ensures)
+      put-row (a .places) (a .group) (a .rows .now) (l .i) (l .inv .1) (row-part (a .rows .now) (p .3) (p .0) (p .2) (l .i)) (c .before .before .put-bytes .ensures),
     )
 
 -- src/lib.rt:167:1

@@ -43,10 +43,9 @@ put-group-requires c κs = let t = c .before .before .before .before .before .be
     let w = c .before .before .before .before .before .before .before .before .pre .0 in
     let l = c .before .before .before .before .loop in
     let size : length (t .rows) ≡ 480 = search needs in
-    let few : l .group < 5 = omega (arith, w .constants-fit) in
-    (
+    let few : l .group < 5 = omega (arith, w .constants-fit) in (
       (w .places-fit, w .sizes-fit (l .group), few, size),
-      omega (arith, group-room (t .rows) size (w .places-fit) few (getD (t .sizes) (l .group) 0) (w .sizes-fit (l .group)), l .inv .1, put-length (l .inv .2), c .before .before .before .before .before .before .before .before .pre .1)
+      omega (arith, group-room (t .rows) size (w .places-fit) few (getD (t .sizes) (l .group) 0) (w .sizes-fit (l .group)), l .inv .1, put-length (l .inv .2), c .before .before .before .before .before .before .before .before .pre .1),
     )
 
 -- src/lib.rt:202:9
@@ -63,8 +62,7 @@ loop-again c = let t = c .before .before .before .before .before .before .before
     let w = c .before .before .before .before .before .before .before .before .before .before .before .pre .0 in
     let l = c .before .before .before .before .before .before .before .loop in
     let size : length (t .rows) ≡ 480 = search needs in
-    let few : l .group < 5 = omega (arith, w .constants-fit) in
-    (
+    let few : l .group < 5 = omega (arith, w .constants-fit) in (
       omega arith,
       omega (
         arith,
@@ -73,7 +71,7 @@ loop-again c = let t = c .before .before .before .before .before .before .before
         group-room (t .rows) size (w .places-fit) few (getD (t .sizes) (l .group) 0) (w .sizes-fit (l .group)),
         l .inv .1,
       ),
-      put-group t (l .group) (l .inv .2) (c .before .before .put-group .ensures)
+      put-group t (l .group) (l .inv .2) (c .before .before .put-group .ensures),
     )
 
 -- src/lib.rt:191:1
@@ -83,8 +81,10 @@ same-length c = put-length (c .before .before .loop .inv .2)
 -- src/lib.rt:191:1
 returns : tie.Need-returns Inv-loop μ-loop
 returns c = let t = c .before .before .before .before .before .before .args .table in
-    let same : c .before .before .loop .group ≡ t .unbalanced + 1 = omega arith in
-    put-as (ap bytesOf (ap (rowsBefore t) same ∙ sym (all-rows (c .before .before .before .before .before .before .pre .0) (search needs)))) (c .before .before .loop .inv .2)
+    let same : c .before .before .loop .group ≡ t .unbalanced + 1 = omega arith in (
+      put-as (ap bytesOf (ap (rowsBefore t) same ∙ sym (all-rows (c .before .before .before .before .before .before .pre .0) (search needs)))) (c .before .before .loop .inv .2),
+      omega (arith, c .before .before .before .before .before .before .pre .0 .constants-fit, c .before .before .loop .inv .1),
+    )
 
 pub put-groups-spec : {M : Type 1} → statement M
 put-groups-spec =

@@ -8,6 +8,7 @@ use libc::STDOUT_FILENO;
 use numbers::Refusal;
 use printing::put;
 use question::Question;
+use solve::RowsAnswer;
 use solver::Begin;
 use solver::PageAnswer;
 use solver::PageRequest;
@@ -52,11 +53,23 @@ fn answer_next(asked: Question, answers: &mut [u8], at: usize) -> usize
     let mut second = lent(0);
     let first_length = least(asked.first_length, 4096);
     let second_length = least(asked.second_length, 4096);
-    answer_bytes(asked, &mut first[..first_length], &mut second[..second_length], answers, at)
+    answer_bytes(
+        asked,
+        &mut first[..first_length],
+        &mut second[..second_length],
+        answers,
+        at,
+    )
 }
 
 // The bytes of the question come one after the other.
-fn answer_bytes(asked: Question, first: &mut [u8], second: &mut [u8], answers: &mut [u8], at: usize) -> usize
+fn answer_bytes(
+    asked: Question,
+    first: &mut [u8],
+    second: &mut [u8],
+    answers: &mut [u8],
+    at: usize,
+) -> usize
     ensures { λ r. ⌜ r ≤ length (now (answers .exit)) ⌝ }
 {
     io::read_full(STDIN_FILENO, first);
@@ -111,10 +124,24 @@ fn answer_read(asked: Question, block: &[u8], answers: &mut [u8], at: usize) -> 
     let left_room = least(asked.first_room, 4096);
     let right_room = least(asked.second_room, 4096);
     let number = (asked.number % 65536) as u16;
-    ask_read(number, block, &mut left[..left_room], &mut right[..right_room], answers, at)
+    ask_read(
+        number,
+        block,
+        &mut left[..left_room],
+        &mut right[..right_room],
+        answers,
+        at,
+    )
 }
 
-fn ask_read(number: u16, block: &[u8], left: &mut [u8], right: &mut [u8], answers: &mut [u8], at: usize) -> usize
+fn ask_read(
+    number: u16,
+    block: &[u8],
+    left: &mut [u8],
+    right: &mut [u8],
+    answers: &mut [u8],
+    at: usize,
+) -> usize
     ensures { λ r. ⌜ r ≤ length (now (answers .exit)) ⌝ }
 {
     let read = block::read(block, number, left, right);
@@ -125,6 +152,43 @@ fn ask_read(number: u16, block: &[u8], left: &mut [u8], right: &mut [u8], answer
     let next = put_returned(answers, at, returned);
     let end = put(answers, next, left);
     put(answers, end, right)
+}
+
+fn answer_rows(asked: Question, left: &[u8], right: &[u8], answers: &mut [u8], at: usize) -> usize
+    ensures { λ r. ⌜ r ≤ length (now (answers .exit)) ⌝ }
+{
+    let mut out = lent(asked.fill);
+    let room = least(asked.first_room, 4096);
+    ask_rows(left, right, &mut out[..room], answers, at)
+}
+
+fn ask_rows(left: &[u8], right: &[u8], out: &mut [u8], answers: &mut [u8], at: usize) -> usize
+    ensures { λ r. ⌜ r ≤ length (now (answers .exit)) ⌝ }
+{
+    let rows = solve::rows(left, right, out);
+    let returned = match rows {
+        RowsAnswer::Groups {
+            balanced,
+            constants,
+            first,
+            second,
+            third,
+            fourth,
+        } => Returned {
+            number: 0,
+            values: [
+                small(balanced),
+                small(constants),
+                small(first),
+                small(second),
+                small(third),
+                small(fourth),
+            ],
+        },
+        RowsAnswer::Refused(refusal) => refused(refusal),
+    };
+    let next = put_returned(answers, at, returned);
+    put(answers, next, out)
 }
 
 fn answer_page(asked: Question, left: &[u8], right: &[u8], answers: &mut [u8], at: usize) -> usize
@@ -140,10 +204,21 @@ fn answer_page(asked: Question, left: &[u8], right: &[u8], answers: &mut [u8], a
 }
 
 fn begin_of(after: bool, key: u32) -> Begin {
-    if after { Begin::After(key) } else { Begin::Start }
+    if after {
+        Begin::After(key)
+    } else {
+        Begin::Start
+    }
 }
 
-fn ask_page(left: &[u8], right: &[u8], request: PageRequest, keys: &mut [u32], answers: &mut [u8], at: usize) -> usize
+fn ask_page(
+    left: &[u8],
+    right: &[u8],
+    request: PageRequest,
+    keys: &mut [u32],
+    answers: &mut [u8],
+    at: usize,
+) -> usize
     ensures { λ r. ⌜ r ≤ length (now (answers .exit)) ⌝ }
 {
     let page = solver::page(left, right, request, keys);
@@ -163,7 +238,14 @@ fn answer_values(asked: Question, left: &[u8], right: &[u8], answers: &mut [u8],
     ask_values(left, right, asked.number, &mut out[..room], answers, at)
 }
 
-fn ask_values(left: &[u8], right: &[u8], key: u32, out: &mut [u8], answers: &mut [u8], at: usize) -> usize
+fn ask_values(
+    left: &[u8],
+    right: &[u8],
+    key: u32,
+    out: &mut [u8],
+    answers: &mut [u8],
+    at: usize,
+) -> usize
     ensures { λ r. ⌜ r ≤ length (now (answers .exit)) ⌝ }
 {
     let values = solver::values(left, right, key, out);
@@ -239,10 +321,4 @@ fn flushed(answers: &[u8], used: usize) -> usize {
 fn write_out(answers: &[u8], used: usize) {
     let end = least(used, answers.len());
     io::write_all(STDOUT_FILENO, &answers[..end]);
-}
-
-fn answer_rows(asked: Question, left: &[u8], right: &[u8], answers: &mut [u8], at: usize) -> usize
-    ensures { λ r. ⌜ r ≤ length (now (answers .exit)) ⌝ }
-{
-    put(answers, at, b"")
 }

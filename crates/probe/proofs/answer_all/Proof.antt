@@ -6,13 +6,6 @@ use borrow.Author.Needs.{needs}
 use lib.ListN.{length}
 use Rattle.probe.proofs.answer_all.Statement.{statement}
 use Rattle.probe.proofs.answer_all.Tie as tie
-use Rattle.probe.proofs.answer_all.Reads as reads
-use Rattle.probe.proofs.answer_all.Lts as lts
-use Rattle.io.proofs.read_full.Reads as read-full-reads
-use Rattle.probe.proofs.answer_next.Reads as answer-next-reads
-use Rattle.probe.proofs.flushed.Reads as flushed-reads
-use Rattle.probe.proofs.question.of.Reads as of-reads
-use Rattle.probe.proofs.write_out.Reads as write-out-reads
 
 abbrev Inv-loop : tie.InvT-loop
 Inv-loop answers₀ used₀ counter₀ answers used counter = (counter ≤ 1000000000000) × (length answers ≡ length answers₀)
@@ -20,51 +13,39 @@ Inv-loop answers₀ used₀ counter₀ answers used counter = (counter ≤ 10000
 abbrev μ-loop : tie.MeasureT-loop
 μ-loop answers₀ used₀ counter₀ answers used counter = 1000000000000 - counter
 
--- src/main.rt:36:5
 loop-holds : tie.Need-loop-holds Inv-loop μ-loop
 loop-holds c = (omega arith, refl)
 
--- src/main.rt:38:40
 slice-aggregate-read-full : tie.Need-slice-aggregate-read-full Inv-loop μ-loop
 slice-aggregate-read-full c = search needs
 
--- src/main.rt:38:12
 read-full-requires : tie.Need-read-full-requires Inv-loop μ-loop
 read-full-requires c κs = search needs
 
--- src/main.rt:41:31
 of-requires : tie.Need-of-requires Inv-loop μ-loop
 of-requires c κs = search needs
 
--- src/main.rt:41:13
 answer-next-requires : tie.Need-answer-next-requires Inv-loop μ-loop
 answer-next-requires c κs = search needs
 
--- src/main.rt:42:9
 flushed-requires : tie.Need-flushed-requires Inv-loop μ-loop
 flushed-requires c κs = search needs
 
--- src/main.rt:36:9
 add-counter : tie.Need-add-counter Inv-loop μ-loop
 add-counter c = omega arith
 
--- src/main.rt:36:5
 loop-less : tie.Need-loop-less Inv-loop μ-loop
 loop-less c = omega arith
 
--- src/main.rt:36:5
 loop-again : tie.Need-loop-again Inv-loop μ-loop
 loop-again c = (omega arith, c .before .before .before .before .answer-next .kept .1 .0 ∙ c .before .before .before .before .before .before .before .before .before .before .before .before .loop .inv .1)
 
--- src/main.rt:44:5
 write-out-requires : tie.Need-write-out-requires Inv-loop μ-loop
 write-out-requires c κs = search needs
 
--- src/main.rt:34:1
 same-length : tie.Need-same-length Inv-loop μ-loop
 same-length c = c .before .before .before .loop .inv .1
 
--- src/main.rt:34:1
 returns : tie.Need-returns Inv-loop μ-loop
 returns c = search needs
 

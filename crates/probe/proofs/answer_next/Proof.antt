@@ -4,53 +4,37 @@ use lib.ListN.{length-take}
 use borrow.Author.Needs.{needs}
 use Rattle.probe.proofs.answer_next.Statement.{statement}
 use Rattle.probe.proofs.answer_next.Tie as tie
-use Rattle.probe.proofs.answer_next.Reads as reads
-use Rattle.probe.proofs.answer_next.Lts as lts
-use Rattle.probe.proofs.answer_bytes.Reads as answer-bytes-reads
-use Rattle.probe.proofs.least.Reads as least-reads
-use Rattle.probe.proofs.lent.Reads as lent-reads
 
--- src/main.rt:51:21
 lent-requires : tie.Need-lent-requires
 lent-requires c κs = search needs
 
--- src/main.rt:52:22
 lent-requires-2 : tie.Need-lent-requires-2
 lent-requires-2 c κs = search needs
 
--- src/main.rt:53:9
 least-requires : tie.Need-least-requires
 least-requires c κs = search needs
 
--- src/main.rt:54:9
 least-requires-2 : tie.Need-least-requires-2
 least-requires-2 c κs = search needs
 
--- src/main.rt:55:25
 array-borrow-prefix-first : tie.Need-array-borrow-prefix-first
 array-borrow-prefix-first c = search needs
 
--- src/main.rt:55:25
 slice-aggregate-answer-bytes : tie.Need-slice-aggregate-answer-bytes
 slice-aggregate-answer-bytes c = simp length-take (omega arith)
 
--- src/main.rt:55:53
 array-borrow-prefix-second : tie.Need-array-borrow-prefix-second
 array-borrow-prefix-second c = search needs
 
--- src/main.rt:55:53
 slice-aggregate-answer-bytes-2 : tie.Need-slice-aggregate-answer-bytes-2
 slice-aggregate-answer-bytes-2 c = simp length-take (omega arith)
 
--- src/main.rt:55:5
 answer-bytes-requires : tie.Need-answer-bytes-requires
 answer-bytes-requires c κs = search needs
 
--- src/main.rt:48:1
 same-length : tie.Need-same-length
 same-length c = search needs
 
--- src/main.rt:48:1
 returns : tie.Need-returns
 returns c = search needs
 

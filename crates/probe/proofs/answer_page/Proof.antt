@@ -4,42 +4,28 @@ use lib.ListN.{length-take}
 use borrow.Author.Needs.{needs}
 use Rattle.probe.proofs.answer_page.Statement.{statement}
 use Rattle.probe.proofs.answer_page.Tie as tie
-use Rattle.probe.proofs.answer_page.Reads as reads
-use Rattle.probe.proofs.answer_page.Lts as lts
-use Rattle.probe.proofs.ask_page.Reads as ask-page-reads
-use Rattle.probe.proofs.begin_of.Reads as begin-of-reads
-use Rattle.probe.proofs.least.Reads as least-reads
-use Rattle.probe.proofs.lent_numbers.Reads as lent-numbers-reads
 
--- src/main.rt:133:20
 lent-numbers-requires : tie.Need-lent-numbers-requires
 lent-numbers-requires c κs = search needs
 
--- src/main.rt:134:9
 least-requires : tie.Need-least-requires
 least-requires c κs = search needs
 
--- src/main.rt:136:16
 begin-of-requires : tie.Need-begin-of-requires
 begin-of-requires c κs = search needs
 
--- src/main.rt:139:36
 array-borrow-prefix-keys : tie.Need-array-borrow-prefix-keys
 array-borrow-prefix-keys c = search needs
 
--- src/main.rt:139:36
 slice-aggregate-ask-page : tie.Need-slice-aggregate-ask-page
 slice-aggregate-ask-page c = simp length-take (omega arith)
 
--- src/main.rt:139:5
 ask-page-requires : tie.Need-ask-page-requires
 ask-page-requires c κs = search needs
 
--- src/main.rt:130:1
 same-length : tie.Need-same-length
 same-length c = search needs
 
--- src/main.rt:130:1
 returns : tie.Need-returns
 returns c = search needs
 

@@ -4,37 +4,25 @@ use lib.ListN.{length-take}
 use borrow.Author.Needs.{needs}
 use Rattle.probe.proofs.answer_values.Statement.{statement}
 use Rattle.probe.proofs.answer_values.Tie as tie
-use Rattle.probe.proofs.answer_values.Reads as reads
-use Rattle.probe.proofs.answer_values.Lts as lts
-use Rattle.probe.proofs.ask_values.Reads as ask-values-reads
-use Rattle.probe.proofs.least.Reads as least-reads
-use Rattle.probe.proofs.lent.Reads as lent-reads
 
--- src/main.rt:161:19
 lent-requires : tie.Need-lent-requires
 lent-requires c κs = search needs
 
--- src/main.rt:162:9
 least-requires : tie.Need-least-requires
 least-requires c κs = search needs
 
--- src/main.rt:163:43
 array-borrow-prefix-out : tie.Need-array-borrow-prefix-out
 array-borrow-prefix-out c = search needs
 
--- src/main.rt:163:43
 slice-aggregate-ask-values : tie.Need-slice-aggregate-ask-values
 slice-aggregate-ask-values c = simp length-take (omega arith)
 
--- src/main.rt:163:5
 ask-values-requires : tie.Need-ask-values-requires
 ask-values-requires c κs = search needs
 
--- src/main.rt:158:1
 same-length : tie.Need-same-length
 same-length c = search needs
 
--- src/main.rt:158:1
 returns : tie.Need-returns
 returns c = search needs
 

@@ -6,10 +6,6 @@ use borrow.Author.Needs.{needs}
 use lib.ListN.{length}
 use Rattle.probe.proofs.put_keys.Statement.{statement}
 use Rattle.probe.proofs.put_keys.Tie as tie
-use Rattle.probe.proofs.put_keys.Reads as reads
-use Rattle.probe.proofs.put_keys.Lts as lts
-use Rattle.printing.proofs.put.Reads as put-reads
-use Rattle.probe.proofs.put_key.Reads as put-key-reads
 
 abbrev Inv-loop : tie.InvT-loop
 Inv-loop answers₀ at keys end₀ i₀ i-end answers end i = (i ≤ length keys) × (end ≤ length answers) × (length answers ≡ length answers₀)
@@ -17,47 +13,36 @@ Inv-loop answers₀ at keys end₀ i₀ i-end answers end i = (i ≤ length keys
 abbrev μ-loop : tie.MeasureT-loop
 μ-loop answers₀ at keys end₀ i₀ i-end answers end i = length keys - i
 
--- src/main.rt:166:36
 slice-aggregate-put : tie.Need-slice-aggregate-put Inv-loop μ-loop
 slice-aggregate-put c = search needs
 
--- src/main.rt:166:9
 put-requires : tie.Need-put-requires Inv-loop μ-loop
 put-requires c κs = search needs
 
--- src/main.rt:167:5
 loop-holds : tie.Need-loop-holds Inv-loop μ-loop
 loop-holds c = (omega arith, omega (arith, c .before .before .put .ensures), refl)
 
--- src/main.rt:168:37
 mul-put-key : tie.Need-mul-put-key Inv-loop μ-loop
 mul-put-key c = omega (arith, c .before .before .before .before .before .before .before .before .before .before .good .1 .1 .0 .1)
 
--- src/main.rt:168:37
 shared-slice-read-put-key : tie.Need-shared-slice-read-put-key Inv-loop μ-loop
 shared-slice-read-put-key c = omega arith
 
--- src/main.rt:168:9
 put-key-requires : tie.Need-put-key-requires Inv-loop μ-loop
 put-key-requires c κs = search needs
 
--- src/main.rt:167:9
 add-i : tie.Need-add-i Inv-loop μ-loop
 add-i c = omega arith
 
--- src/main.rt:167:5
 loop-less : tie.Need-loop-less Inv-loop μ-loop
 loop-less c = omega arith
 
--- src/main.rt:167:5
 loop-again : tie.Need-loop-again Inv-loop μ-loop
 loop-again c = (omega arith, omega (arith, c .before .before .put-key .ensures), c .before .before .put-key .kept .0 ∙ c .before .before .before .before .before .before .loop .inv .2)
 
--- src/main.rt:163:1
 same-length : tie.Need-same-length Inv-loop μ-loop
 same-length c = c .before .loop .inv .2 ∙ c .before .before .before .before .put .kept .0
 
--- src/main.rt:163:1
 returns : tie.Need-returns Inv-loop μ-loop
 returns c = omega arith
 

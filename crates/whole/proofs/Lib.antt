@@ -1,0 +1,4 @@
+pub mod ReadBack
+pub mod Named
+pub mod Answered
+pub mod Whole

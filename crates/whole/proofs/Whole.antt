@@ -1,0 +1,25 @@
+-- The theorem `whole`. For all sides, whatever lists of bytes they are: let pages be asked for one after the other from the start until no more
+-- follow, each after the last key of the one before, with any counts and any lent buffers; and let Values be asked for each key on them, with any
+-- lent buffer, and answer. Whoever meets the promises of Page and Values has then written the pair's unifiers: the replacements read back from the
+-- bytes each unify, every unifier comes from one of them, none comes from another, and none stands twice.
+-- Only promises and bytes are spoken of, and no code. The words of the statement stand in specs/Whole.antt.
+use Prim.Native.Nat.{ℕ}
+use mathlib.Core.Path.{_≡_, refl}
+use mathlib.Core.Logic.{_↔_}
+use mathlib.Core.List.{List, [], _∷_}
+use Rattle.ac.specs.Pair.{unifying}
+use Rattle.ac.specs.Keys.{Begin, start}
+use Rattle.ac.specs.Pages.{together}
+use Rattle.numbers.specs.First.{NoneOf}
+use Rattle.numbers.proofs.Carried.{first-past}
+use Rattle.solver.specs.Given.{PageGiven}
+use Rattle.solver.specs.Page.{PageOutcome, refused, PagePromise, is-refused, is-page}
+use Rattle.solver.specs.Existence.{NoneUnifies}
+use Rattle.solver.specs.Pages.{PagesAsked}
+use Rattle.solver.proofs.Existence.{page-existence}
+use Rattle.whole.specs.Whole.{ValuesAsked, WholeSet}
+use Rattle.whole.proofs.Answered.{whole-set}
+
+pub whole : {L R : List ℕ} {pages answers : List (List ℕ)} → PagesAsked unifying L R start pages → ValuesAsked unifying L R (together pages) answers
+    → WholeSet unifying L R answers
+whole asked answered = whole-set asked answered

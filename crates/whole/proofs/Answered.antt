@@ -81,7 +81,7 @@ module _ {M : Mode} {L R : List ℕ} {pages answers : List (List ℕ)} (asked : 
       → ComesFrom M (layout .new) L R (readBack (getD answers i [])) (readBack (getD answers j [])) → i ≡ j
   none-from-another i j h h′ comes =
       let same = keys-independent (groups-exist M L R) (asked-within refl asked) (listed i h) (listed j h′)
-          (comes-alike M (layout .new) L R (named i h) (named j h′) comes) in
+      (comes-alike M (layout .new) L R (named i h) (named j h′) comes) in
       sym (placeOf-getD (list .none-twice) i (at-key i h)) ∙ ap (λ key. placeOf key (together pages)) same ∙ placeOf-getD (list .none-twice) j (at-key j h′)
 
   pub whole-set : WholeSet M L R answers

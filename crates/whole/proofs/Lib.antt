@@ -2,3 +2,4 @@ pub mod ReadBack
 pub mod Named
 pub mod Answered
 pub mod Whole
+pub mod Only

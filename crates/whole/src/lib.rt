@@ -1,1 +1,1 @@
-// What the questions Page and Values promise together, with no code: the statement in specs/, the theorem in proofs/Whole.antt.
+// What the questions promise together, with no code: proofs/Whole.antt is the file to read first.

@@ -3,3 +3,4 @@ pub mod Named
 pub mod Answered
 pub mod Whole
 pub mod Only
+pub mod Short

@@ -6,7 +6,6 @@ use mathlib.Core.Bool.{Bool, true, false, cond}
 use mathlib.Core.List.{List, [], _∷_, _++_, List·Memᴰ}
 use lib.ListN.{length, getD}
 use Rattle.ac.specs.Pair.{Mode, count, variables}
-use Rattle.ac.specs.Rows.{Groups, GroupsOf}
 use Rattle.ac.specs.Search.{groups}
 use Rattle.ac.specs.Selection.{placeOf}
 use Rattle.ac.specs.Keys.{layout, keys, start}
@@ -18,10 +17,9 @@ use Rattle.ac.proofs.Fages.{Agree, unifies-alike, comes-alike}
 use Rattle.sides.proofs.Lists.{member-at}
 use Rattle.solver.specs.Existence.{replacementOf}
 use Rattle.solver.specs.Pages.{PagesAsked}
-use Rattle.solver.proofs.Limits.{WithinLimits}
 use Rattle.solver.proofs.Existence.{key-unifies, unifier-listed}
 use Rattle.solver.proofs.Pages.{asked-within, pages-hold-the-list}
-use Rattle.whole.specs.Whole.{readBack, ValuesAsked, WholeSet}
+use Rattle.whole.specs.Whole.{replacementAt, ValuesAsked, WholeSet}
 use Rattle.whole.proofs.Named.{keys-independent, as-many-answers, answers-name}
 
 -- each new variable filled with itself changes nothing
@@ -51,26 +49,26 @@ module _ {M : Mode} {L R : List ℕ} {pages answers : List (List ℕ)} (asked : 
 
   -- an answer's key, by its place, is on the list, and the answer is read back as what the key names
   at-key : (i : ℕ) → i < length answers → i < length (together pages)
-  at-key i h = omega (arith, as-many-answers (groups-exist M L R) answered)
+  at-key i h = omega (arith, as-many-answers answered)
 
   listed : (i : ℕ) → i < length answers → List·Memᴰ (getD (together pages) i 0) (keys M layout L R (groups M L R))
   listed i h = subst (List·Memᴰ (getD (together pages) i 0)) (list .whole) (getD-member (together pages) i 0 (at-key i h))
 
   named : (i : ℕ) → i < length answers
-      → Agree (variables M L R) (readBack (getD answers i [])) (replacementOf M L R (groups M L R) (getD (together pages) i 0))
+      → Agree (variables M L R) (replacementAt answers i) (replacementOf M L R (groups M L R) (getD (together pages) i 0))
   named = answers-name (groups-exist M L R) answered
 
-  each-unifies : (i : ℕ) → i < length answers → Unifies M L R (readBack (getD answers i []))
+  each-unifies : (i : ℕ) → i < length answers → Unifies M L R (replacementAt answers i)
   each-unifies i h =
       let fine = asked-within refl asked in
       unifies-alike M L R (fine .left-side) (fine .right-side) (λ x m. sym (named i h x m)) (key-unifies fine (groups-exist M L R) (listed i h))
 
   every-comes-from-one : (θ : Replacement) → Unifies M L R θ
-      → (i : ℕ) × (i < length answers) × ComesFrom M (layout .new) L R (readBack (getD answers i [])) θ
+      → (i : ℕ) × (i < length answers) × ComesFrom M (layout .new) L R (replacementAt answers i) θ
   every-comes-from-one θ unifies =
       let found = unifier-listed (asked-within refl asked) (groups-exist M L R) unifies in
       let place = member-at (subst (List·Memᴰ (found .0)) (sym (list .whole)) (found .1)) in
-      let within : place .0 < length answers = omega (arith, place .1, as-many-answers (groups-exist M L R) answered) in (
+      let within : place .0 < length answers = omega (arith, place .1, as-many-answers answered) in (
         place .0,
         within,
         comes-alike M (layout .new) L R
@@ -78,7 +76,7 @@ module _ {M : Mode} {L R : List ℕ} {pages answers : List (List ℕ)} (asked : 
       )
 
   none-from-another : (i j : ℕ) → i < length answers → j < length answers
-      → ComesFrom M (layout .new) L R (readBack (getD answers i [])) (readBack (getD answers j [])) → i ≡ j
+      → ComesFrom M (layout .new) L R (replacementAt answers i) (replacementAt answers j) → i ≡ j
   none-from-another i j h h′ comes =
       let same = keys-independent (groups-exist M L R) (asked-within refl asked) (listed i h) (listed j h′)
       (comes-alike M (layout .new) L R (named i h) (named j h′) comes) in

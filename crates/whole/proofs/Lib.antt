@@ -4,3 +4,4 @@ pub mod Answered
 pub mod Whole
 pub mod Only
 pub mod Short
+pub mod Exist

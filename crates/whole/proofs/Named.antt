@@ -1,8 +1,8 @@
 -- The replacements that keys name: no listed key's comes from another's, and Values writes a key's replacement.
 use Prim.Native.Nat.{ℕ, zero, suc, _<_}
 use native.Mathlib.Omega.{arith}
-use mathlib.Core.Path.{_≡_, refl, ap, sym, subst, _∙_}
-use mathlib.Core.List.{List, [], _∷_, List·Memᴰ}
+use mathlib.Core.Path.{_≡_, refl, ap, sym, _∙_}
+use mathlib.Core.List.{List, [], List·Memᴰ}
 use lib.Dec.{lit≤}
 use lib.ListN.{length, getD, take, drop}
 use lib.Seq.{take-append-seam}
@@ -18,8 +18,13 @@ use Rattle.ac.proofs.Fages.{Agree}
 use Rattle.solver.specs.Existence.{replacementOf}
 use Rattle.solver.proofs.Limits.{WithinLimits}
 use Rattle.values.specs.Values.{ValuesPromise, is-written, written, valuesOf}
-use Rattle.whole.specs.Whole.{readBack, ValuesAsked, no-more, one-more}
+use Rattle.whole.specs.Whole.{readBack, replacementAt, ValuesAsked, no-more, one-more}
 use Rattle.whole.proofs.ReadBack.{readBack-laidOut}
+
+-- there is an answer for each key
+pub as-many-answers : {M : Mode} {L R asked : List ℕ} {answers : List (List ℕ)} → ValuesAsked M L R asked answers → length answers ≡ length asked
+as-many-answers no-more = refl
+as-many-answers (one-more promise rest) = ap suc (as-many-answers rest)
 
 module _ {M : Mode} {L R : List ℕ} {G : Groups} (of : GroupsOf M L R G) where
   -- of two keys of the list neither names a replacement that comes from the other's
@@ -42,14 +47,9 @@ module _ {M : Mode} {L R : List ℕ} {G : Groups} (of : GroupsOf M L R G) where
       ∙ readBack-laidOut (replacementOf M L R H key) m
       ∙ ap (λ K. replacementOf M L R K key x) (groups-unique M L R others of)
 
-  -- there is an answer for each key,
-  pub as-many-answers : {asked : List ℕ} {answers : List (List ℕ)} → ValuesAsked M L R asked answers → length answers ≡ length asked
-  as-many-answers no-more = refl
-  as-many-answers (one-more promise rest) = ap suc (as-many-answers rest)
-
-  -- and the one at a place is read back as what the key at that place names
+  -- the answer at a place is read back as what the key at that place names
   pub answers-name : {asked : List ℕ} {answers : List (List ℕ)} → ValuesAsked M L R asked answers → (i : ℕ) → i < length answers
-      → Agree (variables M L R) (readBack (getD answers i [])) (replacementOf M L R G (getD asked i 0))
+      → Agree (variables M L R) (replacementAt answers i) (replacementOf M L R G (getD asked i 0))
   answers-name no-more i h = absurd (omega arith)
   answers-name (one-more promise rest) zero h = values-name promise
   answers-name (one-more promise rest) (suc i) h = answers-name rest i (omega arith)

@@ -4,12 +4,9 @@ use mathlib.Core.List.{List, [], _∷_, List·Memᴰ}
 use Rattle.ac.specs.Pair.{Mode}
 use Rattle.ac.specs.Keys.{Begin}
 use Rattle.numbers.proofs.Laws.{first-member}
-use Rattle.block.specs.Read.{ReadPromise}
-use Rattle.block.specs.Read.{refused as refusedRead, is-refused as is-refused-read}
-use Rattle.solver.specs.Page.{PagePromise}
-use Rattle.solver.specs.Page.{refused as refusedPage, is-refused as is-refused-page}
-use Rattle.values.specs.Values.{ValuesPromise}
-use Rattle.values.specs.Values.{refused as refusedValues, is-refused as is-refused-values}
+use Rattle.block.specs.Read.{ReadPromise, refused as refusedRead, is-refused as is-refused-read}
+use Rattle.solver.specs.Page.{PagePromise, refused as refusedPage, is-refused as is-refused-page}
+use Rattle.values.specs.Values.{ValuesPromise, refused as refusedValues, is-refused as is-refused-values}
 
 -- Read gives 1 to 6 and 16.
 pub read-gives : {block : List ℕ} {number n : ℕ} {left right left′ right′ : List ℕ} → ReadPromise block number left right (refusedRead n) left′ right′

@@ -37,3 +37,10 @@ valueIn-bindings θ {xs = y ∷ ys} {x} (List·Memᴰ·tail m) = go (eqb x y) re
 -- What is read back gives each variable the value that was laid out with it.
 pub readBack-laidOut : (θ : Replacement) {xs : List ℕ} {x : ℕ} → List·Memᴰ x xs → readBack (laidOut (bindings θ xs)) x ≡ θ x
 readBack-laidOut θ {xs} {x} m = ap (λ bs. valueIn bs x) (takenApart-laidOut (bindings θ xs)) ∙ valueIn-bindings θ m
+
+-- Pair 1 of document 01, v0=c0+n0 v1=n0, from its seven bytes.
+abbrev pair-1 : List ℕ
+pair-1 = 0 ∷ 2 ∷ 64 ∷ 192 ∷ 1 ∷ 1 ∷ 192 ∷ []
+
+pair-1-read-back : (readBack pair-1 0 ≡ 64 ∷ 192 ∷ []) × (readBack pair-1 1 ≡ 192 ∷ [])
+pair-1-read-back = (refl, refl)

@@ -1,22 +1,21 @@
 -- No value of a pair within the limits has more than 160 atoms: an entry of a row is at most 8, and at most 4 + 16 rows are taken.
-use Prim.Native.Nat.{ℕ, zero, suc, _+_, _*_, _≤_, _<_}
+use Prim.Native.Nat.{ℕ, zero, suc, _+_, _*_, _≤_}
 use native.Mathlib.Omega.{arith}
 use mathlib.Core.Path.{_≡_, refl}
 use mathlib.Core.Bool.{Bool, true, false}
 use mathlib.Core.List.{List, [], _∷_, _++_, map, List·Memᴰ, List·Memᴰ·head, List·Memᴰ·tail}
-use lib.Dec.{lit≤}
-use lib.ListN.{length, getD, replicate, length-append, length-replicate}
+use lib.ListN.{length, getD, length-append, length-replicate}
 use Rattle.ac.specs.Pair.{Mode, count, variables}
 use Rattle.ac.specs.Rows.{Group, Groups, GroupsOf}
 use Rattle.ac.specs.Equation.{balancedEquation, equationOf}
-use Rattle.ac.specs.Selection.{Selection, SelectionOf, Within, none, index, Taken, takenRows, takenBalanced, taken, valueAt, placeOf, value}
-use Rattle.ac.specs.Keys.{layout, keys, Fits}
+use Rattle.ac.specs.Selection.{Selection, SelectionOf, Within, none, index, Taken, takenRows, takenBalanced, valueAt, placeOf, value}
+use Rattle.ac.specs.Keys.{layout, keys}
 use Rattle.ac.proofs.Bound.{huet-bound}
 use Rattle.ac.proofs.Bridge.{balanced-row-is-minimal, row-of-constant-is-minimal}
 use Rattle.ac.proofs.Keys.{candidate-selection}
 use Rattle.ac.proofs.Listed.{listed-candidates}
 use Rattle.ac.proofs.Places.{getD-member}
-use Rattle.numbers.specs.First.{NoneOf, end, also}
+use Rattle.numbers.specs.First.{NoneOf}
 use Rattle.numbers.proofs.Carried.{none-front}
 use Rattle.sides.specs.Limits.{limits}
 use Rattle.sides.specs.Given.{PairGiven}

@@ -1,8 +1,10 @@
--- The theorem `whole`. For all sides, whatever lists of bytes they are: let pages be asked for one after the other from the start until no more
--- follow, each after the last key of the one before, with any counts and any lent buffers; and let Values be asked for each key on them, with any
--- lent buffer, and answer. Whoever meets the promises of Page and Values has then written the pair's unifiers: the replacements read back from the
--- bytes each unify, every unifier comes from one of them, none comes from another, and none stands twice.
--- Only promises and bytes are spoken of, and no code. The words of the statement stand in specs/Whole.antt.
+-- What Page and Values give together (document 01, "What every promise has to say", demand 3). This is the file to read first; the words of the
+-- statement stand in specs/Whole.antt. It speaks of promises and bytes alone, not of code.
+--
+-- For all sides, whatever lists of bytes they are: let pages be asked for one after the other from the start until no more follow, each after the
+-- last key of the one before, with any counts and any lent buffers; and let Values be asked for each key on them, with any lent buffer, and answer.
+-- If all of these meet the promises, the replacements read back from the bytes each unify, every unifier comes from one of them, none comes from
+-- another, and none stands twice. That there are such pages and answers wherever there is a unifier is `pages-and-answers` of Exist.antt.
 use Prim.Native.Nat.{ℕ}
 use native.Mathlib.Omega.{arith}
 use mathlib.Core.Path.{_≡_, refl, subst}

@@ -34,16 +34,20 @@ pub data ValuesAsked (M : Mode) (L R : List ℕ) : List ℕ → List (List ℕ) 
   one-more : {key n : ℕ} {out out′ : List ℕ} {keys : List ℕ} {answers : List (List ℕ)} → ValuesPromise M L R key out (written n) out′
       → ValuesAsked M L R keys answers → ValuesAsked M L R (key ∷ keys) (take n out′ ∷ answers)
 
--- The replacements read back from the answers, by their places, are the pair's unifiers.
+-- the replacement read back from the answer at a place
+abbrev pub replacementAt : List (List ℕ) → ℕ → Replacement
+replacementAt answers i = readBack (getD answers i [])
+
+-- What is demanded of the replacements that are read back from the answers.
 pub record WholeSet (M : Mode) (L R : List ℕ) (answers : List (List ℕ)) : Type 0 where
   -- each of them unifies
-  pub each-unifies : (i : ℕ) → i < length answers → Unifies M L R (readBack (getD answers i []))
+  pub each-unifies : (i : ℕ) → i < length answers → Unifies M L R (replacementAt answers i)
   -- every unifier comes from one of them
   pub every-comes-from-one : (θ : Replacement) → Unifies M L R θ
-      → (i : ℕ) × (i < length answers) × ComesFrom M (layout .new) L R (readBack (getD answers i [])) θ
+      → (i : ℕ) × (i < length answers) × ComesFrom M (layout .new) L R (replacementAt answers i) θ
   -- none comes from another
   pub none-from-another : (i j : ℕ) → i < length answers → j < length answers
-      → ComesFrom M (layout .new) L R (readBack (getD answers i [])) (readBack (getD answers j [])) → i ≡ j
+      → ComesFrom M (layout .new) L R (replacementAt answers i) (replacementAt answers j) → i ≡ j
   -- none stands twice: two that give each variable of the pair the same sum stand at the same place
   pub none-twice : (i j : ℕ) → i < length answers → j < length answers
-      → ((x : ℕ) → List·Memᴰ x (variables M L R) → SameSum (readBack (getD answers i []) x) (readBack (getD answers j []) x)) → i ≡ j
+      → ((x : ℕ) → List·Memᴰ x (variables M L R) → SameSum (replacementAt answers i x) (replacementAt answers j x)) → i ≡ j

@@ -69,7 +69,7 @@ after-a-key e (none-admissible empty) from-start = omega arith
 after-a-key e (not-listed same h) from-start = omega arith
 after-a-key e (last-listed same m h) from-start = start-not-after (sym from-start ∙ same)
 
-asked-within : {M : Mode} {L R : List ℕ} {begin : Begin} {pages : List (List ℕ)} → begin ≡ start → PagesAsked M L R begin pages → WithinLimits M L R
+pub asked-within : {M : Mode} {L R : List ℕ} {begin : Begin} {pages : List (List ℕ)} → begin ≡ start → PagesAsked M L R begin pages → WithinLimits M L R
 asked-within from-start (one-more before last promise ends rest) = page-within promise
 asked-within from-start (no-more promise) = page-within promise
 asked-within {M} {L} {R} from-start (was-last (is-refused first)) =

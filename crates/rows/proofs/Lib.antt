@@ -7,4 +7,5 @@ pub mod Reach
 pub mod Ranges
 pub mod LargestBytes
 pub mod Walking
+pub mod Turns
 pub mod Whole

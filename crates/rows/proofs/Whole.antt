@@ -1,5 +1,5 @@
 -- The whole walk: where it starts, with budgets that are enough, and what it has found at the end.
-use Prim.Native.Nat.{ℕ, suc, _+_, _*_, _≤_, _<_, max}
+use Prim.Native.Nat.{ℕ, _*_, _≤_, _<_, max}
 use native.Mathlib.Omega.{arith}
 use native.Mathlib.Nat.{le-trans}
 use mathlib.Core.Path.{_≡_, refl, sym, ap, subst, _∙_}
@@ -8,9 +8,9 @@ use mathlib.Core.List.{List, [], _∷_, List·Memᴰ, List·Memᴰ·head, List·
 use lib.ListN.{length}
 use lib.Dec.{leb}
 use borrow.Author.Tests.{not-false}
-use Rattle.ac.specs.Lists.{sum, Ascending, Ascending.none, Ascending.next}
-use Rattle.ac.specs.Rows.{Exactly, _≺_}
-use Rattle.ac.specs.Equation.{Equation, Solves, Minimal, dot}
+use Rattle.ac.specs.Lists.{Ascending, Ascending.none, Ascending.next}
+use Rattle.ac.specs.Rows.{_≺_}
+use Rattle.ac.specs.Equation.{Equation}
 use Rattle.ac.proofs.Vectors.{weighted, at, exactly-same}
 use Rattle.ac.proofs.Order.{≺-asymmetric}
 use Rattle.ac.proofs.Walk.{up, down}

@@ -37,7 +37,7 @@ same-length c = search needs
 
 returns : tie.Need-returns
 returns c = let E = equation (c .before .before .before .before .before .before .before .before .before .before .before .before .before .before .args .left .now) (c .before .before .before .before .before .before .before .before .before .before .before .before .before .before .args .right .now) (c .before .before .before .before .before .before .before .before .before .before .before .before .before .before .args .left-offset) (c .before .before .before .before .before .before .before .before .before .before .before .before .before .before .args .right-offset) (c .before .before .before .before .before .before .before .before .before .before .before .before .before .before .args .homogeneous) in
-    finds-all (sym (c .before .before .before .before .before .before .before .before .before .before .before .before .before .before .pre .rights)) (c .before .before .before .walk .ensures .found E (stands-start (sym (c .before .before .before .before .before .before .before .before .before .before .before .before .before .before .pre .rights)) (c .before .before .before .before .before .before .before .before .start .ensures)) (holds-start E (c .before .before .before .before .before .before .before .before .before .before .before .before .before .before .args .limit) (c .before .before .before .before .before .before .before .before .before .before .before .before .before .before .args .rows .now)))
+    finds-all (sym (c .before .before .before .before .before .before .before .before .before .before .before .before .before .before .pre .rights)) (c .before .before .before .walk .ensures .found E (stands-start {E = E} (sym (c .before .before .before .before .before .before .before .before .before .before .before .before .before .before .pre .rights)) (c .before .before .before .before .before .before .before .before .start .ensures)) (holds-start E (c .before .before .before .before .before .before .before .before .before .before .before .before .before .before .args .limit) (c .before .before .before .before .before .before .before .before .before .before .before .before .before .before .args .rows .now)))
 
 pub search-spec : {M : Type 1} → statement M
 search-spec =

@@ -9,3 +9,4 @@ pub mod LargestBytes
 pub mod Walking
 pub mod Turns
 pub mod Whole
+pub mod Laws

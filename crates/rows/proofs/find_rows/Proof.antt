@@ -23,9 +23,11 @@ slice-aggregate-search-3 : tie.Need-slice-aggregate-search-3
 slice-aggregate-search-3 c = search needs
 
 search-requires : tie.Need-search-requires
-search-requires c κs = let lefts : length (take (c .before .before .before .args .places) (c .before .before .before .args .t1)) ≡ c .before .before .before .args .places = length-take-le (c .before .before .before .args .places) (c .before .before .before .args .t1) (search needs) in
-    let rights : length (take (c .before .before .before .args .places) (c .before .before .before .args .t2)) ≡ c .before .before .before .args .places = length-take-le (c .before .before .before .args .places) (c .before .before .before .args .t2) (search needs) in
-    record { rights = rights ∙ sym lefts; few-places = omega (arith, lefts, c .before .before .before .pre); bytes-room = omega (arith, lefts, c .before .before .before .pre); limited = omega arith }
+search-requires c κs =
+    let entry = c .before .before .before in
+    let lefts : length (take (entry .args .places) (entry .args .t1)) ≡ entry .args .places = length-take-le (entry .args .places) (entry .args .t1) (search needs) in
+    let rights : length (take (entry .args .places) (entry .args .t2)) ≡ entry .args .places = length-take-le (entry .args .places) (entry .args .t2) (search needs) in
+    record { rights = rights ∙ sym lefts; few-places = omega (arith, lefts, entry .pre); bytes-room = omega (arith, lefts, entry .pre); limited = omega arith }
 
 returns : tie.Need-returns
 returns c = search needs

@@ -29,13 +29,20 @@ same-length-2 : tie.Need-same-length-2
 same-length-2 c = search needs
 
 returns-2 : tie.Need-returns-2
-returns-2 c = keeps-full (c .before .before .before .before .before .before .pre .0) (c .before .before .lower .ensures .not-so (c .before .if1 .left)) (c .if2 .taken)
+returns-2 c =
+    let at-lower = c .before .before in
+    let entry = at-lower .before .before .before .before in
+    keeps-full (entry .pre .0) (at-lower .lower .ensures .not-so (c .before .if1 .left)) (c .if2 .taken)
 
 mul-put : tie.Need-mul-put
-mul-put c = omega (arith, mul-le-mul-right (length (c .before .before .before .before .before .before .before .args .vector .now)) (c .before .before .before .before .before .before .before .pre .0), c .before .before .before .before .before .before .before .good .0 .0)
+mul-put c =
+    let entry = c .before .before .before .before .before .before .before in
+    omega (arith, mul-le-mul-right (length (entry .args .vector .now)) (entry .pre .0), entry .good .0 .0)
 
 put-requires : tie.Need-put-requires
-put-requires c κs = omega (arith, row-within (length (c .before .before .before .before .before .before .before .args .vector .now)) {row = c .before .before .before .before .before .before .before .args .count} {count = c .before .before .before .before .before .before .before .args .limit} (let h : c .before .before .before .before .before .before .before .args .count < c .before .before .before .before .before .before .before .args .limit = omega arith in h))
+put-requires c κs =
+    let entry = c .before .before .before .before .before .before .before in
+    omega (arith, row-within (length (entry .args .vector .now)) {row = entry .args .count} {count = entry .args .limit} (let h : entry .args .count < entry .args .limit = omega arith in h))
 
 add-result-2 : tie.Need-add-result-2
 add-result-2 c = search needs
@@ -44,8 +51,14 @@ same-length-3 : tie.Need-same-length-3
 same-length-3 c = search needs
 
 returns-3 : tie.Need-returns-3
-returns-3 c = subst (λ (l : List ℕ). Keeps (c .before .before .before .before .before .before .before .before .before .before .args .limit) (c .before .before .before .before .before .before .before .before .before .before .args .vector .now) (c .before .before .before .before .before .before .before .before .before .before .args .rows .now) (c .before .before .before .before .before .before .before .before .before .before .args .count) l (c .before .before .before .before .before .before .before .before .before .before .args .count + 1)) (sym (c .before .before .put .ensures))
-    (keeps-put (c .before .before .before .before .before .before .before .before .before .before .pre .0) (c .before .before .before .before .before .before .lower .ensures .not-so (c .before .before .before .before .before .if1 .left)) (c .before .before .before .before .if2 .left) (omega (arith, mul-le-mul-right (length (c .before .before .before .before .before .before .before .before .before .before .args .vector .now)) (c .before .before .before .before .before .before .before .before .before .before .pre .0))))
+returns-3 c =
+    let at-put = c .before .before in
+    let at-if2 = at-put .before .before in
+    let at-if1 = at-if2 .before in
+    let at-lower = at-if1 .before in
+    let entry = at-lower .before .before .before .before in
+    subst (λ (l : List ℕ). Keeps (entry .args .limit) (entry .args .vector .now) (entry .args .rows .now) (entry .args .count) l (entry .args .count + 1)) (sym (at-put .put .ensures))
+    (keeps-put (entry .pre .0) (at-lower .lower .ensures .not-so (at-if1 .if1 .left)) (at-if2 .if2 .left) (omega (arith, mul-le-mul-right (length (entry .args .vector .now)) (entry .pre .0))))
 
 pub keep-spec : {M : Type 1} → statement M
 keep-spec =

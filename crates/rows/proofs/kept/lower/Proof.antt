@@ -25,7 +25,9 @@ rows-holds : tie.Need-rows-holds Inv-places μ-places Inv-rows μ-rows
 rows-holds c = (tried-none, refl)
 
 mul-start : tie.Need-mul-start Inv-places μ-places Inv-rows μ-rows
-mul-start c = omega (arith, row-within (length (c .before .before .args .vector .now)) (c .rows-test .taken), c .before .before .pre, c .before .before .good .0 .0)
+mul-start c =
+    let entry = c .before .before in
+    omega (arith, row-within (length (entry .args .vector .now)) (c .rows-test .taken), entry .pre, entry .good .0 .0)
 
 places-holds : tie.Need-places-holds Inv-places μ-places Inv-rows μ-rows
 places-holds c = (compared-none, c .before .rows .inv .1)
@@ -34,19 +36,32 @@ shared-slice-read-if2 : tie.Need-shared-slice-read-if2 Inv-places μ-places Inv-
 shared-slice-read-if2 c = omega (arith, c .before .before .places .inv .0 .within)
 
 add-if2 : tie.Need-add-if2 Inv-places μ-places Inv-rows μ-rows
-add-if2 c = omega (arith, c .before .before .places .inv .0 .within, row-within (length (c .before .before .before .before .before .args .vector .now)) (c .before .before .before .rows-test .taken), c .before .before .before .before .before .pre, c .before .before .before .before .before .good .0 .0)
+add-if2 c =
+    let at-places = c .before .before in
+    let at-rows-test = at-places .before in
+    let entry = at-rows-test .before .before in
+    omega (arith, at-places .places .inv .0 .within, row-within (length (entry .args .vector .now)) (at-rows-test .rows-test .taken), entry .pre, entry .good .0 .0)
 
 shared-slice-read-if2-2 : tie.Need-shared-slice-read-if2-2 Inv-places μ-places Inv-rows μ-rows
-shared-slice-read-if2-2 c = omega (arith, c .before .before .before .places .inv .0 .within, row-within (length (c .before .before .before .before .before .before .args .vector .now)) (c .before .before .before .before .rows-test .taken), c .before .before .before .before .before .before .pre)
+shared-slice-read-if2-2 c =
+    let at-places = c .before .before .before in
+    let at-rows-test = at-places .before in
+    let entry = at-rows-test .before .before in
+    omega (arith, at-places .places .inv .0 .within, row-within (length (entry .args .vector .now)) (at-rows-test .rows-test .taken), entry .pre)
 
 add-place : tie.Need-add-place Inv-places μ-places Inv-rows μ-rows
-add-place c = omega (arith, c .before .before .before .before .places .inv .0 .within, c .before .before .before .before .before .before .before .good .1 .1 .0 .0)
+add-place c =
+    let at-places = c .before .before .before .before in
+    let entry = at-places .before .before .before in
+    omega (arith, at-places .places .inv .0 .within, entry .good .1 .1 .0 .0)
 
 places-less : tie.Need-places-less Inv-places μ-places Inv-rows μ-rows
 places-less c = omega (arith, c .before .before .before .before .places .inv .0 .within)
 
 places-again : tie.Need-places-again Inv-places μ-places Inv-rows μ-rows
-places-again c = (compared-more (c .before .before .before .before .places .inv .0) (omega (arith, c .before .before .before .before .places .inv .0 .within)) (c .if2 .left), c .before .before .before .before .places .inv .1)
+places-again c =
+    let at-places = c .before .before .before .before in
+    (compared-more (at-places .places .inv .0) (omega (arith, at-places .places .inv .0 .within)) (c .if2 .left), at-places .places .inv .1)
 
 add-row : tie.Need-add-row Inv-places μ-places Inv-rows μ-rows
 add-row c = omega arith
@@ -55,7 +70,11 @@ rows-less : tie.Need-rows-less Inv-places μ-places Inv-rows μ-rows
 rows-less c = omega arith
 
 rows-again : tie.Need-rows-again Inv-places μ-places Inv-rows μ-rows
-rows-again c = (tried-more (c .before .before .before .before .before .before .rows .inv .0) (c .before .before .before .before .before .rows-test .taken) (omega (arith, c .before .before .before .before .places .inv .0 .within)) (c .if2 .taken), c .before .before .before .before .places .inv .1)
+rows-again c =
+    let at-places = c .before .before .before .before in
+    let at-rows-test = at-places .before in
+    let at-rows = at-rows-test .before in
+    (tried-more (at-rows .rows .inv .0) (at-rows-test .rows-test .taken) (omega (arith, at-places .places .inv .0 .within)) (c .if2 .taken), at-places .places .inv .1)
 
 returns : tie.Need-returns Inv-places μ-places Inv-rows μ-rows
 returns c = record {

@@ -21,7 +21,9 @@ times-requires-2 : tie.Need-times-requires-2
 times-requires-2 c κs = search needs
 
 add-if2 : tie.Need-add-if2
-add-if2 c = omega (arith, mul-le-mul-left (c .before .before .before .before .before .before .args .at .down) (let h : c .before .before .before .before .before .before .args .drop ≤ 255 = omega arith in h))
+add-if2 c =
+    let entry = c .before .before .before .before .before .before in
+    omega (arith, mul-le-mul-left (entry .args .at .down) (let h : entry .args .drop ≤ 255 = omega arith in h))
 
 returns-2 : tie.Need-returns-2
 returns-2 c = λ t. right-short (omega arith)

@@ -20,7 +20,10 @@ wide-requires-2 : tie.Need-wide-requires-2
 wide-requires-2 c κs = search needs
 
 returns-2 : tie.Need-returns-2
-returns-2 c = lifts-none-high (c .before .before .before .before .pre) (omega (arith, c .before .wide2 .ensures, c .if2 .taken, ap (λ s. (c .before .before .before .before .args .high - c .before .before .before .before .args .low) / s) (c .before .before .wide .ensures))) (omega arith)
+returns-2 c =
+    let at-wide = c .before .before in
+    let entry = at-wide .before .before in
+    lifts-none-high (entry .pre) (omega (arith, c .before .wide2 .ensures, c .if2 .taken, ap (λ s. (entry .args .high - entry .args .low) / s) (at-wide .wide .ensures))) (omega arith)
 
 cast-t9 : tie.Need-cast-t9
 cast-t9 c = search needs
@@ -29,7 +32,10 @@ cast-t10 : tie.Need-cast-t10
 cast-t10 c = search needs
 
 returns-3 : tie.Need-returns-3
-returns-3 c = let e = ap (λ s. (c .before .before .before .before .args .high - c .before .before .before .before .args .low) / s) (c .before .before .wide .ensures) in lifts-one (c .before .before .before .before .pre) e e (omega (arith, e))
+returns-3 c =
+    let at-wide = c .before .before in
+    let entry = at-wide .before .before in
+    let e = ap (λ s. (entry .args .high - entry .args .low) / s) (at-wide .wide .ensures) in lifts-one (entry .pre) e e (omega (arith, e))
 
 pub divided-spec : {M : Type 1} → statement M
 divided-spec =

@@ -10,14 +10,19 @@ use Rattle.rows.proofs.standing.possible.Statement.{statement}
 use Rattle.rows.proofs.standing.possible.Tie as tie
 
 returns : tie.Need-returns
-returns c = ranges-even (c .before .before .args .at) (c .before .before .args .left) (c .before .before .args .right) (c .before .before .args .last) (c .before .if1 .taken) (omega arith)
+returns c =
+    let entry = c .before .before in
+    ranges-even (entry .args .at) (entry .args .left) (entry .args .right) (entry .args .last) (c .before .if1 .taken) (omega arith)
     (omega (arith, ap (λ b. cond {A = ℕ} b 0 1) (c .if2 .taken)))
 
 smaller-requires : tie.Need-smaller-requires
 smaller-requires c κs = search needs
 
 returns-2 : tie.Need-returns-2
-returns-2 c = ranges-even (c .before .before .before .args .at) (c .before .before .before .args .left) (c .before .before .before .args .right) (c .before .before .before .args .last) (c .before .before .if1 .taken) (omega (arith, c .smaller .ensures))
+returns-2 c =
+    let at-if1 = c .before .before in
+    let entry = at-if1 .before in
+    ranges-even (entry .args .at) (entry .args .left) (entry .args .right) (entry .args .last) (at-if1 .if1 .taken) (omega (arith, c .smaller .ensures))
     (omega (arith, c .smaller .ensures, ap (λ b. cond {A = ℕ} b 0 1) (c .before .if2 .left)))
 
 budget-requires : tie.Need-budget-requires

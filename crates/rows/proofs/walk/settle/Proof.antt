@@ -50,7 +50,9 @@ returns : tie.Need-returns
 returns c = settles-unequal (c .before .before .before .before .pre .0) (c .if1 .taken)
 
 returns-2 : tie.Need-returns-2
-returns-2 c = settles-zero (c .before .before .before .before .before .before .pre .0) (not-true (c .before .before .before .before .before .before .args .at .counts) (c .if2 .taken))
+returns-2 c =
+    let entry = c .before .before .before .before .before .before in
+    settles-zero (entry .pre .0) (not-true (entry .args .at .counts) (c .if2 .taken))
 
 keep-requires : tie.Need-keep-requires
 keep-requires c κs = search needs
@@ -59,7 +61,12 @@ same-length : tie.Need-same-length
 same-length c = search needs
 
 returns-3 : tie.Need-returns-3
-returns-3 c = settles-kept (c .before .before .before .before .before .before .if1 .left) (not-false (c .before .before .before .before .before .before .before .before .before .before .args .at .counts) (c .before .before .before .before .if2 .left)) (c .before .before .keep .ensures)
+returns-3 c =
+    let at-keep = c .before .before in
+    let at-if2 = at-keep .before .before in
+    let at-if1 = at-if2 .before .before in
+    let entry = at-if1 .before .before .before .before in
+    settles-kept (at-if1 .if1 .left) (not-false (entry .args .at .counts) (at-if2 .if2 .left)) (at-keep .keep .ensures)
 
 pub settle-spec : {M : Type 1} → statement M
 settle-spec = tie.close (tie.spec returns returns-2 keep-requires same-length returns-3)

@@ -28,7 +28,13 @@ larger-requires-3 : tie.Need-larger-requires-3
 larger-requires-3 c κs = search needs
 
 returns : tie.Need-returns
-returns c = starts-from-largest (c .before .largest2 .ensures) (c .before .before .before .before .largest .ensures) (c .before .before .before .before .before .before .wide .ensures) (c .before .before .before .before .before .wide2 .ensures) refl (omega (arith, c .before .before .before .larger .ensures, c .before .before .larger2 .ensures)) (c .larger3 .ensures) (omega (arith, c .before .before .larger2 .ok)) (omega (arith, c .larger3 .ok))
+returns c =
+    let at-larger2 = c .before .before in
+    let at-larger = at-larger2 .before in
+    let at-largest = at-larger .before in
+    let at-wide2 = at-largest .before in
+    let at-wide = at-wide2 .before in
+    starts-from-largest (c .before .largest2 .ensures) (at-largest .largest .ensures) (at-wide .wide .ensures) (at-wide2 .wide2 .ensures) refl (omega (arith, at-larger .larger .ensures, at-larger2 .larger2 .ensures)) (c .larger3 .ensures) (omega (arith, at-larger2 .larger2 .ok)) (omega (arith, c .larger3 .ok))
 
 pub start-spec : {M : Type 1} → statement M
 start-spec =

@@ -30,7 +30,10 @@ loop-less : tie.Need-loop-less Inv-loop μ-loop
 loop-less c = omega arith
 
 loop-again : tie.Need-loop-again Inv-loop μ-loop
-loop-again c = topped-more (c .before .before .loop .inv) (omega (arith, c .before .loop-test .taken, c .before .before .before .before .pre)) (c .largest .ensures)
+loop-again c =
+    let at-loop = c .before .before in
+    let entry = at-loop .before .before in
+    topped-more (at-loop .loop .inv) (omega (arith, c .before .loop-test .taken, entry .pre)) (c .largest .ensures)
 
 returns : tie.Need-returns Inv-loop μ-loop
 returns c = topped-all (c .before .loop .inv) (c .loop-test .left)

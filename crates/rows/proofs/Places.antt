@@ -29,15 +29,15 @@ false-or : {a b : Bool} → a ≡ false → b ≡ false → (a || b) ≡ false
 false-or {a} {b} e f = ap (λ x. x || b) e ∙ f
 
 -- a sum of two parts within a budget, of which the one part has its own place in it
-spent-own : (b : Bool) (n s : ℕ) {most : ℕ} → cond b n 0 + s ≤ most → s ≤ cond b (most - n) most
+spent-own : (b : Bool) (n s : ℕ) {most : ℕ} → cond b 1 0 * n + s ≤ most → s ≤ cond b (most - n) most
 spent-own true n s h = omega arith
 spent-own false n s h = omega arith
 
-spent-other : (b : Bool) (n s : ℕ) {most : ℕ} → cond b 0 n + s ≤ most → s ≤ cond b most (most - n)
+spent-other : (b : Bool) (n s : ℕ) {most : ℕ} → cond b 0 1 * n + s ≤ most → s ≤ cond b most (most - n)
 spent-other true n s h = omega arith
 spent-other false n s h = omega arith
 
-within-own : (b : Bool) (n s t : ℕ) {up down : ℕ} → cond b n 0 + s ≤ up → cond b 0 n + t ≤ down → n ≤ cond b up down
+within-own : (b : Bool) (n s t : ℕ) {up down : ℕ} → cond b 1 0 * n + s ≤ up → cond b 0 1 * n + t ≤ down → n ≤ cond b up down
 within-own true n s t h h′ = omega arith
 within-own false n s t h h′ = omega arith
 

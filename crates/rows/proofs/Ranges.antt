@@ -2,13 +2,13 @@
 use Prim.Native.Nat.{ℕ, _+_, _*_, _-_, _/_, _≤_, _<_, min}
 use native.Mathlib.Omega.{arith}
 use native.Mathlib.Nat.{le-trans, le-min, mul-le-mul, mul-le-mul-right, mul-div-right}
-use mathlib.Core.Path.{_≡_, refl, sym, ap, _∙_}
+use mathlib.Core.Path.{_≡_, sym, ap, _∙_}
 use mathlib.Core.Bool.{Bool, true, false, cond, _||_}
 use lib.Dec.{leb, ltb}
 use borrow.Author.Tests.{le-leb, lt-leb}
 use Rattle.rows.specs.declared.standing.Standing.{Standing}
 use Rattle.rows.specs.declared.standing.Range.{Range}
-use Rattle.rows.specs.Places.{budgetOf, afterChoice, Room, Possible, Lifts, Ranges}
+use Rattle.rows.specs.Places.{budgetOf, afterChoice, Room, Lifts, Ranges}
 
 -- Numbers that fit.
 

@@ -2,5 +2,7 @@ pub mod Terms
 pub mod Begins
 pub mod Settled
 pub mod Sides
+pub mod Faults
 pub mod Determined
+pub mod Examples
 pub mod Laws

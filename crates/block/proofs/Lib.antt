@@ -1,5 +1,7 @@
+mod Apart
 pub mod Terms
 pub mod Begins
+pub mod Flattens
 pub mod Settled
 pub mod Sides
 pub mod Faults

@@ -9,7 +9,7 @@ use Rattle.numbers.specs.declared.Refusal.{Refusal}
 use Rattle.block.specs.Inner.{Refuses}
 use Rattle.block.specs.Read as outcome
 use Rattle.block.specs.Read.{ReadPromise}
-use Rattle.block.proofs.Settled.{refused-block}
+use Rattle.block.proofs.Settled.{promised-refusal}
 use Rattle.block.proofs.Sides.{HeaderLengths, when-lengths, when-refused, SideTerm, when-atoms, when-no-term, terms-fit, left-short, right-short, left-missing, right-missing, filler-wrong, count-within, count-fits, copied, sides-read}
 use Rattle.block.proofs.read_block.Statement.{statement}
 use Rattle.block.proofs.read_block.Tie as tie
@@ -44,7 +44,7 @@ right-term c = when-atoms (c .before .before .before .before .before .take-apart
 
 -- a refusal after the header
 refused : (c : tie.After-known-told2) {why : Refusal} → Refuses (entry c .args .block .now) (entry c .args .number) why → ReadPromise (entry c .args .block .now) (entry c .args .number) (entry c .args .left .now) (entry c .args .right .now) (outcome.refused (numberOf why)) (entry c .args .left .now) (entry c .args .right .now)
-refused c = refused-block (entry c .pre .1 .1 .0) (entry c .pre .1 .1 .1)
+refused c = promised-refusal (entry c .pre .1 .1 .0) (entry c .pre .1 .1 .1)
 
 read-header-requires : tie.Need-read-header-requires
 read-header-requires c κs = search needs
@@ -167,7 +167,7 @@ copy-requires-2 c κs =
 returns-4 : tie.Need-returns-4
 returns-4 c =
     let at-entry = c .before .before .before .before .before .before .before .before .before in
-    refused-block (at-entry .pre .1 .1 .0) (at-entry .pre .1 .1 .1) (when-refused (c .before .before .before .read-header .ensures) (c .before .header .given .1))
+    promised-refusal (at-entry .pre .1 .1 .0) (at-entry .pre .1 .1 .1) (when-refused (c .before .before .before .read-header .ensures) (c .before .header .given .1))
 
 same-length-6 : tie.Need-same-length-6
 same-length-6 c = search needs

@@ -3,7 +3,8 @@
 use Prim.Native.Nat.{ℕ, _+_, _-_, _*_, _<_}
 use lib.ListN.{length, take, drop}
 use Rattle.block.specs.Inner.{found, nothing}
-use Rattle.block.proofs.Begins.{empty-begins-not, above-begins-not, after-first-byte, after-plus-byte, variable-may-be-written, constant-may-be-written, plus-is-128, refused-is-above, first-missing, FoundTerm, when-found, when-nothing, found-sizes, filled-within, second-sizes, second-nothing, found-both}
+use Rattle.block.proofs.Begins.{empty-begins-not, above-begins-not, first-missing}
+use Rattle.block.proofs.Flattens.{after-first-byte, after-plus-byte, variable-may-be-written, constant-may-be-written, plus-is-128, refused-is-above, FoundTerm, when-found, when-nothing, found-sizes, filled-within, second-sizes, second-nothing, found-both}
 use borrow.Author.Needs.{needs}
 use native.Mathlib.Omega.{arith}
 use borrow.Fn.Kinds.{In}

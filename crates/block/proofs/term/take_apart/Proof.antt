@@ -1,7 +1,8 @@
 -- `block::term::take_apart` meets its contract: the bytes are a term exactly if the term that they begin with uses all of them. Assumes nothing.
 use borrow.Author.Needs.{needs}
 use Rattle.block.specs.Inner.{no-term}
-use Rattle.block.proofs.Begins.{when-found, when-nothing, nothing-is-no-term, left-over-is-no-term, whole-is-term}
+use Rattle.block.proofs.Begins.{nothing-is-no-term}
+use Rattle.block.proofs.Flattens.{when-found, when-nothing, left-over-is-no-term, whole-is-term}
 use Rattle.block.proofs.term.take_apart.Statement.{statement}
 use Rattle.block.proofs.term.take_apart.Tie as tie
 

@@ -58,7 +58,9 @@ abbrev first-known : (t : ℕ) → At-second t → At-first t
 first-known t c = c .before .before .before .before .before .before .before .before
 
 first-term : (t : ℕ) (c : At-first t) →
-    FoundTerm (c .before .before .before .before .before .before .before .before .before .args .bytes .now) (c .before .before .before .before .before .before .before .before .before .args .buffer .now) (c .before .first .given .0 .0) (c .before .first .given .0 .1 .0) (c .before .before .before .before .before .flatten .last .1 .0)
+    let entry = c .before .before .before .before .before .before .before .before .before in
+    let size = c .before .first .given .0 in
+    FoundTerm (entry .args .bytes .now) (entry .args .buffer .now) (size .0) (size .1 .0) (c .before .before .before .before .before .flatten .last .1 .0)
 first-term t c = when-found (c .before .before .before .before .before .flatten .ensures) (c .before .first .given .1)
 
 second-term : (t : ℕ) (c : At-second t) →
@@ -67,7 +69,8 @@ second-term : (t : ℕ) (c : At-second t) →
     let used = at-first .before .first .given .0 .0 in
     let filled = at-first .before .first .given .0 .1 .0 in
     let after = at-first .before .before .before .before .before .flatten .last .1 .0 in
-    FoundTerm (take (length bytes - used) (drop used bytes)) (take (length after - filled) (drop filled after)) (c .before .second .given .0 .0) (c .before .second .given .0 .1 .0) (c .before .before .before .before .before .flatten2 .last .1 .0)
+    FoundTerm (take (length bytes - used) (drop used bytes)) (take (length after - filled) (drop filled after))
+    (c .before .second .given .0 .0) (c .before .second .given .0 .1 .0) (c .before .before .before .before .before .flatten2 .last .1 .0)
 second-term t c = when-found (c .before .before .before .before .before .flatten2 .ensures) (c .before .second .given .1)
 
 flatten-returns : (t : ℕ) → flatten-lts.Need-returns (
@@ -118,7 +121,10 @@ flatten-flatten-atom-requires : (t : ℕ) → flatten-lts.Need-flatten-atom-requ
   flatten-two-below t,
   flatten-two.Post,
 ) (flatten-at t) flatten.Post
-flatten-flatten-atom-requires t c κs = ((variable-may-be-written (rw (c .before .enum-told .given .1) at (c .before .before .before .classify .ensures))), omega (arith, some-bytes t (c .before .before .before), c .before .before .before .before .before .before .before .before .pre .1))
+flatten-flatten-atom-requires t c κs =
+    let at-kind = c .before .before .before in
+    let kind = rw (c .before .enum-told .given .1) at (at-kind .classify .ensures) in
+    (variable-may-be-written kind, omega (arith, some-bytes t at-kind, at-kind .before .before .before .before .before .pre .1))
 
 flatten-enum-told-2 : (t : ℕ) → flatten-lts.Need-enum-told-2 (
   classify-reads.Asked,
@@ -138,7 +144,10 @@ flatten-flatten-atom-requires-2 : (t : ℕ) → flatten-lts.Need-flatten-atom-re
   flatten-two-below t,
   flatten-two.Post,
 ) (flatten-at t) flatten.Post
-flatten-flatten-atom-requires-2 t c κs = ((constant-may-be-written (rw (c .before .enum-told2 .given .1) at (c .before .before .before .classify .ensures))), omega (arith, some-bytes t (c .before .before .before), c .before .before .before .before .before .before .before .before .pre .1))
+flatten-flatten-atom-requires-2 t c κs =
+    let at-kind = c .before .before .before in
+    let kind = rw (c .before .enum-told2 .given .1) at (at-kind .classify .ensures) in
+    (constant-may-be-written kind, omega (arith, some-bytes t at-kind, at-kind .before .before .before .before .before .pre .1))
 
 flatten-enum-told-3 : (t : ℕ) → flatten-lts.Need-enum-told-3 (
   classify-reads.Asked,
@@ -260,7 +269,8 @@ flatten-returns-4 : (t : ℕ) → flatten-lts.Need-returns-4 (
 ) (flatten-at t) flatten.Post
 flatten-returns-4 t c =
     let at-kind = c .before .before .before .before .before .before .before in
-    after-plus-byte (some-bytes t at-kind) (plus-is-128 (rw (c .before .before .before .before .before .enum-told3 .given .1) at (at-kind .classify .ensures))) (c .before .before .flatten-two .ensures)
+    let is-plus = plus-is-128 (rw (c .before .before .before .before .before .enum-told3 .given .1) at (at-kind .classify .ensures)) in
+    after-plus-byte (some-bytes t at-kind) is-plus (c .before .before .flatten-two .ensures)
 
 flatten-returns-5 : (t : ℕ) → flatten-lts.Need-returns-5 (
   classify-reads.Asked,
@@ -350,8 +360,9 @@ flatten-two-flatten-requires-2 : (t : ℕ) → flatten-two-lts.Need-flatten-requ
 ) (flatten-two-at t) flatten-two.Post
 flatten-two-flatten-requires-2 t c κs =
     let at-first = c .before .before in
-    let sizes = second-sizes (first-term t at-first) (at-first .before .before .before .before .before .before .before .before .before .pre .1) (at-first .before .before .before .before .before .flatten .kept .1 .0) in
-    (omega (arith, sizes .0, at-first .before .before .before .before .before .before .before .before .before .pre .0), sizes .1)
+    let entry = at-first .before .before .before .before .before .before .before .before .before in
+    let sizes = second-sizes (first-term t at-first) (entry .pre .1) (at-first .before .before .before .before .before .flatten .kept .1 .0) in
+    (omega (arith, sizes .0, entry .pre .0), sizes .1)
 
 flatten-two-enum-known-second : (t : ℕ) → flatten-two-lts.Need-enum-known-second (
   flatten-below t,
@@ -377,7 +388,9 @@ flatten-two-returns-2 :
     (flatten-below t, flatten.Post)
     (flatten-two-at t)
     flatten-two.Post
-flatten-two-returns-2 t c = nothing (second-nothing (first-term t (c .before .before .before .before .before .before .before)) (when-nothing (c .before .before .before .before .flatten2 .ensures) (c .enum-told2 .given .1)))
+flatten-two-returns-2 t c =
+    let at-first = c .before .before .before .before .before .before .before in
+    nothing (second-nothing (first-term t at-first) (when-nothing (c .before .before .before .before .flatten2 .ensures) (c .enum-told2 .given .1)))
 
 flatten-two-add-t12 :
     (t : ℕ) →

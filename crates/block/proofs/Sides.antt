@@ -56,8 +56,9 @@ pub when-refused :
 when-refused {why = why} (is-refused {refusal = r} f) e = let same : r ≡ why = cc e in rw (← same) f
 when-refused (is-good g) e = apart (cc e)
 
--- what `Atoms` tells
-pub record SideTerm (bytes buffer : List ℕ) (count : ℕ) (after : List ℕ) : Type 0 where
+-- what `Atoms` tells, whatever the buffer held before
+pub record SideTerm (bytes : List ℕ) (count : ℕ) (after : List ℕ) : Type 0 where
+  pub buffer : List ℕ
   pub term : Term
   pub writes : Writes bytes term
   pub count-is : count ≡ length (flatten term)
@@ -67,20 +68,20 @@ pub when-atoms :
     {bytes buffer after : List ℕ} {count : ℕ} {s : Side} →
     TakesApart bytes buffer s after →
     s ≡ side.Atoms count →
-    SideTerm bytes buffer count after
-when-atoms (atoms {t} w) e = record { term = t; writes = w; count-is = cc e; after-is = refl }
+    SideTerm bytes count after
+when-atoms {buffer = buffer} (atoms {t} w) e = record { buffer = buffer; term = t; writes = w; count-is = cc e; after-is = refl }
 when-atoms (no-term none) e = apart (cc e)
 
 pub when-no-term : {bytes buffer after : List ℕ} {s : Side} → TakesApart bytes buffer s after → s ≡ side.NoTerm → NoTerm bytes
 when-no-term (atoms w) e = apart (cc e)
 when-no-term (no-term none) e = none
 
-module _ {bytes buffer after : List ℕ} {count : ℕ} (f : SideTerm bytes buffer count after) where
+module _ {bytes after : List ℕ} {count : ℕ} (f : SideTerm bytes count after) where
   pub count-within : count ≤ length after
   count-within = omega (arith, simp length-append at (ap length (f .after-is)), f .count-is)
 
   side-is : take count after ≡ flatten (f .term)
-  side-is = ap (take count) (f .after-is) ∙ take-at (flatten (f .term)) (drop (length (flatten (f .term))) buffer) count (sym (f .count-is))
+  side-is = ap (take count) (f .after-is) ∙ take-at (flatten (f .term)) (drop (length (flatten (f .term))) (f .buffer)) count (sym (f .count-is))
 
   -- a term of at most 127 bytes has at most 64 atoms
   pub count-fits : length bytes ≤ 127 → count ≤ 64
@@ -132,9 +133,9 @@ module _ {block : List ℕ} {number l r : ℕ} (h : HeaderLengths block number l
   right-missing none = term-first (h .good) (inr (rw right-part-is at none))
 
   module _
-      {left-buffer right-buffer left-after right-after : List ℕ} {m n : ℕ}
-      (f : SideTerm leftPart left-buffer m left-after)
-      (g : SideTerm rightPart right-buffer n right-after)
+      {left-after right-after : List ℕ} {m n : ℕ}
+      (f : SideTerm leftPart m left-after)
+      (g : SideTerm rightPart n right-after)
     where
       left-writes : Writes (leftTerm block) (f .term)
       left-writes = rw left-part-is at (f .writes)

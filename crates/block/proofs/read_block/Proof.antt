@@ -35,7 +35,6 @@ left-term :
     let left = at-lengths .before .header2 .given .0 .0 in
     SideTerm
     (take (4 + left - 4) (drop 4 (entry at-lengths .args .block .now)))
-    (entry at-lengths .args .left-atoms .now)
     (c .before .left-side .given .0 .0)
     (c .before .before .before .before .before .take-apart .last .1 .0)
 left-term c = when-atoms (c .before .before .before .before .before .take-apart .ensures) (c .before .left-side .given .1)
@@ -47,7 +46,6 @@ right-term :
     let right = at-lengths .before .header2 .given .0 .1 .0 in
     SideTerm
     (take (4 + left + right - (4 + left)) (drop (4 + left) (entry at-lengths .args .block .now)))
-    (entry at-lengths .args .right-atoms .now)
     (c .before .right-side .given .0 .0)
     (c .before .before .before .before .before .take-apart2 .last .1 .0)
 right-term c = when-atoms (c .before .before .before .before .before .take-apart2 .ensures) (c .before .right-side .given .1)

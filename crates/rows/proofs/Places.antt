@@ -44,7 +44,8 @@ within-own false n s t h h′ = omega arith
 module _ {E : Equation} {p left right : List ℕ} {l r : ℕ} {at : Standing} (s : Stands E p (l ∷ left) (r ∷ right) at) where
   -- in a row, the next number is within the place's budget
   pub number-within : (n : ℕ) (rest : List ℕ) → Minimal E (p ++ n ∷ rest) → n ≤ budgetOf at l r
-  number-within n rest minimal = within-own (leb r l) n (upSum left right rest) (downSum left right rest) (s .within-up (n ∷ rest) minimal) (s .within-down (n ∷ rest) minimal)
+  number-within n rest minimal =
+      within-own (leb r l) n (upSum left right rest) (downSum left right rest) (s .within-up (n ∷ rest) minimal) (s .within-down (n ∷ rest) minimal)
 
   module _ (n : ℕ) where
     not-zero : (rest : List ℕ) → ((at .counts || ltb 0 n) ≡ false → 0 < sum rest) → at .counts ≡ false → 0 < sum (n ∷ rest)

@@ -154,7 +154,8 @@ module _ {limit : ℕ} {left right mostLeft mostRight vector₀ bytes₀ : List 
           counted = through .counted;
           prefix = through .prefix;
           found = λ E s before.
-              to-most (take place vector₀) (short s) number (λ m rest minimal. omega (arith, in-range (turn .choice) s m rest minimal)) (through .found E s before);
+              to-most (take place vector₀) (short s) number (λ m rest minimal. omega (arith, in-range (turn .choice) s m rest minimal))
+              (through .found E s before);
         }
       where
         short : {E : Equation} → Stands E (take place vector₀) (drop place left) (drop place right) at → length (take place vector₀) < length (E .left)

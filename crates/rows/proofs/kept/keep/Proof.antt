@@ -1,12 +1,9 @@
 -- `rows::kept::keep` meets its contract: a row found is lower, or none is and there is no room left, or none is and the vector is put behind them.
 -- Assumes nothing.
-use Prim.Native.Nat.{ℕ, _+_, _<_}
+use Prim.Native.Nat.{_<_}
 use native.Mathlib.Omega.{arith}
 use native.Mathlib.Nat.{mul-le-mul-right}
-use mathlib.Core.Path.{sym, subst}
-use mathlib.Core.List.{List}
 use lib.ListN.{length}
-use Rattle.rows.specs.Kept.{Keeps}
 use Rattle.rows.proofs.Below.{row-within}
 use Rattle.rows.proofs.Held.{keeps-lower, keeps-full, keeps-put}
 use borrow.Author.Needs.{needs}
@@ -42,7 +39,8 @@ mul-put c =
 put-requires : tie.Need-put-requires
 put-requires c κs =
     let entry = c .before .before .before .before .before .before .before in
-    omega (arith, row-within (length (entry .args .vector .now)) {row = entry .args .count} {count = entry .args .limit} (let h : entry .args .count < entry .args .limit = omega arith in h))
+    let room-left : entry .args .count < entry .args .limit = omega arith in
+    omega (arith, row-within (length (entry .args .vector .now)) room-left)
 
 add-result-2 : tie.Need-add-result-2
 add-result-2 c = search needs
@@ -57,8 +55,8 @@ returns-3 c =
     let at-if1 = at-if2 .before in
     let at-lower = at-if1 .before in
     let entry = at-lower .before .before .before .before in
-    subst (λ (l : List ℕ). Keeps (entry .args .limit) (entry .args .vector .now) (entry .args .rows .now) (entry .args .count) l (entry .args .count + 1)) (sym (at-put .put .ensures))
-    (keeps-put (entry .pre .0) (at-lower .lower .ensures .not-so (at-if1 .if1 .left)) (at-if2 .if2 .left) (omega (arith, mul-le-mul-right (length (entry .args .vector .now)) (entry .pre .0))))
+    keeps-put (entry .pre .0) (at-lower .lower .ensures .not-so (at-if1 .if1 .left)) (at-if2 .if2 .left)
+    (omega (arith, mul-le-mul-right (length (entry .args .vector .now)) (entry .pre .0))) (at-put .put .ensures)
 
 pub keep-spec : {M : Type 1} → statement M
 keep-spec =

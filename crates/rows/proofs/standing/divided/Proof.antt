@@ -23,7 +23,9 @@ returns-2 : tie.Need-returns-2
 returns-2 c =
     let at-wide = c .before .before in
     let entry = at-wide .before .before in
-    lifts-none-high (entry .pre) (omega (arith, c .before .wide2 .ensures, c .if2 .taken, ap (λ s. (entry .args .high - entry .args .low) / s) (at-wide .wide .ensures))) (omega arith)
+    lifts-none-high (entry .pre)
+    (omega (arith, c .before .wide2 .ensures, c .if2 .taken, ap (λ s. (entry .args .high - entry .args .low) / s) (at-wide .wide .ensures)))
+    (omega arith)
 
 cast-t9 : tie.Need-cast-t9
 cast-t9 c = search needs

@@ -117,13 +117,17 @@ walk-returns-4 : (t : ℕ) → walk-lts.Need-returns-4 (calls t) (walk-at t) wal
 walk-returns-4 t c =
     let at-if2 = c .before .before .before .before .before .before .before .before in
     let entry = at-if2 .before .before .before .before .before .before .before .before in
-    walks-none (record { ready = entry .pre .1; within = omega (arith, entry .pre .1 .within, at-if2 .if2 .left); ranges = c .before .possible .ensures }) (c .if4 .taken)
+    walks-none
+    (record { ready = entry .pre .1; within = omega (arith, entry .pre .1 .within, at-if2 .if2 .left); ranges = c .before .possible .ensures })
+    (c .if4 .taken)
 
 walk-loop-holds : (t : ℕ) → walk-lts.Need-loop-holds (calls t) (walk-at t) walk.Post walk-Inv-loop walk-μ-loop
 walk-loop-holds t c =
     let at-if2 = c .before .before .before .before .before .before .before .before in
     let entry = at-if2 .before .before .before .before .before .before .before .before in
-    first-turn (record { ready = entry .pre .1; within = omega (arith, entry .pre .1 .within, at-if2 .if2 .left); ranges = c .before .possible .ensures }) (c .if4 .left)
+    first-turn
+    (record { ready = entry .pre .1; within = omega (arith, entry .pre .1 .within, at-if2 .if2 .left); ranges = c .before .possible .ensures })
+    (c .if4 .left)
 
 walk-slice-write-vector : (t : ℕ) → walk-lts.Need-slice-write-vector (calls t) (walk-at t) walk.Post walk-Inv-loop walk-μ-loop
 walk-slice-write-vector t c = omega (arith, c .loop .inv .choice .within, c .loop .inv .choice .ready .vectors, c .loop .inv .reached .vectors)
@@ -153,7 +157,9 @@ walk-walk-requires t c κs =
     let at-loop = at-shared-slice-known9 .before in
     let entry = at-loop .before .before .before .before .before .before .before .before .before .before .before .before .before .before .before .before .before in (
       omega (arith, entry .pre .0, at-loop .loop .inv .choice .within),
-      ready-next (at-loop .loop .inv) (at-chosen .chosen .ensures) (at-shared-slice-known9 .shared-slice-known9 .given (entry .args .place) .fits) (at-shared-slice-known10 .shared-slice-known10 .given (entry .args .place) .fits),
+      ready-next (at-loop .loop .inv) (at-chosen .chosen .ensures)
+          (at-shared-slice-known9 .shared-slice-known9 .given (entry .args .place) .fits)
+          (at-shared-slice-known10 .shared-slice-known10 .given (entry .args .place) .fits),
     )
 
 walk-same-length-3 : (t : ℕ) → walk-lts.Need-same-length-3 (calls t) (walk-at t) walk.Post walk-Inv-loop walk-μ-loop
@@ -174,7 +180,8 @@ walk-returns-5 t c =
     let at-walk = c .before .before .before .before .before in
     let at-chosen = at-walk .before .before .before in
     let at-loop = at-chosen .before .before .before in
-    walks-most (at-loop .loop .inv) (at-chosen .chosen .ensures) (at-walk .walk .kept .1 .1 .1 .1 .0) (at-walk .walk .kept .1 .1 .1 .1 .1 .0) (at-walk .walk .ensures) (c .if5 .taken)
+    walks-most (at-loop .loop .inv) (at-chosen .chosen .ensures) (at-walk .walk .kept .1 .1 .1 .1 .0)
+    (at-walk .walk .kept .1 .1 .1 .1 .1 .0) (at-walk .walk .ensures) (c .if5 .taken)
 
 walk-add-number : (t : ℕ) → walk-lts.Need-add-number (calls t) (walk-at t) walk.Post walk-Inv-loop walk-μ-loop
 walk-add-number t c =
@@ -190,7 +197,8 @@ walk-loop-again t c =
     let at-walk = c .before .before .before .before .before in
     let at-chosen = at-walk .before .before .before in
     let at-loop = at-chosen .before .before .before in
-    next-turn (at-loop .loop .inv) (at-chosen .chosen .ensures) (at-walk .walk .kept .1 .1 .1 .1 .0) (at-walk .walk .kept .1 .1 .1 .1 .1 .0) (at-walk .walk .ensures) (c .if5 .left)
+    next-turn (at-loop .loop .inv) (at-chosen .chosen .ensures) (at-walk .walk .kept .1 .1 .1 .1 .0) (at-walk .walk .kept .1 .1 .1 .1 .1 .0)
+    (at-walk .walk .ensures) (c .if5 .left)
 
 pub +walk-spec : {M : Type 1} → statement M
 +walk-spec = close μ-walk λ t. walk-lts.spec (calls t)

@@ -37,7 +37,8 @@ walk-requires c κs =
     let at-tops2 = at-start .before in
     let at-tops = at-tops2 .before in
     let entry = at-tops .before .before .before .before in
-    ready-start (entry .pre) (at-start .start .ensures) (at-tops .tops .ensures) (at-tops2 .tops2 .ensures) (search needs) (search needs) (length-take-le (length (entry .args .left .now)) (replicate 6 0) (entry .pre .few-places))
+    ready-start (entry .pre) (at-start .start .ensures) (at-tops .tops .ensures) (at-tops2 .tops2 .ensures) (search needs) (search needs)
+    (length-take-le (length (entry .args .left .now)) (replicate 6 0) (entry .pre .few-places))
 
 same-length : tie.Need-same-length
 same-length c = search needs
@@ -48,7 +49,8 @@ returns c =
     let at-start = at-walk .before .before .before .before .before in
     let entry = at-start .before .before .before .before .before .before in
     let E = equation (entry .args .left .now) (entry .args .right .now) (entry .args .left-offset) (entry .args .right-offset) (entry .args .homogeneous) in
-    finds-all (sym (entry .pre .rights)) (at-walk .walk .ensures .found E (stands-start {E = E} (sym (entry .pre .rights)) (at-start .start .ensures)) (holds-start E (entry .args .limit) (entry .args .rows .now)))
+    finds-all (sym (entry .pre .rights))
+    (at-walk .walk .ensures .found E (stands-start {E = E} (sym (entry .pre .rights)) (at-start .start .ensures)) (holds-start E (entry .args .limit) (entry .args .rows .now)))
 
 pub search-spec : {M : Type 1} → statement M
 search-spec =

@@ -34,7 +34,9 @@ returns c =
     let at-largest = at-larger .before in
     let at-wide2 = at-largest .before in
     let at-wide = at-wide2 .before in
-    starts-from-largest (c .before .largest2 .ensures) (at-largest .largest .ensures) (at-wide .wide .ensures) (at-wide2 .wide2 .ensures) refl (omega (arith, at-larger .larger .ensures, at-larger2 .larger2 .ensures)) (c .larger3 .ensures) (omega (arith, at-larger2 .larger2 .ok)) (omega (arith, c .larger3 .ok))
+    starts-from-largest (c .before .largest2 .ensures) (at-largest .largest .ensures) (at-wide .wide .ensures) (at-wide2 .wide2 .ensures) refl
+    (omega (arith, at-larger .larger .ensures, at-larger2 .larger2 .ensures)) (c .larger3 .ensures) (omega (arith, at-larger2 .larger2 .ok))
+    (omega (arith, c .larger3 .ok))
 
 pub start-spec : {M : Type 1} → statement M
 start-spec =

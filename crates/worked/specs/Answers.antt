@@ -9,9 +9,10 @@ use Rattle.ac.specs.Rows.{Groups, GroupsOf}
 use Rattle.ac.specs.Keys.{layout, keys, start}
 use Rattle.ac.specs.Values.{Binding, laidOut}
 use Rattle.ac.specs.Worked.{Pair, Printed, rows, balanced-rows, rows-of, the-keys, substitutions}
+use Rattle.block.specs.Read.{lengths}
 use Rattle.solver.specs.Page.{PageOutcome, refused, page}
 use Rattle.values.specs.Values.{written, valuesOf}
-use Rattle.worked.specs.Questions.{Question, pageQuestion, valuesQuestion}
+use Rattle.worked.specs.Questions.{Question, TwoBuffers, readQuestion, pageQuestion, valuesQuestion}
 
 -- The one answer to what is asked: this outcome with these buffers at exit meets the promise, and whatever meets it is this.
 pub record Answers (Q : Question) (asked : Q .Asked) (lent : Q .Lent) (outcome : Q .Outcome) (exit : Q .Lent) : Type 0 where
@@ -26,6 +27,12 @@ receives buffer front = front ++ drop (length front) buffer
 abbrev pub firstPage : List ℕ → PageOutcome
 firstPage [] = refused 13
 firstPage (key ∷ keys) = page (length (key ∷ keys)) false
+
+-- Read gives these sides of the block.
+abbrev pub ReadGives : List ℕ → ℕ → List ℕ → List ℕ → Type 0
+ReadGives block number left right = (lent : TwoBuffers) → 64 ≤ length (lent .left) → 64 ≤ length (lent .right)
+    → Answers readQuestion (record { block = block; number = number }) lent
+    (lengths (length left) (length right)) (record { left = receives (lent .left) left; right = receives (lent .right) right })
 
 module _ (L R : List ℕ) where
   -- Page from the start, where 0, meaning 200, are wanted, gives all these keys at once, or 13 where there are none.

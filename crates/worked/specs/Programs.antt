@@ -1,9 +1,8 @@
 -- Document 01, "What every promise has to say": the wrong programs, which must be unable to meet a question's promise.
 use Prim.Native.Nat.{ℕ}
 use mathlib.Core.Path.{_≡_}
-use mathlib.Core.Bool.{Bool}
 use Rattle.ac.specs.Keys.{after}
-use Rattle.solver.specs.Page.{refused, page}
+use Rattle.solver.specs.Page.{refused}
 use Rattle.worked.specs.Questions.{Question, PageAsked, pageQuestion}
 
 -- what a program returns, and what it leaves in the lent buffers
@@ -31,10 +30,6 @@ module _ {Q : Question} (program : Program Q) where
   -- one that writes nothing, whatever it returns
   abbrev pub WritesNothing : Type 0
   WritesNothing = (asked : Q .Asked) (lent : Q .Lent) → program asked lent .exit ≡ lent
-
-  -- one with invented counts: what it returns is made from what is asked by some function, whatever is right
-  abbrev pub Returns : (Q .Asked → Q .Outcome) → Type 0
-  Returns invented = (asked : Q .Asked) (lent : Q .Lent) → program asked lent .outcome ≡ invented asked
 
 -- one that finds the first key and then claims 15: whatever it gives from the start, after a key it gives 15
 abbrev pub ThenFifteen : Program pageQuestion → Type 0

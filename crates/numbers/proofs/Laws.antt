@@ -1,8 +1,63 @@
 -- Laws of document 01's table: a number names one refusal, and a question's list gives at most one number.
-use mathlib.Core.Path.{_≡_, refl}
+use mathlib.Core.Path.{_≡_, refl, ap, sym, _∙_}
 use mathlib.Core.List.{List, [], _∷_}
 use Prim.Native.Nat.{ℕ}
+use lib.ListN.{getD}
+use Rattle.numbers.specs.Numbers.{numberOf}
+use Rattle.numbers.specs.declared.Refusal.{Refusal}
+use Rattle.numbers.specs.declared.Refusal.the-variants.{BlockLength, Check, BlockNumber, TermLength, Term, Filler, SideLength, NoAtom, Variables, NetCount, Constants, Rows, NoUnifier, NotListed, LastKey, ShortBuffer, LongValue}
 use Rattle.numbers.specs.First.{First, NoneOf, here, later, end, also}
+
+-- the refusals in the table's order; no row has the number 0
+rows : List Refusal
+rows =
+    BlockLength
+    ∷ BlockLength
+    ∷ Check
+    ∷ BlockNumber
+    ∷ TermLength
+    ∷ Term
+    ∷ Filler
+    ∷ SideLength
+    ∷ NoAtom
+    ∷ Variables
+    ∷ NetCount
+    ∷ Constants
+    ∷ Rows
+    ∷ NoUnifier
+    ∷ NotListed
+    ∷ LastKey
+    ∷ ShortBuffer
+    ∷ LongValue
+    ∷ []
+
+-- the refusal that stands in a row
+refusalOf : ℕ → Refusal
+refusalOf n = getD rows n BlockLength
+
+refusalOf-numberOf : (r : Refusal) → refusalOf (numberOf r) ≡ r
+unfolding rows refusalOf
+refusalOf-numberOf BlockLength = refl
+refusalOf-numberOf Check = refl
+refusalOf-numberOf BlockNumber = refl
+refusalOf-numberOf TermLength = refl
+refusalOf-numberOf Term = refl
+refusalOf-numberOf Filler = refl
+refusalOf-numberOf SideLength = refl
+refusalOf-numberOf NoAtom = refl
+refusalOf-numberOf Variables = refl
+refusalOf-numberOf NetCount = refl
+refusalOf-numberOf Constants = refl
+refusalOf-numberOf Rows = refl
+refusalOf-numberOf NoUnifier = refl
+refusalOf-numberOf NotListed = refl
+refusalOf-numberOf LastKey = refl
+refusalOf-numberOf ShortBuffer = refl
+refusalOf-numberOf LongValue = refl
+
+-- a number names one refusal
+pub numberOf-one-to-one : (r s : Refusal) → numberOf r ≡ numberOf s → r ≡ s
+numberOf-one-to-one r s e = sym (refusalOf-numberOf r) ∙ ap refusalOf e ∙ refusalOf-numberOf s
 
 module _ {Given : ℕ → Type 0} where
   -- two first numbers of one list are the same

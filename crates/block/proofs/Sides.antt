@@ -1,0 +1,116 @@
+-- Reading a block after its header: the parts of it that are looked at, and a law for each way in which that ends.
+use Prim.Native.Nat.{ℕ, zero, suc, _+_, _-_, _*_, _≤_, _<_}
+use mathlib.Core.Path.{_≡_, refl, ap, sym, _∙_}
+use mathlib.Core.Bool.{Bool, true, false, not}
+use mathlib.Core.Logic.{inl, inr}
+use mathlib.Core.List.{List, [], _∷_, map-id}
+use native.Mathlib.Nat.{sub-zero}
+use native.Mathlib.Omega.{arith}
+use borrow.Author.Tests.{not-true, not-false}
+use lib.ListN.{length, take, drop, length-take}
+use lib.Seq.{slice, take-nil}
+use Rattle.ac.specs.Term.{Term, flatten}
+use Rattle.numbers.specs.declared.Refusal.{Refusal}
+use Rattle.numbers.specs.declared.Refusal.the-variants as refusal
+use Rattle.block.specs.Front.{Writes, rightSide}
+use Rattle.block.specs.Block.{leftLength, rightLength, leftTerm, rightTerm, filler}
+use Rattle.block.specs.Table.{NoTerm}
+use Rattle.block.specs.Read.{receives}
+use Rattle.block.specs.Inner.{TakesApart, atoms, no-term, allZero, Refuses, GoodHeader, SettlesHeader, is-refused, is-good, SettlesBlock, is-read}
+use Rattle.block.specs.declared.ReadAnswer.the-variants.{Sides}
+use Rattle.block.specs.declared.header.Header.{Header}
+use Rattle.block.specs.declared.header.Header.the-variants.{Lengths}
+use Rattle.block.specs.declared.term.Side.{Side}
+use Rattle.block.specs.declared.term.Side.the-variants as side
+use Rattle.block.proofs.Settled.{term-first, filler-first, none-given}
+
+-- a part of a list, as it is lent, is that slice of the list
+part-is-slice : (from to : ℕ) (l : List ℕ) → from ≤ to → take (to - from) (drop from l) ≡ slice from to l
+part-is-slice zero to l h = ap (λ (n : ℕ). take n l) (sub-zero to)
+part-is-slice (suc from) zero l h = absurd (omega arith)
+part-is-slice (suc from) (suc to) [] h = take-nil (suc to - suc from)
+part-is-slice (suc from) (suc to) (a ∷ l) h = ap (λ (n : ℕ). take n (drop from l)) (let e : suc to - suc from ≡ to - from = omega arith in e) ∙ part-is-slice from to l (omega arith)
+
+-- what `Lengths` tells
+pub record HeaderLengths (block : List ℕ) (number left right : ℕ) : Type 0 where
+  pub good : GoodHeader block number
+  pub left-is : left ≡ leftLength block
+  pub right-is : right ≡ rightLength block
+
+pub when-lengths : {block : List ℕ} {number left right : ℕ} {h : Header} → SettlesHeader block number h → h ≡ Lengths left right → HeaderLengths block number left right
+when-lengths (is-refused r) e = absurd (let z : _≡_ {A = ℕ} 0 1 = cc e in omega arith)
+when-lengths (is-good g) e = record { good = g; left-is = cc e; right-is = cc e }
+
+pub when-refused : {block : List ℕ} {number : ℕ} {h : Header} {why : Refusal} → SettlesHeader block number h → h ≡ Header.Refused why → Refuses block number why
+when-refused {why = why} (is-refused {refusal = r} f) e = let same : r ≡ why = cc e in rw (← same) f
+when-refused (is-good g) e = absurd (let z : _≡_ {A = ℕ} 0 1 = cc e in omega arith)
+
+-- what `Atoms` tells
+pub record SideTerm (bytes buffer : List ℕ) (count : ℕ) (after : List ℕ) : Type 0 where
+  pub term : Term
+  pub writes : Writes bytes term
+  pub count-is : count ≡ length (flatten term)
+  pub after-is : after ≡ receives buffer (flatten term)
+
+pub when-atoms : {bytes buffer after : List ℕ} {count : ℕ} {s : Side} → TakesApart bytes buffer s after → s ≡ side.Atoms count → SideTerm bytes buffer count after
+when-atoms (atoms {t} w) e = record { term = t; writes = w; count-is = cc e; after-is = refl }
+when-atoms (no-term none) e = absurd (let z : _≡_ {A = ℕ} 0 1 = cc e in omega arith)
+
+pub when-no-term : {bytes buffer after : List ℕ} {s : Side} → TakesApart bytes buffer s after → s ≡ side.NoTerm → NoTerm bytes
+when-no-term (atoms w) e = absurd (let z : _≡_ {A = ℕ} 0 1 = cc e in omega arith)
+when-no-term (no-term none) e = none
+
+-- the right term's atoms are themselves
+right-side-is : (t : Term) → rightSide t ≡ flatten t
+right-side-is t = map-id (flatten t)
+
+module _ {block : List ℕ} {number l r : ℕ} (h : HeaderLengths block number l r) where
+  -- both terms end before the check
+  pub terms-fit : (length block ≡ 512) × (l ≤ 127) × (r ≤ 127)
+  terms-fit = (h .good .whole, omega (arith, h .left-is, h .good .left-length), omega (arith, h .right-is, h .good .right-length))
+
+  abbrev leftPart : List ℕ
+  leftPart = take (4 + l - 4) (drop 4 block)
+
+  abbrev rightPart : List ℕ
+  rightPart = take (4 + l + r - (4 + l)) (drop (4 + l) block)
+
+  abbrev fillerPart : List ℕ
+  fillerPart = take (510 - (4 + l + r)) (drop (4 + l + r) block)
+
+  left-part-is : leftPart ≡ leftTerm block
+  left-part-is = part-is-slice 4 (4 + l) block (omega arith) ∙ ap (λ (n : ℕ). slice 4 (4 + n) block) (h .left-is)
+
+  right-part-is : rightPart ≡ rightTerm block
+  right-part-is = part-is-slice (4 + l) (4 + l + r) block (omega arith) ∙ rw (h .left-is, h .right-is)
+
+  filler-part-is : fillerPart ≡ filler block
+  filler-part-is = part-is-slice (4 + l + r) 510 block (omega (arith, terms-fit)) ∙ rw (h .left-is, h .right-is)
+
+  -- 64 places are enough for a term's atoms
+  pub left-fits : {room : ℕ} → 64 ≤ room → length leftPart < 2 * room
+  left-fits enough = simp length-take (omega (arith, terms-fit))
+
+  pub right-fits : {room : ℕ} → 64 ≤ room → length rightPart < 2 * room
+  right-fits enough = simp length-take (omega (arith, terms-fit))
+
+  pub left-missing : NoTerm leftPart → Refuses block number refusal.Term
+  left-missing none = term-first (h .good) (inl (rw left-part-is at none))
+
+  pub right-missing : NoTerm rightPart → Refuses block number refusal.Term
+  right-missing none = term-first (h .good) (inr (rw right-part-is at none))
+
+  module _ {left right left-after right-after : List ℕ} {m n : ℕ} (f : SideTerm leftPart left m left-after) (g : SideTerm rightPart right n right-after) where
+    left-writes : Writes (leftTerm block) (f .term)
+    left-writes = rw left-part-is at (f .writes)
+
+    right-writes : Writes (rightTerm block) (g .term)
+    right-writes = rw right-part-is at (g .writes)
+
+    pub filler-wrong : {z : Bool} → z ≡ allZero fillerPart → not z ≡ true → Refuses block number refusal.Filler
+    filler-wrong {z} e t = filler-first (h .good) left-writes right-writes (rw filler-part-is at (sym e ∙ not-true z t))
+
+    pub sides-read : {z : Bool} → z ≡ allZero fillerPart → not z ≡ false → SettlesBlock block number left right (Sides m n) left-after right-after
+    sides-read {z} e t =
+        rw (f .count-is, g .count-is, f .after-is, g .after-is, ← right-side-is (g .term))
+        (is-read (none-given (h .good) left-writes right-writes (rw filler-part-is at (sym e ∙ not-false z t))) left-writes right-writes)

@@ -1,0 +1,437 @@
+-- The proof of the cycle of calls {flatten, flatten_two}. The measure is twice the bytes left, and one more after a plus.
+-- `flatten` looks at the first byte; `flatten_two` finds the two terms after a plus. Assumes nothing.
+use Prim.Native.Nat.{ℕ, _+_, _*_, _<_}
+use lib.ListN.{length}
+use Rattle.block.specs.Inner.{found, nothing}
+use Rattle.block.proofs.Begins.{empty-begins-not, above-begins-not, after-first-byte, after-plus-byte, variable-may-be-written, constant-may-be-written, plus-is-128, refused-is-above, first-missing, when-found, when-nothing, found-sizes, filled-within, second-sizes, second-nothing, found-both}
+use borrow.Author.Needs.{needs}
+use native.Mathlib.Omega.{arith}
+use borrow.Fn.Kinds.{In}
+use borrow.Fn.PlainCycle.{Measures, is, falls, and}
+use Rattle.block.proofs.term.flatten.Reads as flatten
+use Rattle.block.proofs.term.flatten.Kinds as flatten-kinds
+use Rattle.block.proofs.term.+flatten+flatten_two.Lts-flatten as flatten-lts
+use Rattle.block.proofs.term.flatten_two.Reads as flatten-two
+use Rattle.block.proofs.term.flatten_two.Kinds as flatten-two-kinds
+use Rattle.block.proofs.term.+flatten+flatten_two.Lts-flatten_two as flatten-two-lts
+use Rattle.block.proofs.term.classify.Reads as classify-reads
+use Rattle.block.proofs.term.flatten_atom.Reads as flatten-atom-reads
+use Rattle.block.proofs.term.+flatten+flatten_two.{statement}
+use Rattle.block.proofs.term.+flatten+flatten_two.Tie.{close}
+
+abbrev μ-flatten : Measures 2 flatten-kinds.ps ℕ
+μ-flatten κs a = 2 * length (a .0 .now)
+
+abbrev μ-flatten-two : Measures 2 flatten-two-kinds.ps ℕ
+μ-flatten-two κs a = 2 * length (a .0 .now) + 1
+
+abbrev flatten-at : ℕ → In 2 flatten-kinds.ps
+flatten-at t = and 2 flatten-kinds.ps (is 2 flatten-kinds.ps μ-flatten t) flatten.Pre
+
+abbrev flatten-below : ℕ → In 2 flatten-kinds.ps
+flatten-below t = and 2 flatten-kinds.ps (falls 2 flatten-kinds.ps _<_ μ-flatten t) flatten.Pre
+
+abbrev flatten-two-at : ℕ → In 2 flatten-two-kinds.ps
+flatten-two-at t =
+    and 2 flatten-two-kinds.ps (is 2 flatten-two-kinds.ps μ-flatten-two t) flatten-two.Pre
+
+abbrev flatten-two-below : ℕ → In 2 flatten-two-kinds.ps
+flatten-two-below t =
+    and 2 flatten-two-kinds.ps (falls 2 flatten-two-kinds.ps _<_ μ-flatten-two t) flatten-two.Pre
+
+flatten-returns : (t : ℕ) → flatten-lts.Need-returns (
+  classify-reads.Asked,
+  classify-reads.Learnt,
+  flatten-atom-reads.Asked,
+  flatten-atom-reads.Learnt,
+  flatten-two-below t,
+  flatten-two.Post,
+) (flatten-at t) flatten.Post
+flatten-returns t c = nothing (empty-begins-not (c .if1 .taken))
+
+flatten-shared-slice-read-byte : (t : ℕ) → flatten-lts.Need-shared-slice-read-byte (
+  classify-reads.Asked,
+  classify-reads.Learnt,
+  flatten-atom-reads.Asked,
+  flatten-atom-reads.Learnt,
+  flatten-two-below t,
+  flatten-two.Post,
+) (flatten-at t) flatten.Post
+flatten-shared-slice-read-byte t c = search needs
+
+flatten-classify-requires : (t : ℕ) → flatten-lts.Need-classify-requires (
+  classify-reads.Asked,
+  classify-reads.Learnt,
+  flatten-atom-reads.Asked,
+  flatten-atom-reads.Learnt,
+  flatten-two-below t,
+  flatten-two.Post,
+) (flatten-at t) flatten.Post
+flatten-classify-requires t c κs = search needs
+
+flatten-enum-told : (t : ℕ) → flatten-lts.Need-enum-told (
+  classify-reads.Asked,
+  classify-reads.Learnt,
+  flatten-atom-reads.Asked,
+  flatten-atom-reads.Learnt,
+  flatten-two-below t,
+  flatten-two.Post,
+) (flatten-at t) flatten.Post
+flatten-enum-told t c = search needs
+
+flatten-flatten-atom-requires : (t : ℕ) → flatten-lts.Need-flatten-atom-requires (
+  classify-reads.Asked,
+  classify-reads.Learnt,
+  flatten-atom-reads.Asked,
+  flatten-atom-reads.Learnt,
+  flatten-two-below t,
+  flatten-two.Post,
+) (flatten-at t) flatten.Post
+flatten-flatten-atom-requires t c κs = ((variable-may-be-written (rw (c .before .enum-told .given .1) at (c .before .before .before .classify .ensures))), omega (arith, c .before .before .before .before .before .before .before .before .pre .1, c .before .before .before .before .before .if1 .left))
+
+flatten-enum-told-2 : (t : ℕ) → flatten-lts.Need-enum-told-2 (
+  classify-reads.Asked,
+  classify-reads.Learnt,
+  flatten-atom-reads.Asked,
+  flatten-atom-reads.Learnt,
+  flatten-two-below t,
+  flatten-two.Post,
+) (flatten-at t) flatten.Post
+flatten-enum-told-2 t c = search needs
+
+flatten-flatten-atom-requires-2 : (t : ℕ) → flatten-lts.Need-flatten-atom-requires-2 (
+  classify-reads.Asked,
+  classify-reads.Learnt,
+  flatten-atom-reads.Asked,
+  flatten-atom-reads.Learnt,
+  flatten-two-below t,
+  flatten-two.Post,
+) (flatten-at t) flatten.Post
+flatten-flatten-atom-requires-2 t c κs = ((constant-may-be-written (rw (c .before .enum-told2 .given .1) at (c .before .before .before .classify .ensures))), omega (arith, c .before .before .before .before .before .before .before .before .pre .1, c .before .before .before .before .before .if1 .left))
+
+flatten-enum-told-3 : (t : ℕ) → flatten-lts.Need-enum-told-3 (
+  classify-reads.Asked,
+  classify-reads.Learnt,
+  flatten-atom-reads.Asked,
+  flatten-atom-reads.Learnt,
+  flatten-two-below t,
+  flatten-two.Post,
+) (flatten-at t) flatten.Post
+flatten-enum-told-3 t c = search needs
+
+flatten-sub-flatten-two : (t : ℕ) → flatten-lts.Need-sub-flatten-two (
+  classify-reads.Asked,
+  classify-reads.Learnt,
+  flatten-atom-reads.Asked,
+  flatten-atom-reads.Learnt,
+  flatten-two-below t,
+  flatten-two.Post,
+) (flatten-at t) flatten.Post
+flatten-sub-flatten-two t c = search needs
+
+flatten-part-flatten-two-start : (t : ℕ) → flatten-lts.Need-part-flatten-two-start (
+  classify-reads.Asked,
+  classify-reads.Learnt,
+  flatten-atom-reads.Asked,
+  flatten-atom-reads.Learnt,
+  flatten-two-below t,
+  flatten-two.Post,
+) (flatten-at t) flatten.Post
+flatten-part-flatten-two-start t c = search needs
+
+flatten-part-flatten-two-end : (t : ℕ) → flatten-lts.Need-part-flatten-two-end (
+  classify-reads.Asked,
+  classify-reads.Learnt,
+  flatten-atom-reads.Asked,
+  flatten-atom-reads.Learnt,
+  flatten-two-below t,
+  flatten-two.Post,
+) (flatten-at t) flatten.Post
+flatten-part-flatten-two-end t c = search needs
+
+flatten-flatten-two-requires : (t : ℕ) → flatten-lts.Need-flatten-two-requires (
+  classify-reads.Asked,
+  classify-reads.Learnt,
+  flatten-atom-reads.Asked,
+  flatten-atom-reads.Learnt,
+  flatten-two-below t,
+  flatten-two.Post,
+) (flatten-at t) flatten.Post
+flatten-flatten-two-requires t c κs = search needs
+
+flatten-enum-told-4 : (t : ℕ) → flatten-lts.Need-enum-told-4 (
+  classify-reads.Asked,
+  classify-reads.Learnt,
+  flatten-atom-reads.Asked,
+  flatten-atom-reads.Learnt,
+  flatten-two-below t,
+  flatten-two.Post,
+) (flatten-at t) flatten.Post
+flatten-enum-told-4 t c = search needs
+
+flatten-same-length : (t : ℕ) → flatten-lts.Need-same-length (
+  classify-reads.Asked,
+  classify-reads.Learnt,
+  flatten-atom-reads.Asked,
+  flatten-atom-reads.Learnt,
+  flatten-two-below t,
+  flatten-two.Post,
+) (flatten-at t) flatten.Post
+flatten-same-length t c = search needs
+
+flatten-returns-2 : (t : ℕ) → flatten-lts.Need-returns-2 (
+  classify-reads.Asked,
+  classify-reads.Learnt,
+  flatten-atom-reads.Asked,
+  flatten-atom-reads.Learnt,
+  flatten-two-below t,
+  flatten-two.Post,
+) (flatten-at t) flatten.Post
+flatten-returns-2 t c = after-first-byte (omega (arith, c .before .before .before .before .before .before .before .before .if1 .left)) (c .before .before .flatten-atom .ensures _)
+
+flatten-same-length-2 : (t : ℕ) → flatten-lts.Need-same-length-2 (
+  classify-reads.Asked,
+  classify-reads.Learnt,
+  flatten-atom-reads.Asked,
+  flatten-atom-reads.Learnt,
+  flatten-two-below t,
+  flatten-two.Post,
+) (flatten-at t) flatten.Post
+flatten-same-length-2 t c = search needs
+
+flatten-returns-3 : (t : ℕ) → flatten-lts.Need-returns-3 (
+  classify-reads.Asked,
+  classify-reads.Learnt,
+  flatten-atom-reads.Asked,
+  flatten-atom-reads.Learnt,
+  flatten-two-below t,
+  flatten-two.Post,
+) (flatten-at t) flatten.Post
+flatten-returns-3 t c = after-first-byte (omega (arith, c .before .before .before .before .before .before .before .before .if1 .left)) (c .before .before .flatten-atom2 .ensures _)
+
+flatten-same-length-3 : (t : ℕ) → flatten-lts.Need-same-length-3 (
+  classify-reads.Asked,
+  classify-reads.Learnt,
+  flatten-atom-reads.Asked,
+  flatten-atom-reads.Learnt,
+  flatten-two-below t,
+  flatten-two.Post,
+) (flatten-at t) flatten.Post
+flatten-same-length-3 t c = search needs
+
+flatten-returns-4 : (t : ℕ) → flatten-lts.Need-returns-4 (
+  classify-reads.Asked,
+  classify-reads.Learnt,
+  flatten-atom-reads.Asked,
+  flatten-atom-reads.Learnt,
+  flatten-two-below t,
+  flatten-two.Post,
+) (flatten-at t) flatten.Post
+flatten-returns-4 t c = after-plus-byte (omega (arith, c .before .before .before .before .before .before .before .before .before .if1 .left)) (plus-is-128 (rw (c .before .before .before .before .before .enum-told3 .given .1) at (c .before .before .before .before .before .before .before .classify .ensures))) (c .before .before .flatten-two .ensures)
+
+flatten-returns-5 : (t : ℕ) → flatten-lts.Need-returns-5 (
+  classify-reads.Asked,
+  classify-reads.Learnt,
+  flatten-atom-reads.Asked,
+  flatten-atom-reads.Learnt,
+  flatten-two-below t,
+  flatten-two.Post,
+) (flatten-at t) flatten.Post
+flatten-returns-5 t c = after-first-byte (omega (arith, c .before .before .before .before .if1 .left)) (nothing (above-begins-not (refused-is-above (rw (c .enum-told4 .given .1) at (c .before .before .classify .ensures)))))
+
+flatten-two-flatten-requires : (t : ℕ) → flatten-two-lts.Need-flatten-requires (
+  flatten-below t,
+  flatten.Post,
+) (flatten-two-at t) flatten-two.Post
+flatten-two-flatten-requires t c κs = search needs
+
+flatten-two-enum-known-first : (t : ℕ) → flatten-two-lts.Need-enum-known-first (
+  flatten-below t,
+  flatten.Post,
+) (flatten-two-at t) flatten-two.Post
+flatten-two-enum-known-first t c = search needs
+
+flatten-two-enum-told :
+    (t : ℕ) →
+    flatten-two-lts.Need-enum-told
+    (flatten-below t, flatten.Post)
+    (flatten-two-at t)
+    flatten-two.Post
+flatten-two-enum-told t c = search needs
+
+flatten-two-same-length : (t : ℕ) → flatten-two-lts.Need-same-length (
+  flatten-below t,
+  flatten.Post,
+) (flatten-two-at t) flatten-two.Post
+flatten-two-same-length t c = search needs
+
+flatten-two-returns :
+    (t : ℕ) →
+    flatten-two-lts.Need-returns
+    (flatten-below t, flatten.Post)
+    (flatten-two-at t)
+    flatten-two.Post
+flatten-two-returns t c = nothing (first-missing (when-nothing (c .before .before .before .before .flatten .ensures) (c .enum-told .given .1)))
+
+flatten-two-sub-flatten : (t : ℕ) → flatten-two-lts.Need-sub-flatten (
+  flatten-below t,
+  flatten.Post,
+) (flatten-two-at t) flatten-two.Post
+flatten-two-sub-flatten t c = omega (arith, found-sizes (when-found (c .before .before .before .before .before .flatten .ensures) (c .before .first .given .1)))
+
+flatten-two-part-flatten-start : (t : ℕ) → flatten-two-lts.Need-part-flatten-start (
+  flatten-below t,
+  flatten.Post,
+) (flatten-two-at t) flatten-two.Post
+flatten-two-part-flatten-start t c = found-sizes (when-found (c .before .before .before .before .before .flatten .ensures) (c .before .first .given .1)) .0
+
+flatten-two-part-flatten-end : (t : ℕ) → flatten-two-lts.Need-part-flatten-end (
+  flatten-below t,
+  flatten.Post,
+) (flatten-two-at t) flatten-two.Post
+flatten-two-part-flatten-end t c = search needs
+
+flatten-two-sub-flatten-2 : (t : ℕ) → flatten-two-lts.Need-sub-flatten-2 (
+  flatten-below t,
+  flatten.Post,
+) (flatten-two-at t) flatten-two.Post
+flatten-two-sub-flatten-2 t c = filled-within (when-found (c .before .before .before .before .before .before .flatten .ensures) (c .before .before .first .given .1))
+
+flatten-two-part-flatten-start-2 : (t : ℕ) → flatten-two-lts.Need-part-flatten-start-2 (
+  flatten-below t,
+  flatten.Post,
+) (flatten-two-at t) flatten-two.Post
+flatten-two-part-flatten-start-2 t c = filled-within (when-found (c .before .before .before .before .before .before .flatten .ensures) (c .before .before .first .given .1))
+
+flatten-two-part-flatten-end-2 : (t : ℕ) → flatten-two-lts.Need-part-flatten-end-2 (
+  flatten-below t,
+  flatten.Post,
+) (flatten-two-at t) flatten-two.Post
+flatten-two-part-flatten-end-2 t c = search needs
+
+flatten-two-flatten-requires-2 : (t : ℕ) → flatten-two-lts.Need-flatten-requires-2 (
+  flatten-below t,
+  flatten.Post,
+) (flatten-two-at t) flatten-two.Post
+flatten-two-flatten-requires-2 t c κs = let sizes = second-sizes (when-found (c .before .before .before .before .before .before .before .flatten .ensures) (c .before .before .before .first .given .1)) (c .before .before .before .before .before .before .before .before .before .before .before .pre .1) (c .before .before .before .before .before .before .before .flatten .kept .1 .0) in (omega (arith, sizes .0, c .before .before .before .before .before .before .before .before .before .before .before .pre .0), sizes .1)
+
+flatten-two-enum-known-second : (t : ℕ) → flatten-two-lts.Need-enum-known-second (
+  flatten-below t,
+  flatten.Post,
+) (flatten-two-at t) flatten-two.Post
+flatten-two-enum-known-second t c = search needs
+
+flatten-two-enum-told-2 : (t : ℕ) → flatten-two-lts.Need-enum-told-2 (
+  flatten-below t,
+  flatten.Post,
+) (flatten-two-at t) flatten-two.Post
+flatten-two-enum-told-2 t c = search needs
+
+flatten-two-same-length-2 : (t : ℕ) → flatten-two-lts.Need-same-length-2 (
+  flatten-below t,
+  flatten.Post,
+) (flatten-two-at t) flatten-two.Post
+flatten-two-same-length-2 t c = search needs
+
+flatten-two-returns-2 :
+    (t : ℕ) →
+    flatten-two-lts.Need-returns-2
+    (flatten-below t, flatten.Post)
+    (flatten-two-at t)
+    flatten-two.Post
+flatten-two-returns-2 t c = nothing (second-nothing (when-found (c .before .before .before .before .before .before .before .before .before .before .before .before .flatten .ensures) (c .before .before .before .before .before .before .before .before .first .given .1)) (when-nothing (c .before .before .before .before .flatten2 .ensures) (c .enum-told2 .given .1)))
+
+flatten-two-add-t12 :
+    (t : ℕ) →
+    flatten-two-lts.Need-add-t12
+    (flatten-below t, flatten.Post)
+    (flatten-two-at t)
+    flatten-two.Post
+flatten-two-add-t12 t c = omega (arith, found-sizes (when-found (c .before .before .before .before .before .before .before .before .before .before .before .before .before .flatten .ensures) (c .before .before .before .before .before .before .before .before .before .first .given .1)), c .before .before .before .before .before .before .before .before .before .before .before .before .before .before .before .before .before .good)
+
+flatten-two-add-t16 :
+    (t : ℕ) →
+    flatten-two-lts.Need-add-t16
+    (flatten-below t, flatten.Post)
+    (flatten-two-at t)
+    flatten-two.Post
+flatten-two-add-t16 t c = omega (arith, found-sizes (when-found (c .before .before .before .before .before .before .before .before .before .before .before .before .before .flatten .ensures) (c .before .before .before .before .before .before .before .before .before .first .given .1)), found-sizes (when-found (c .before .before .before .before .before .flatten2 .ensures) (c .before .second .given .1)), c .before .before .before .before .before .before .before .before .before .before .before .before .before .before .before .before .before .good)
+
+flatten-two-add-t19 :
+    (t : ℕ) →
+    flatten-two-lts.Need-add-t19
+    (flatten-below t, flatten.Post)
+    (flatten-two-at t)
+    flatten-two.Post
+flatten-two-add-t19 t c = omega (arith, found-sizes (when-found (c .before .before .before .before .before .before .before .before .before .before .before .before .before .flatten .ensures) (c .before .before .before .before .before .before .before .before .before .first .given .1)), found-sizes (when-found (c .before .before .before .before .before .flatten2 .ensures) (c .before .second .given .1)), c .before .before .before .before .before .before .before .before .before .before .before .before .before .before .before .before .before .good)
+
+flatten-two-same-length-3 : (t : ℕ) → flatten-two-lts.Need-same-length-3 (
+  flatten-below t,
+  flatten.Post,
+) (flatten-two-at t) flatten-two.Post
+flatten-two-same-length-3 t c = search needs
+
+flatten-two-returns-3 :
+    (t : ℕ) →
+    flatten-two-lts.Need-returns-3
+    (flatten-below t, flatten.Post)
+    (flatten-two-at t)
+    flatten-two.Post
+flatten-two-returns-3 t c = found-both (when-found (c .before .before .before .before .before .before .before .before .before .before .before .before .before .flatten .ensures) (c .before .before .before .before .before .before .before .before .before .first .given .1)) (when-found (c .before .before .before .before .before .flatten2 .ensures) (c .before .second .given .1))
+
+pub +flatten+flatten-two-spec : {M : Type 1} → statement M
++flatten+flatten-two-spec = close μ-flatten μ-flatten-two (λ t. flatten-lts.spec (
+  classify-reads.Asked,
+  classify-reads.Learnt,
+  flatten-atom-reads.Asked,
+  flatten-atom-reads.Learnt,
+  flatten-two-below t,
+  flatten-two.Post,
+)
+    (flatten-at t)
+    flatten.Post
+    (flatten-returns t)
+    (flatten-shared-slice-read-byte t)
+    (flatten-classify-requires t)
+    (flatten-enum-told t)
+    (flatten-flatten-atom-requires t)
+    (flatten-enum-told-2 t)
+    (flatten-flatten-atom-requires-2 t)
+    (flatten-enum-told-3 t)
+    (flatten-sub-flatten-two t)
+    (flatten-part-flatten-two-start t)
+    (flatten-part-flatten-two-end t)
+    (flatten-flatten-two-requires t)
+    (flatten-enum-told-4 t)
+    (flatten-same-length t)
+    (flatten-returns-2 t)
+    (flatten-same-length-2 t)
+    (flatten-returns-3 t)
+    (flatten-same-length-3 t)
+    (flatten-returns-4 t)
+    (flatten-returns-5 t))
+    λ t. flatten-two-lts.spec
+    (flatten-below t, flatten.Post)
+    (flatten-two-at t)
+    flatten-two.Post
+    (flatten-two-flatten-requires t)
+    (flatten-two-enum-known-first t)
+    (flatten-two-enum-told t)
+    (flatten-two-same-length t)
+    (flatten-two-returns t)
+    (flatten-two-sub-flatten t)
+    (flatten-two-part-flatten-start t)
+    (flatten-two-part-flatten-end t)
+    (flatten-two-sub-flatten-2 t)
+    (flatten-two-part-flatten-start-2 t)
+    (flatten-two-part-flatten-end-2 t)
+    (flatten-two-flatten-requires-2 t)
+    (flatten-two-enum-known-second t)
+    (flatten-two-enum-told-2 t)
+    (flatten-two-same-length-2 t)
+    (flatten-two-returns-2 t)
+    (flatten-two-add-t12 t)
+    (flatten-two-add-t16 t)
+    (flatten-two-add-t19 t)
+    (flatten-two-same-length-3 t)
+    (flatten-two-returns-3 t)

@@ -1,0 +1,85 @@
+-- What the functions below Read give.
+use Prim.Native.Nat.{ℕ, _≤_, _<_}
+use mathlib.Core.Path.{_≡_}
+use mathlib.Core.Bool.{Bool, true, false, _&&_}
+use mathlib.Core.List.{List, [], _∷_, _++_}
+use lib.Dec.{eqb}
+use lib.ListN.{length}
+use Rattle.ac.specs.Term.{Term, flatten}
+use Rattle.numbers.specs.Numbers.{numberOf}
+use Rattle.numbers.specs.First.{First, NoneOf}
+use Rattle.numbers.specs.declared.Refusal.{Refusal}
+use Rattle.block.specs.Front.{encode, Writable, Writes, leftSide, rightSide}
+use Rattle.block.specs.Block.{blockNumber, leftLength, rightLength, leftTerm, rightTerm, check, checkOfBytes}
+use Rattle.block.specs.Table.{ReadGiven, NoLength, NoTerm, blockNumbers}
+use Rattle.block.specs.Read.{receives}
+use Rattle.block.specs.declared.ReadAnswer.{ReadAnswer}
+use Rattle.block.specs.declared.ReadAnswer.the-variants.{Sides}
+use Rattle.block.specs.declared.header.Header.{Header}
+use Rattle.block.specs.declared.header.Header.the-variants.{Lengths}
+use Rattle.block.specs.declared.term.Kind.{Kind}
+use Rattle.block.specs.declared.term.Kind.the-variants.{Variable, Constant, Plus, Refused}
+use Rattle.block.specs.declared.term.Flattened.{Flattened}
+use Rattle.block.specs.declared.term.Flattened.the-variants.{Found, Nothing}
+use Rattle.block.specs.declared.term.Side.{Side}
+use Rattle.block.specs.declared.term.Side.the-variants as side
+
+-- 0 to 63 are variables, 64 to 127 are constants, 128 is followed by two terms, and a byte 129 to 255 is no term.
+pub data Classified (byte : ℕ) : Kind → Type 0 where
+  variable : byte < 64 → Classified byte Variable
+  constant : 64 ≤ byte → byte < 128 → Classified byte Constant
+  plus : byte ≡ 128 → Classified byte Plus
+  refused : 128 < byte → Classified byte Refused
+
+-- The bytes begin with this term.
+pub record Begins (bytes : List ℕ) (t : Term) : Type 0 where
+  pub rest : List ℕ
+  pub splits : bytes ≡ encode t ++ rest
+  pub writable : Writable t
+
+-- The term that the bytes begin with, by how many bytes it takes and how many atoms it has, which stand at the start of the buffer.
+pub data Flattens (bytes buffer : List ℕ) : Flattened → List ℕ → Type 0 where
+  found : {t : Term} → Begins bytes t → Flattens bytes buffer (Found (length (encode t)) (length (flatten t))) (receives buffer (flatten t))
+  nothing : {after : List ℕ} → ((t : Term) → Begins bytes t → ⊥) → Flattens bytes buffer Nothing after
+
+-- The term that the bytes are, by how many atoms it has, which stand at the start of the buffer.
+pub data TakesApart (bytes buffer : List ℕ) : Side → List ℕ → Type 0 where
+  atoms : {t : Term} → Writes bytes t → TakesApart bytes buffer (side.Atoms (length (flatten t))) (receives buffer (flatten t))
+  no-term : {after : List ℕ} → NoTerm bytes → TakesApart bytes buffer side.NoTerm after
+
+-- Each is 1 to 127.
+pub data TermLength (n : ℕ) : Bool → Type 0 where
+  within : 1 ≤ n → n ≤ 127 → TermLength n true
+  outside : NoLength n → TermLength n false
+
+-- every byte is 0
+abbrev pub allZero : List ℕ → Bool
+allZero [] = true
+allZero (b ∷ bytes) = eqb b 0 && allZero bytes
+
+-- The block is refused with this number, whatever the buffers: it is the first that the block itself gives.
+pub record Refuses (block : List ℕ) (number : ℕ) (refusal : Refusal) : Type 0 where
+  pub first : (left right : List ℕ) → First (ReadGiven block number left right) blockNumbers (numberOf refusal)
+
+-- Nothing is wrong with the block before its terms.
+pub record GoodHeader (block : List ℕ) (number : ℕ) : Type 0 where
+  pub whole : length block ≡ 512
+  pub checked : check block ≡ checkOfBytes block
+  pub numbered : blockNumber block ≡ number
+  pub left-length : (1 ≤ leftLength block) × (leftLength block ≤ 127)
+  pub right-length : (1 ≤ rightLength block) × (rightLength block ≤ 127)
+
+-- Numbers 1 to 4 are settled: one of them is given, or the two lengths are.
+pub data SettlesHeader (block : List ℕ) (number : ℕ) : Header → Type 0 where
+  is-refused : {refusal : Refusal} → Refuses block number refusal → SettlesHeader block number (Header.Refused refusal)
+  is-good : GoodHeader block number → SettlesHeader block number (Lengths (leftLength block) (rightLength block))
+
+-- Numbers 1 to 6 are settled: one of them is given, or the buffers receive the sides.
+pub data SettlesBlock (block : List ℕ) (number : ℕ) (left right : List ℕ) : ReadAnswer → List ℕ → List ℕ → Type 0 where
+  is-refused : {refusal : Refusal} {l r : List ℕ} → Refuses block number refusal → SettlesBlock block number left right (ReadAnswer.Refused refusal) l r
+  is-read :
+      {s t : Term} →
+      ((left right : List ℕ) → NoneOf (ReadGiven block number left right) blockNumbers) →
+      Writes (leftTerm block) s →
+      Writes (rightTerm block) t →
+      SettlesBlock block number left right (Sides (length (leftSide s)) (length (rightSide t))) (receives left (leftSide s)) (receives right (rightSide t))

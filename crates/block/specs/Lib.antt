@@ -1,0 +1,5 @@
+pub mod Front
+pub mod Block
+pub mod Table
+pub mod Read
+pub mod Inner

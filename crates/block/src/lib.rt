@@ -1,0 +1,93 @@
+// Library blocks: the question Read (document 01).
+mod header;
+mod term;
+
+use header::Header;
+use numbers::Refusal;
+use term::Side;
+ghost use mathlib.Core.Path.{_≡_};
+ghost use Prim.Native.Nat.{_≤_};
+ghost use lib.ListN.{length};
+ghost use Rattle.block.specs.Read.{told, ReadPromise};
+ghost use Rattle.block.specs.Inner.{allZero, SettlesBlock};
+
+// What Read answers: the lengths of the two flattened sides, or why the block was refused.
+pub enum ReadAnswer {
+    Sides { left: usize, right: usize },
+    Refused(Refusal),
+}
+
+// Reads a block that is to have this number. The flattened sides go into the two buffers once nothing can be refused any more.
+pub fn read(block: &[u8], number: u16, left: &mut [u8], right: &mut [u8]) -> ReadAnswer
+    ensures { λ r. ⌜ ReadPromise (now (block .entry)) number (now (left .entry)) (now (right .entry)) (told r) (now (left .exit)) (now (right .exit)) ⌝ }
+{
+    if left.len() < 64 {
+        return ReadAnswer::Refused(Refusal::ShortBuffer);
+    }
+    if right.len() < 64 {
+        return ReadAnswer::Refused(Refusal::ShortBuffer);
+    }
+    let mut left_atoms = [0u8; 64];
+    let mut right_atoms = [0u8; 64];
+    let answer = read_block(block, number, &mut left_atoms, &mut right_atoms);
+    match answer {
+        ReadAnswer::Refused(refusal) => ReadAnswer::Refused(refusal),
+        ReadAnswer::Sides {
+            left: left_count,
+            right: right_count,
+        } => {
+            bytes::copy(&left_atoms[..left_count], left);
+            bytes::copy(&right_atoms[..right_count], right);
+            ReadAnswer::Sides {
+                left: left_count,
+                right: right_count,
+            }
+        }
+    }
+}
+
+// Settles 1 to 6, in this order. Where the block is refused, the buffers may hold atoms of a part of it.
+fn read_block(block: &[u8], number: u16, left: &mut [u8], right: &mut [u8]) -> ReadAnswer
+    requires { ⌜ 64 ≤ length (now left) ⌝ }
+    requires { ⌜ 64 ≤ length (now right) ⌝ }
+    ensures { λ r. ⌜ SettlesBlock (now (block .entry)) number (now (left .entry)) (now (right .entry)) r (now (left .exit)) (now (right .exit)) ⌝ }
+{
+    let header = header::read_header(block, number);
+    match header {
+        Header::Refused(refusal) => ReadAnswer::Refused(refusal),
+        Header::Lengths {
+            left: left_length,
+            right: right_length,
+        } => {
+            let left_end = 4 + left_length;
+            let right_end = left_end + right_length;
+            let left_side = term::take_apart(&block[4..left_end], left);
+            let Side::Atoms(left_count) = left_side else {
+                return ReadAnswer::Refused(Refusal::Term);
+            };
+            let right_side = term::take_apart(&block[left_end..right_end], right);
+            let Side::Atoms(right_count) = right_side else {
+                return ReadAnswer::Refused(Refusal::Term);
+            };
+            if !all_zero(&block[right_end..510]) {
+                return ReadAnswer::Refused(Refusal::Filler);
+            }
+            ReadAnswer::Sides {
+                left: left_count,
+                right: right_count,
+            }
+        }
+    }
+}
+
+// Whether every byte is 0.
+fn all_zero(bytes: &[u8]) -> bool
+    ensures { λ r. ⌜ r ≡ allZero (now (bytes .entry)) ⌝ }
+{
+    for i in 0..bytes.len() {
+        if bytes[i] != 0 {
+            return false;
+        }
+    }
+    true
+}

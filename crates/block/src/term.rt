@@ -1,0 +1,108 @@
+// Terms in front notation: a byte's kind, and flattening by recursion.
+ghost use Prim.Native.Nat.{ℕ, _+_, _*_, _<_};
+ghost use mathlib.Core.List.{List, _∷_};
+ghost use lib.ListN.{length};
+ghost use Rattle.block.specs.Front.{MayBeWritten};
+ghost use Rattle.block.specs.Inner.{Classified, Flattens, TakesApart};
+
+// What a byte stands for where a term begins.
+pub enum Kind {
+    Variable,
+    Constant,
+    Plus,
+    Refused,
+}
+
+pub fn classify(byte: u8) -> Kind
+    ensures { λ r. ⌜ Classified byte r ⌝ }
+{
+    match byte {
+        0..=63 => Kind::Variable,
+        64..=127 => Kind::Constant,
+        128 => Kind::Plus,
+        _ => Kind::Refused,
+    }
+}
+
+// What flattening finds: the term that some bytes begin with, by how many bytes it takes and how many atoms it has, or nothing.
+pub enum Flattened {
+    Found { bytes: usize, atoms: usize },
+    Nothing,
+}
+
+// Takes the term apart that the bytes begin with and puts its atoms at the start of the buffer, in the order in which they are
+// read. Where the bytes begin with no term, the buffer may hold atoms of a part of one.
+pub fn flatten(bytes: &[u8], buffer: &mut [u8]) -> Flattened
+    requires { ⌜ length (now bytes) < 2 * length (now buffer) ⌝ }
+    ensures { λ r. ⌜ Flattens (now (bytes .entry)) (now (buffer .entry)) r (now (buffer .exit)) ⌝ }
+{
+    if bytes.len() == 0 {
+        return Flattened::Nothing;
+    }
+    let byte = bytes[0];
+    let kind = classify(byte);
+    match kind {
+        Kind::Variable => flatten_atom(byte, buffer),
+        Kind::Constant => flatten_atom(byte, buffer),
+        Kind::Plus => flatten_two(&bytes[1..], buffer),
+        Kind::Refused => Flattened::Nothing,
+    }
+}
+
+// An atom is a term by itself, whatever follows it.
+fn flatten_atom(atom: u8, buffer: &mut [u8]) -> Flattened
+    requires { ⌜ MayBeWritten atom ⌝ }
+    requires { ⌜ 0 < length (now buffer) ⌝ }
+    ensures { λ r. ⌜ ((rest : List ℕ) → Flattens (atom ∷ rest) (now (buffer .entry)) r (now (buffer .exit))) ⌝ }
+{
+    buffer[0] = atom;
+    Flattened::Found { bytes: 1, atoms: 1 }
+}
+
+// Takes apart the two terms that follow a plus: each has fewer bytes left than the plus had.
+fn flatten_two(bytes: &[u8], buffer: &mut [u8]) -> Flattened
+    requires { ⌜ length (now bytes) + 1 < 2 * length (now buffer) ⌝ }
+    ensures { λ r. ⌜ Flattens (128 ∷ now (bytes .entry)) (now (buffer .entry)) r (now (buffer .exit)) ⌝ }
+{
+    let first = flatten(bytes, buffer);
+    let Flattened::Found {
+        bytes: used,
+        atoms: filled,
+    } = first
+    else {
+        return Flattened::Nothing;
+    };
+    let second = flatten(&bytes[used..], &mut buffer[filled..]);
+    let Flattened::Found {
+        bytes: used_next,
+        atoms: filled_next,
+    } = second
+    else {
+        return Flattened::Nothing;
+    };
+    Flattened::Found {
+        bytes: 1 + used + used_next,
+        atoms: filled + filled_next,
+    }
+}
+
+// What a term's bytes are: a whole term, by how many atoms it has, or no term.
+pub enum Side {
+    Atoms(usize),
+    NoTerm,
+}
+
+// Takes apart the term that the bytes are: it must use all of them.
+pub fn take_apart(bytes: &[u8], buffer: &mut [u8]) -> Side
+    requires { ⌜ length (now bytes) < 2 * length (now buffer) ⌝ }
+    ensures { λ r. ⌜ TakesApart (now (bytes .entry)) (now (buffer .entry)) r (now (buffer .exit)) ⌝ }
+{
+    let flattened = flatten(bytes, buffer);
+    let Flattened::Found { bytes: used, atoms } = flattened else {
+        return Side::NoTerm;
+    };
+    if used < bytes.len() {
+        return Side::NoTerm;
+    }
+    Side::Atoms(atoms)
+}

@@ -49,28 +49,34 @@ bits-mask (suc n) m =
     ap₂ (λ (t k : ℕ). t + 2 * k) (lowest-bit m) (ap mask (bits-of-half m 0 n) ∙ bits-mask n (m / 2))
     ∙ omega (arith, mod-mul m {m = 2 ^ n} {c = 2} (pow-pos n) (omega arith), ap (λ (p : ℕ). m % p) (pow-suc 2 n))
 
+-- and the number itself, where it has no more bits
+pub bits-mask-below : (n m : ℕ) → m < 2 ^ n → mask (bits n m) ≡ m
+bits-mask-below n m h = bits-mask n m ∙ mod-eq-of-lt h
+
 -- the bits of a mask are the truth values that it was made of
-pub mask-bits : (ts : List Bool) → bits (length ts) (mask ts) ≡ ts
-mask-bits [] = refl
-mask-bits (t ∷ ts) =
+pub mask-bits : (n : ℕ) (ts : List Bool) → length ts ≡ n → bits n (mask ts) ≡ ts
+mask-bits zero [] e = refl
+mask-bits zero (t ∷ ts) e = absurd (omega arith)
+mask-bits (suc n) [] e = absurd (omega arith)
+mask-bits (suc n) (t ∷ ts) e =
     ap₂ {C = List Bool} (λ b bs. b ∷ bs) (lowest t)
-    (bits-of-half (mask (t ∷ ts)) 0 (length ts) ∙ ap (bits (length ts)) (halved t) ∙ mask-bits ts)
+    (bits-of-half (mask (t ∷ ts)) 0 n ∙ ap (bits n) (halved t) ∙ mask-bits n ts (omega arith))
   where
     lowest : (b : Bool) → bit (cond b 1 0 + 2 * mask ts) 0 ≡ b
     lowest true = eq-eqb ((1 + 2 * mask ts) / 1 % 2) 1 (omega arith)
-    lowest false = let e : (0 + 2 * mask ts) / 1 % 2 ≡ 0 = omega arith in ap (λ (n : ℕ). eqb n 1) e
+    lowest false = let none : (0 + 2 * mask ts) / 1 % 2 ≡ 0 = omega arith in ap (λ (m : ℕ). eqb m 1) none
 
     halved : (b : Bool) → (cond b 1 0 + 2 * mask ts) / 2 ≡ mask ts
     halved true = omega arith
     halved false = omega arith
 
-pub mask-below : (ts : List Bool) → mask ts < 2 ^ length ts
-mask-below ts = subst (λ (m : ℕ). m < 2 ^ length ts) (sym (bits-mask (length ts) (mask ts)) ∙ ap mask (mask-bits ts)) (mod-lt (mask ts) (pow-pos (length ts)))
+pub mask-below : (n : ℕ) (ts : List Bool) → length ts ≡ n → mask ts < 2 ^ n
+mask-below n ts e =
+    subst (λ (m : ℕ). m < 2 ^ n) (sym (bits-mask n (mask ts)) ∙ ap mask (mask-bits n ts e)) (mod-lt (mask ts) (pow-pos n))
 
 -- the lowest n bits are those of the number modulo 2 ^ n
 pub bits-modulo : (n m : ℕ) → bits n m ≡ bits n (m % 2 ^ n)
-bits-modulo n m =
-    sym (mask-bits (bits n m)) ∙ ap (λ (k : ℕ). bits k (mask (bits n m))) (length-bits n m) ∙ ap (bits n) (bits-mask n m)
+bits-modulo n m = sym (mask-bits n (bits n m) (length-bits n m)) ∙ ap (bits n) (bits-mask n m)
 
 -- a multiple of a power at or above 2 ^ n changes none of the lowest n bits
 pub bits-above : (n : ℕ) {r : ℕ} (q m : ℕ) → n ≤ r → bits n (q * 2 ^ r + m) ≡ bits n m
@@ -161,7 +167,7 @@ module _ {lay : Layout} {G : Groups} (fits : Fits lay G) where
   module _ {s : Selection} (of : SelectionOf G s) where
     mask-fits : mask (s .takes) < 2 ^ (lay .rows)
     mask-fits =
-        lt-of-lt-of-le (mask-below (s .takes)) (pow-mono (let few = fits .few-balanced in let each = of .a-truth-each in omega arith))
+        lt-of-lt-of-le (mask-below (length (G .balanced)) (s .takes) (of .a-truth-each)) (pow-mono (fits .few-balanced))
 
     indexes-fit : fields lay (lay .constants) (s .indexes) < 2 ^ (lay .index-bits * lay .constants)
     indexes-fit = fields-below lay (lay .constants) (fits .few-constants) (fits .few-rows) (of .a-row-each)
@@ -189,7 +195,7 @@ module _ {lay : Layout} {G : Groups} (fits : Fits lay G) where
         same-takes : bits (length (G .balanced)) (keyOf lay s) ≡ s .takes
         same-takes =
             bits-above (length (G .balanced)) (fields lay (lay .constants) (s .indexes)) (mask (s .takes)) (fits .few-balanced)
-            ∙ ap (λ (n : ℕ). bits n (mask (s .takes))) (sym (of .a-truth-each)) ∙ mask-bits (s .takes)
+            ∙ mask-bits (length (G .balanced)) (s .takes) (of .a-truth-each)
 
     unused-fields : fields lay (lay .constants) (s .indexes) % 2 ^ (lay .index-bits * (lay .constants - length (G .constants))) ≡ 0
     unused-fields =
@@ -207,8 +213,7 @@ module _ {lay : Layout} {G : Groups} (fits : Fits lay G) where
           indexes-within = subst (λ (t : Selection). Within (G .constants) (t .indexes)) (sym taken-apart) (of .a-row-each);
           unused-zero = ap (λ (m : ℕ). m % 2 ^ (lay .index-bits * (lay .constants - length (G .constants)))) key-high ∙ unused-fields;
           no-bit-beyond =
-              subst (λ (n : ℕ). keyOf lay s % 2 ^ (lay .rows) < 2 ^ n) (of .a-truth-each)
-              (subst (λ (m : ℕ). m < 2 ^ length (s .takes)) (sym key-low) (mask-below (s .takes)));
+              subst (λ (m : ℕ). m < 2 ^ length (G .balanced)) (sym key-low) (mask-below (length (G .balanced)) (s .takes) (of .a-truth-each));
           no-bit-above = key-below;
         }
 

@@ -1,7 +1,6 @@
 -- The list of a pair: it holds every admissible selection, only those, once each and ascending by key.
 use Prim.Native.Nat.{ℕ, zero, suc, _+_, _*_, _^_, _<_, _≤_}
 use native.Mathlib.Omega.{arith}
-use native.Mathlib.Nat.{mod-eq-of-lt}
 use lib.Pow.{pow-mono}
 use mathlib.Core.Path.{_≡_, refl, sym, ap, subst, subst₂, _∙_}
 use mathlib.Core.Logic.{_↔_}
@@ -14,9 +13,11 @@ use Rattle.ac.specs.Pair.{Mode}
 use Rattle.ac.specs.Rows.{Group, Groups}
 use Rattle.ac.specs.Selection.{Selection, SelectionOf, Within, none, index, admissible}
 use Rattle.ac.specs.Keys.{Layout, Fits, Candidate, Listed, fields, mask, bits, keyOf, selectionAt, tuples, selections, listed, keys}
-use Rattle.ac.proofs.Members.{below-members, members-below, map-members, members-map, flatMap-members, members-flatMap, filter-members}
-use Rattle.ac.proofs.Members.{members-filter, ascending-from, ascending-filter, ascending-map, ascending-flatMap, ascending-in}
-use Rattle.ac.proofs.Keys.{Few, bits-mask, mask-bits, mask-below, length-bits, fields-below, taken-apart, packed, candidate-selection}
+use Rattle.ac.proofs.Places.{from-ascending}
+use Rattle.ac.proofs.Order.{filter-member, member-filter, filter-ascending}
+use Rattle.ac.proofs.Members.{below-members, members-below, map-members, members-map, flatMap-members, members-flatMap}
+use Rattle.ac.proofs.Members.{ascending-map, ascending-flatMap, ascending-in}
+use Rattle.ac.proofs.Keys.{Few, bits-mask-below, mask-bits, mask-below, length-bits, fields-below, taken-apart, packed, candidate-selection}
 use Rattle.ac.proofs.Keys.{selection-candidate}
 
 -- the tuples are exactly the lists of an index for each constant, below the number of its rows
@@ -54,13 +55,8 @@ selections-are G {s} = (only, all)
     all : SelectionOf G s → List·Memᴰ s (selections G)
     all of =
         members-flatMap (allMasked G) (within-tuples (of .a-row-each))
-        (Memᴰ·cast (λ i. record { indexes = s .indexes; takes = its-bits i }) (members-map (masked G (s .indexes)) (members-below mask-fits)))
-      where
-        its-bits : s .takes ≡ bits (length (G .balanced)) (mask (s .takes))
-        its-bits = sym (mask-bits (s .takes)) ∙ ap (λ (n : ℕ). bits n (mask (s .takes))) (of .a-truth-each)
-
-        mask-fits : mask (s .takes) < 2 ^ length (G .balanced)
-        mask-fits = subst (λ (n : ℕ). mask (s .takes) < 2 ^ n) (of .a-truth-each) (mask-below (s .takes))
+        (Memᴰ·cast (λ i. record { indexes = s .indexes; takes = sym (mask-bits (length (G .balanced)) (s .takes) (of .a-truth-each)) i })
+        (members-map (masked G (s .indexes)) (members-below (mask-below (length (G .balanced)) (s .takes) (of .a-truth-each)))))
 
 -- the tuples ascend by their fields
 pub tuples-ascending : (lay : Layout) (k : ℕ) (gs : List Group) → length gs ≤ k → Few lay gs
@@ -70,7 +66,7 @@ tuples-ascending lay zero (g ∷ gs) fit few = absurd (omega arith)
 tuples-ascending lay (suc k) (g ∷ gs) fit few =
     ascending-flatMap (λ i. map (λ is. i ∷ is) (tuples gs))
     (λ i m. ascending-map (λ is. i ∷ is) (ascending-in (λ is js m₁ m₂ less. omega arith) (tuples-ascending lay k gs (omega arith) others)))
-    (ascending-in (λ i j m₁ m₂ less. first-decides i j less) (ascending-from 0 (length (g .rows))))
+    (ascending-in (λ i j m₁ m₂ less. first-decides i j less) (from-ascending 0 (length (g .rows))))
   where
     others : Few lay gs
     others h m = few h (List·Memᴰ·tail m)
@@ -88,12 +84,12 @@ module _ {lay : Layout} {G : Groups} (fits : Fits lay G) where
   pub selections-ascending : Ascending (λ s t. keyOf lay s < keyOf lay t) (selections G)
   selections-ascending =
       ascending-flatMap (allMasked G)
-      (λ is m. ascending-map (masked G is) (ascending-in (mask-decides is) (ascending-from 0 (2 ^ length (G .balanced)))))
+      (λ is m. ascending-map (masked G is) (ascending-in (mask-decides is) (from-ascending 0 (2 ^ length (G .balanced)))))
       (ascending-in (λ is js m₁ m₂ less. tuple-decides is js less)
       (tuples-ascending lay (lay .constants) (G .constants) (fits .few-constants) (fits .few-rows)))
     where
       its-mask : (m : ℕ) → List·Memᴰ m (below (2 ^ length (G .balanced))) → mask (bits (length (G .balanced)) m) ≡ m
-      its-mask m at = bits-mask (length (G .balanced)) m ∙ mod-eq-of-lt (below-members (2 ^ length (G .balanced)) at)
+      its-mask m at = bits-mask-below (length (G .balanced)) m (below-members (2 ^ length (G .balanced)) at)
 
       mask-decides : (is : List ℕ) (a b : ℕ) → List·Memᴰ a (below (2 ^ length (G .balanced))) → List·Memᴰ b (below (2 ^ length (G .balanced))) → a < b
           → keyOf lay (masked G is a) < keyOf lay (masked G is b)
@@ -111,7 +107,7 @@ module _ {lay : Layout} {G : Groups} (fits : Fits lay G) where
   module _ (M : Mode) (L R : List ℕ) where
     -- The list is ascending by key.
     pub keys-ascending : Ascending _<_ (keys M lay L R G)
-    keys-ascending = ascending-map (keyOf lay) (ascending-filter (admissible M (lay .new) L R G) selections-ascending)
+    keys-ascending = ascending-map (keyOf lay) (filter-ascending (admissible M (lay .new) L R G) selections-ascending)
 
     -- A number is on the list exactly if it is the key of an admissible selection.
     pub listed-exactly : {key : ℕ} → List·Memᴰ key (keys M lay L R G) ↔ Listed M lay L R G key
@@ -120,14 +116,14 @@ module _ {lay : Layout} {G : Groups} (fits : Fits lay G) where
         only : List·Memᴰ key (keys M lay L R G) → Listed M lay L R G key
         only m =
             let one = map-members (keyOf lay) (listed M lay L R G) m in
-            let admitted = filter-members (admissible M (lay .new) L R G) (selections G) (one .1) in
+            let admitted = filter-member (admissible M (lay .new) L R G) (selections G) (one .1) in
             record { selection = one .0; of-the-groups = selections-are G .0 (admitted .0); is-admissible = admitted .1; its-key = one .2 }
 
         all : Listed M lay L R G key → List·Memᴰ key (keys M lay L R G)
         all names =
             Memᴰ·cast (names .its-key)
             (members-map (keyOf lay)
-            (members-filter (admissible M (lay .new) L R G) (selections-are G .1 (names .of-the-groups)) (names .is-admissible)))
+            (member-filter (admissible M (lay .new) L R G) (selections-are G .1 (names .of-the-groups)) (names .is-admissible)))
 
     -- A number is on the list exactly if it is a candidate whose selection is admissible.
     pub listed-candidates : {key : ℕ}

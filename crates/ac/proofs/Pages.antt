@@ -14,7 +14,9 @@ use lib.ListN.{length, take, drop, take-append-drop, length-append, length-take,
 use Rattle.ac.specs.Lists.{keep, filter, Ascending, next}
 use Rattle.ac.specs.Keys.{Begin, start, after, remaining}
 use Rattle.ac.specs.Pages.{page, more, Asked, no-more, one-more, together, WholeList, LeastFrom, NoneFrom, boundOf}
-use Rattle.ac.proofs.Members.{filter-members, members-filter, filter-all, member-splits, ascending-filter, ascending-same}
+use Rattle.ac.proofs.Order.{ascending-unique}
+use Rattle.ac.proofs.Order.{filter-member, member-filter, filter-ascending}
+use Rattle.ac.proofs.Members.{filter-all, member-splits}
 
 -- a number that is below another is not above it
 one-way : (a b : ℕ) → a < b → b < a → ⊥
@@ -24,15 +26,15 @@ module _ {keys : List ℕ} where
   -- what remains after the beginning are the keys from its bound on
   pub remaining-members : (begin : Begin) {key : ℕ} → List·Memᴰ key (remaining begin keys) → List·Memᴰ key keys × (boundOf begin ≤ key)
   remaining-members start m = (m, omega arith)
-  remaining-members (after k) {key} m = let t = filter-members (ltb k) keys m in (t .0, omega (arith, ltb-true k key (t .1)))
+  remaining-members (after k) {key} m = let t = filter-member (ltb k) keys m in (t .0, omega (arith, ltb-true k key (t .1)))
 
   pub members-remaining : (begin : Begin) {key : ℕ} → List·Memᴰ key keys → boundOf begin ≤ key → List·Memᴰ key (remaining begin keys)
   members-remaining start m h = m
-  members-remaining (after k) {key} m h = members-filter (ltb k) m (lt-ltb k key (omega arith))
+  members-remaining (after k) {key} m h = member-filter (ltb k) m (lt-ltb k key (omega arith))
 
   pub remaining-ascending : (begin : Begin) → Ascending _<_ keys → Ascending _<_ (remaining begin keys)
   remaining-ascending start ascending = ascending
-  remaining-ascending (after k) ascending = ascending-filter (ltb k) ascending
+  remaining-ascending (after k) ascending = filter-ascending (ltb k) ascending
 
 -- a number is above another exactly if their difference is above 0
 above-difference : (a b : ℕ) → ltb a b ≡ ltb 0 (b - a)
@@ -98,7 +100,7 @@ module _ {keys : List ℕ} (ascending : Ascending _<_ keys) where
   -- the least key from the bound on is the first that remains, and after it come those that remain after it
   pub least-first : (begin : Begin) {key : ℕ} → LeastFrom keys (boundOf begin) key → remaining begin keys ≡ key ∷ remaining (after key) keys
   least-first begin {key} found =
-      ascending-same one-way (remaining-ascending begin ascending)
+      ascending-unique one-way (remaining-ascending begin ascending)
       (next (λ c m. let t = remaining-members {keys = keys} (after key) m in omega arith) (remaining-ascending (after key) ascending)) (λ c. (there c, back c))
     where
       there : (c : ℕ) → List·Memᴰ c (remaining begin keys) → List·Memᴰ c (key ∷ remaining (after key) keys)
@@ -144,7 +146,7 @@ module _ {keys : List ℕ} (ascending : Ascending _<_ keys) where
   -- What remains after a later key remains of what remains after a beginning.
   remaining-later : (begin : Begin) {key : ℕ} → boundOf begin ≤ key → remaining (after key) (remaining begin keys) ≡ remaining (after key) keys
   remaining-later begin {key} bound =
-      ascending-same one-way (remaining-ascending (after key) (remaining-ascending begin ascending)) (remaining-ascending (after key) ascending)
+      ascending-unique one-way (remaining-ascending (after key) (remaining-ascending begin ascending)) (remaining-ascending (after key) ascending)
       (λ c. (
         λ m. let t = remaining-members (after key) m in members-remaining (after key) (remaining-members begin (t .0) .0) (t .1),
         λ m.

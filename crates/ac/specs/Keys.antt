@@ -44,7 +44,7 @@ bit m i = eqb (m / 2 ^ i % 2) 1
 abbrev pub bits : ℕ → ℕ → List Bool
 bits n m = map (bit m) (below n)
 
--- the index in each of the fields of a number, that of the lowest constant first; used is how many constants there are
+-- the index in the field of each constant, that of the lowest constant first, in a number of k fields
 abbrev pub fieldsOf : Layout → ℕ → List Group → ℕ → List ℕ
 fieldsOf lay k [] m = []
 fieldsOf lay zero (g ∷ gs) m = []
@@ -84,7 +84,7 @@ listed M lay L R G = filter (admissible M (lay .new) L R G) (selections G)
 abbrev pub keys : Mode → Layout → List ℕ → List ℕ → Groups → List ℕ
 keys M lay L R G = map (keyOf lay) (listed M lay L R G)
 
--- a key is on the list exactly if it is the key of an admissible selection
+-- the key of an admissible selection of the groups; proofs/Listed.antt shows that those are the keys of the list
 pub record Listed (M : Mode) (lay : Layout) (L R : List ℕ) (G : Groups) (key : ℕ) : Type 0 where
   pub selection : Selection
   pub of-the-groups : SelectionOf G selection

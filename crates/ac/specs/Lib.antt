@@ -3,8 +3,11 @@ pub mod Term
 pub mod Pair
 pub mod Rows
 pub mod Equation
+pub mod Search
 pub mod Selection
 pub mod Keys
 pub mod Replacement
 pub mod Values
 pub mod Pages
+pub mod Fages
+pub mod Worked

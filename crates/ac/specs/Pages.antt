@@ -42,7 +42,7 @@ pub record LeastFrom (keys : List ℕ) (bound key : ℕ) : Type 0 where
 abbrev pub NoneFrom : List ℕ → ℕ → Type 0
 NoneFrom keys bound = (other : ℕ) → List·Memᴰ other keys → other < bound
 
--- the least key that may come after the beginning
+-- the least number that may come after the beginning
 abbrev pub boundOf : Begin → ℕ
 boundOf start = 0
 boundOf (after key) = key + 1

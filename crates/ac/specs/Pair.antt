@@ -1,7 +1,7 @@
 -- A pair of flattened sides: its atoms, their occurrences and net counts (document 01, "From sides to equations").
 use Prim.Native.Nat.{ℕ, _+_, _<_}
 use mathlib.Core.Bool.{Bool, true, false, not, cond, _&&_, _||_}
-use mathlib.Core.List.{List, [], _∷_}
+use mathlib.Core.List.{List, [], _∷_, List·Memᴰ}
 use lib.Dec.{eqb, ltb}
 use lib.IntN.{ℤ, pos, _-ℤ_}
 use Rattle.ac.specs.Lists.{below, filter}
@@ -18,6 +18,10 @@ unifying = record { moves = λ a. ltb a 64; empties = false }
 -- Atoms are bytes: 0 to 63 and 64 to 127.
 abbrev pub atoms : List ℕ
 atoms = below 128
+
+-- a flattened side: a list of such atoms
+abbrev pub IsSide : List ℕ → Type 0
+IsSide side = (a : ℕ) → List·Memᴰ a side → a < 128
 
 -- 1 if the two atoms are the same, else 0
 abbrev pub same : ℕ → ℕ → ℕ

@@ -2,12 +2,12 @@
 use Prim.Native.Nat.{ℕ, _<_, _≤_}
 use mathlib.Core.Path.{_≡_}
 use mathlib.Core.Bool.{Bool, true, false, cond}
-use mathlib.Core.List.{List, [], _∷_, _++_, List·Memᴰ}
+use mathlib.Core.List.{List, [], _∷_, _++_, map, List·Memᴰ}
 use lib.ListN.{length}
 use lib.Dec.{leb}
-use Rattle.ac.specs.Pair.{Mode, count, variables}
-use Rattle.ac.specs.Rows.{Groups}
-use Rattle.ac.specs.Selection.{Selection, value}
+use Rattle.ac.specs.Pair.{Mode, count, variables, unbalanced}
+use Rattle.ac.specs.Rows.{Group, Groups}
+use Rattle.ac.specs.Equation.{SumOf, RowAndSum}
 
 -- A replacement gives each variable a sum: a list of atoms of any name.
 abbrev pub Replacement : Type 0
@@ -30,6 +30,15 @@ NonEmpty M s = M .empties ≡ false → 0 < length s
 pub record Unifies (M : Mode) (L R : List ℕ) (θ : Replacement) : Type 0 where
   pub non-empty : (x : ℕ) → List·Memᴰ x (variables M L R) → NonEmpty M (θ x)
   pub equal : SameSum (put (M .moves) θ L) (put (M .moves) θ R)
+
+-- how often b stands in what each of the variables is replaced by: a vector
+abbrev pub occurrences : Replacement → List ℕ → ℕ → List ℕ
+occurrences θ variables b = map (λ x. count b (θ x)) variables
+
+-- For each unbalanced constant the replacement is one of its rows and multiples of balanced rows, for each other atom multiples of balanced rows.
+pub record Balances (M : Mode) (L R : List ℕ) (G : Groups) (θ : Replacement) : Type 0 where
+  pub constants : (g : Group) → List·Memᴰ g (G .constants) → RowAndSum (g .rows) (G .balanced) (occurrences θ (variables M L R) (g .constant))
+  pub others : (b : ℕ) → (List·Memᴰ b (unbalanced M L R) → ⊥) → SumOf (G .balanced) (occurrences θ (variables M L R) b)
 
 -- the atoms from the first new variable on
 abbrev pub isNew : ℕ → ℕ → Bool

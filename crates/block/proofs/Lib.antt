@@ -2,5 +2,5 @@ pub mod Terms
 pub mod Begins
 pub mod Settled
 pub mod Sides
-pub mod Buffers
 pub mod Determined
+pub mod Laws

@@ -1,37 +1,41 @@
 -- Which number is the first that a block gives: a law for each way in which reading it ends.
-use Prim.Native.Nat.{ℕ, _≤_}
+use Prim.Native.Nat.{ℕ, _≤_, _<_, min}
 use mathlib.Core.Path.{_≡_, refl, _∙_}
 use mathlib.Core.Bool.{Bool, true, false, not, _&&_}
 use mathlib.Core.Logic.{_⊎_, inl, inr}
 use mathlib.Core.List.{List, [], _∷_, List·Memᴰ, List·Memᴰ·head, List·Memᴰ·tail}
+use native.Mathlib.Decide.{decLt}
 use native.Mathlib.Omega.{arith}
 use borrow.Author.Tests.{eqb-true, eqb-false}
 use lib.Dec.{eqb}
 use lib.ListN.{length}
 use Rattle.ac.specs.Term.{Term}
+use Rattle.numbers.specs.Numbers.{numberOf}
+use Rattle.numbers.specs.declared.Refusal.{Refusal}
 use Rattle.numbers.specs.First.{First, NoneOf, here, later, end, also}
 use Rattle.numbers.specs.declared.Refusal.the-variants as refusal
-use Rattle.block.specs.Front.{Writes}
+use Rattle.block.specs.Front.{Writes, leftSide, rightSide}
 use Rattle.block.specs.Block.{blockNumber, leftLength, rightLength, leftTerm, rightTerm, filler, check, checkOfBytes}
-use Rattle.block.specs.Table.{ReadGiven, block-length, check-differs, block-number, term-length, no-term, filler-byte, NoLength, NoTerm, blockNumbers}
-use Rattle.block.specs.Inner.{TermLength, within, outside, allZero, Refuses, GoodHeader}
+use Rattle.block.specs.Table.{ReadGiven, block-length, check-differs, block-number, term-length, no-term, filler-byte, short-buffer, NoLength, NoTerm, blockNumbers}
+use Rattle.block.specs.Read.{refused, lengths, receives, ReadPromise, is-refused, is-read}
+use Rattle.block.specs.Inner.{IsLength, TermLengths, within, outside, allZero, Refuses, GoodHeader}
 
 and-true : (x y : Bool) → x && y ≡ true → (x ≡ true) × (y ≡ true)
 and-true true y e = (refl, e)
 and-true false y e = absurd (let z : _≡_ {A = ℕ} 0 1 = cc e in omega arith)
 
 -- a length from 1 to 127 is none that no term may have
-is-length : {n : ℕ} → (1 ≤ n) × (n ≤ 127) → NoLength n → ⊥
+is-length : {n : ℕ} → IsLength n → NoLength n → ⊥
 is-length h (inl e) = omega arith
 is-length h (inr above) = omega arith
 
--- what the test of a length tells
-pub tested-outside : {n : ℕ} {b : Bool} → TermLength n b → not b ≡ true → NoLength n
-tested-outside (within l h) e = absurd (let z : _≡_ {A = ℕ} 0 1 = cc e in omega arith)
+-- what the test of the lengths tells
+pub tested-outside : {m n : ℕ} {b : Bool} → TermLengths m n b → not b ≡ true → NoLength m ⊎ NoLength n
+tested-outside (within l r) e = absurd (let z : _≡_ {A = ℕ} 0 1 = cc e in omega arith)
 tested-outside (outside h) e = h
 
-pub tested-within : {n : ℕ} {b : Bool} → TermLength n b → not b ≡ false → (1 ≤ n) × (n ≤ 127)
-tested-within (within l h) e = (l, h)
+pub tested-within : {m n : ℕ} {b : Bool} → TermLengths m n b → not b ≡ false → IsLength m × IsLength n
+tested-within (within l r) e = (l, r)
 tested-within (outside h) e = absurd (let z : _≡_ {A = ℕ} 0 1 = cc e in omega arith)
 
 -- where every byte is 0, so is each
@@ -64,7 +68,7 @@ module _ {block : List ℕ} {number : ℕ} {left right : List ℕ} where
   not-3 : blockNumber block ≡ number → ReadGiven block number left right 3 → ⊥
   not-3 e (block-number h) = h e
 
-  not-4 : (1 ≤ leftLength block) × (leftLength block ≤ 127) → (1 ≤ rightLength block) × (rightLength block ≤ 127) → ReadGiven block number left right 4 → ⊥
+  not-4 : IsLength (leftLength block) → IsLength (rightLength block) → ReadGiven block number left right 4 → ⊥
   not-4 l r (term-length (inl h)) = is-length l h
   not-4 l r (term-length (inr h)) = is-length r h
 
@@ -75,6 +79,7 @@ module _ {block : List ℕ} {number : ℕ} {left right : List ℕ} where
   not-6 : allZero (filler block) ≡ true → ReadGiven block number left right 6 → ⊥
   not-6 e (filler-byte b m h) = h (only-zeros (filler block) e m)
 
+-- the first number that the block itself gives
 module _ {block : List ℕ} {number : ℕ} where
   pub block-length-first : (length block ≡ 512 → ⊥) → Refuses block number refusal.BlockLength
   block-length-first h = record { first = λ left right. here (block-length h) }
@@ -115,3 +120,27 @@ module _ {block : List ℕ} {number : ℕ} where
           (also (not-2 (good .checked))
           (also (not-3 (good .numbered))
           (also (not-4 (good .left-length) (good .right-length)) (also (not-5 v w) (also (not-6 e) end)))))
+
+-- the lesser of two lengths below 64 is one of them
+shorter-is-short : (m n : ℕ) → min m n < 64 → (m < 64) ⊎ (n < 64)
+shorter-is-short m n h = go (decLt m 64)
+  where
+    go : Dec (m < 64) → (m < 64) ⊎ (n < 64)
+    go (yes l) = inl l
+    go (no l) = inr (omega arith)
+
+-- what is promised with number 16, and where both buffers are long enough
+module _ {block : List ℕ} {number : ℕ} {left right : List ℕ} where
+  pub short-buffer-first : min (length left) (length right) < 64 → ReadPromise block number left right (refused 16) left right
+  short-buffer-first h = is-refused (here (short-buffer (shorter-is-short (length left) (length right) h)))
+
+  module _ (left-fits : 64 ≤ length left) (right-fits : 64 ≤ length right) where
+    not-16 : ReadGiven block number left right 16 → ⊥
+    not-16 (short-buffer (inl h)) = omega arith
+    not-16 (short-buffer (inr h)) = omega arith
+
+    pub refused-block : {why : Refusal} → Refuses block number why → ReadPromise block number left right (refused (numberOf why)) left right
+    refused-block r = is-refused (later not-16 (r .first left right))
+
+    pub read-block : {s t : Term} → NoneOf (ReadGiven block number left right) blockNumbers → Writes (leftTerm block) s → Writes (rightTerm block) t → ReadPromise block number left right (lengths (length (leftSide s)) (length (rightSide t))) (receives left (leftSide s)) (receives right (rightSide t))
+    read-block none v w = is-read (also not-16 none) v w

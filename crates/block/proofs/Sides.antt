@@ -3,26 +3,26 @@ use Prim.Native.Nat.{ℕ, zero, suc, _+_, _-_, _*_, _≤_, _<_}
 use mathlib.Core.Path.{_≡_, refl, ap, sym, _∙_}
 use mathlib.Core.Bool.{Bool, true, false, not}
 use mathlib.Core.Logic.{inl, inr}
-use mathlib.Core.List.{List, [], _∷_, map-id}
+use mathlib.Core.List.{List, [], _∷_, _++_, map-id}
 use native.Mathlib.Nat.{sub-zero}
 use native.Mathlib.Omega.{arith}
 use borrow.Author.Tests.{not-true, not-false}
-use lib.ListN.{length, take, drop, length-take}
-use lib.Seq.{slice, take-nil}
+use lib.ListN.{length, take, drop, length-append, length-take}
+use lib.Seq.{slice, take-nil, take-at, take-length}
 use Rattle.ac.specs.Term.{Term, flatten}
 use Rattle.numbers.specs.declared.Refusal.{Refusal}
 use Rattle.numbers.specs.declared.Refusal.the-variants as refusal
 use Rattle.block.specs.Front.{Writes, rightSide}
 use Rattle.block.specs.Block.{leftLength, rightLength, leftTerm, rightTerm, filler}
 use Rattle.block.specs.Table.{NoTerm}
-use Rattle.block.specs.Read.{receives}
-use Rattle.block.specs.Inner.{TakesApart, atoms, no-term, allZero, Refuses, GoodHeader, SettlesHeader, is-refused, is-good, SettlesBlock, is-read}
-use Rattle.block.specs.declared.ReadAnswer.the-variants.{Sides}
+use Rattle.block.specs.Read.{lengths, receives, ReadPromise}
+use Rattle.block.specs.Inner.{TakesApart, atoms, no-term, allZero, Refuses, GoodHeader, SettlesHeader, is-refused, is-good}
 use Rattle.block.specs.declared.header.Header.{Header}
 use Rattle.block.specs.declared.header.Header.the-variants.{Lengths}
 use Rattle.block.specs.declared.term.Side.{Side}
 use Rattle.block.specs.declared.term.Side.the-variants as side
-use Rattle.block.proofs.Settled.{term-first, filler-first, none-given}
+use Rattle.block.proofs.Settled.{term-first, filler-first, none-given, read-block}
+use Rattle.block.proofs.Terms.{atoms-of-term}
 
 -- a part of a list, as it is lent, is that slice of the list
 part-is-slice : (from to : ℕ) (l : List ℕ) → from ≤ to → take (to - from) (drop from l) ≡ slice from to l
@@ -60,6 +60,21 @@ pub when-no-term : {bytes buffer after : List ℕ} {s : Side} → TakesApart byt
 when-no-term (atoms w) e = absurd (let z : _≡_ {A = ℕ} 0 1 = cc e in omega arith)
 when-no-term (no-term none) e = none
 
+module _ {bytes buffer after : List ℕ} {count : ℕ} (f : SideTerm bytes buffer count after) where
+  pub count-within : count ≤ length after
+  count-within = omega (arith, simp length-append at (ap length (f .after-is)), f .count-is)
+
+  side-is : take count after ≡ flatten (f .term)
+  side-is = ap (take count) (f .after-is) ∙ take-at (flatten (f .term)) (drop (length (flatten (f .term))) buffer) count (sym (f .count-is))
+
+  -- a term of at most 127 bytes has at most 64 atoms
+  pub count-fits : length bytes ≤ 127 → count ≤ 64
+  count-fits short = omega (arith, f .count-is, atoms-of-term (f .writes) short)
+
+  -- a buffer into which the atoms are copied receives the side
+  pub copied : (lent : List ℕ) → take (length (take count after)) (take count after) ++ drop (length (take count after)) lent ≡ receives lent (flatten (f .term))
+  copied lent = rw (side-is, take-length)
+
 -- the right term's atoms are themselves
 right-side-is : (t : Term) → rightSide t ≡ flatten t
 right-side-is t = map-id (flatten t)
@@ -79,7 +94,7 @@ module _ {block : List ℕ} {number l r : ℕ} (h : HeaderLengths block number l
   fillerPart = take (510 - (4 + l + r)) (drop (4 + l + r) block)
 
   left-part-is : leftPart ≡ leftTerm block
-  left-part-is = part-is-slice 4 (4 + l) block (omega arith) ∙ ap (λ (n : ℕ). slice 4 (4 + n) block) (h .left-is)
+  left-part-is = part-is-slice 4 (4 + l) block (omega arith) ∙ rw (h .left-is)
 
   right-part-is : rightPart ≡ rightTerm block
   right-part-is = part-is-slice (4 + l) (4 + l + r) block (omega arith) ∙ rw (h .left-is, h .right-is)
@@ -87,12 +102,11 @@ module _ {block : List ℕ} {number l r : ℕ} (h : HeaderLengths block number l
   filler-part-is : fillerPart ≡ filler block
   filler-part-is = part-is-slice (4 + l + r) 510 block (omega (arith, terms-fit)) ∙ rw (h .left-is, h .right-is)
 
-  -- 64 places are enough for a term's atoms
-  pub left-fits : {room : ℕ} → 64 ≤ room → length leftPart < 2 * room
-  left-fits enough = simp length-take (omega (arith, terms-fit))
+  pub left-short : length leftPart ≤ 127
+  left-short = simp length-take (omega (arith, terms-fit))
 
-  pub right-fits : {room : ℕ} → 64 ≤ room → length rightPart < 2 * room
-  right-fits enough = simp length-take (omega (arith, terms-fit))
+  pub right-short : length rightPart ≤ 127
+  right-short = simp length-take (omega (arith, terms-fit))
 
   pub left-missing : NoTerm leftPart → Refuses block number refusal.Term
   left-missing none = term-first (h .good) (inl (rw left-part-is at none))
@@ -100,7 +114,7 @@ module _ {block : List ℕ} {number l r : ℕ} (h : HeaderLengths block number l
   pub right-missing : NoTerm rightPart → Refuses block number refusal.Term
   right-missing none = term-first (h .good) (inr (rw right-part-is at none))
 
-  module _ {left right left-after right-after : List ℕ} {m n : ℕ} (f : SideTerm leftPart left m left-after) (g : SideTerm rightPart right n right-after) where
+  module _ {left-buffer right-buffer left-after right-after : List ℕ} {m n : ℕ} (f : SideTerm leftPart left-buffer m left-after) (g : SideTerm rightPart right-buffer n right-after) where
     left-writes : Writes (leftTerm block) (f .term)
     left-writes = rw left-part-is at (f .writes)
 
@@ -110,7 +124,15 @@ module _ {block : List ℕ} {number l r : ℕ} (h : HeaderLengths block number l
     pub filler-wrong : {z : Bool} → z ≡ allZero fillerPart → not z ≡ true → Refuses block number refusal.Filler
     filler-wrong {z} e t = filler-first (h .good) left-writes right-writes (rw filler-part-is at (sym e ∙ not-true z t))
 
-    pub sides-read : {z : Bool} → z ≡ allZero fillerPart → not z ≡ false → SettlesBlock block number left right (Sides m n) left-after right-after
-    sides-read {z} e t =
-        rw (f .count-is, g .count-is, f .after-is, g .after-is, ← right-side-is (g .term))
-        (is-read (none-given (h .good) left-writes right-writes (rw filler-part-is at (sym e ∙ not-false z t))) left-writes right-writes)
+    pub sides-read :
+        {z : Bool} {left right left-exit right-exit : List ℕ} →
+        64 ≤ length left →
+        64 ≤ length right →
+        z ≡ allZero fillerPart →
+        not z ≡ false →
+        left-exit ≡ receives left (flatten (f .term)) →
+        right-exit ≡ receives right (flatten (g .term)) →
+        ReadPromise block number left right (lengths m n) left-exit right-exit
+    sides-read {z} {left} {right} left-fits right-fits e t left-is right-is =
+        rw (f .count-is, g .count-is, left-is, right-is, ← right-side-is (g .term))
+        (read-block left-fits right-fits (none-given (h .good) left-writes right-writes (rw filler-part-is at (sym e ∙ not-false z t)) left right) left-writes right-writes)

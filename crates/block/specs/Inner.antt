@@ -2,19 +2,18 @@
 use Prim.Native.Nat.{ℕ, _≤_, _<_}
 use mathlib.Core.Path.{_≡_}
 use mathlib.Core.Bool.{Bool, true, false, _&&_}
+use mathlib.Core.Logic.{_⊎_}
 use mathlib.Core.List.{List, [], _∷_, _++_}
 use lib.Dec.{eqb}
 use lib.ListN.{length}
 use Rattle.ac.specs.Term.{Term, flatten}
 use Rattle.numbers.specs.Numbers.{numberOf}
-use Rattle.numbers.specs.First.{First, NoneOf}
+use Rattle.numbers.specs.First.{First}
 use Rattle.numbers.specs.declared.Refusal.{Refusal}
-use Rattle.block.specs.Front.{encode, Writable, Writes, leftSide, rightSide}
-use Rattle.block.specs.Block.{blockNumber, leftLength, rightLength, leftTerm, rightTerm, check, checkOfBytes}
+use Rattle.block.specs.Front.{encode, Writable, Writes}
+use Rattle.block.specs.Block.{blockNumber, leftLength, rightLength, check, checkOfBytes}
 use Rattle.block.specs.Table.{ReadGiven, NoLength, NoTerm, blockNumbers}
 use Rattle.block.specs.Read.{receives}
-use Rattle.block.specs.declared.ReadAnswer.{ReadAnswer}
-use Rattle.block.specs.declared.ReadAnswer.the-variants.{Sides}
 use Rattle.block.specs.declared.header.Header.{Header}
 use Rattle.block.specs.declared.header.Header.the-variants.{Lengths}
 use Rattle.block.specs.declared.term.Kind.{Kind}
@@ -48,9 +47,12 @@ pub data TakesApart (bytes buffer : List ℕ) : Side → List ℕ → Type 0 whe
   no-term : {after : List ℕ} → NoTerm bytes → TakesApart bytes buffer side.NoTerm after
 
 -- Each is 1 to 127.
-pub data TermLength (n : ℕ) : Bool → Type 0 where
-  within : 1 ≤ n → n ≤ 127 → TermLength n true
-  outside : NoLength n → TermLength n false
+abbrev pub IsLength : ℕ → Type 0
+IsLength n = (1 ≤ n) × (n ≤ 127)
+
+pub data TermLengths (left right : ℕ) : Bool → Type 0 where
+  within : IsLength left → IsLength right → TermLengths left right true
+  outside : NoLength left ⊎ NoLength right → TermLengths left right false
 
 -- every byte is 0
 abbrev pub allZero : List ℕ → Bool
@@ -66,20 +68,10 @@ pub record GoodHeader (block : List ℕ) (number : ℕ) : Type 0 where
   pub whole : length block ≡ 512
   pub checked : check block ≡ checkOfBytes block
   pub numbered : blockNumber block ≡ number
-  pub left-length : (1 ≤ leftLength block) × (leftLength block ≤ 127)
-  pub right-length : (1 ≤ rightLength block) × (rightLength block ≤ 127)
+  pub left-length : IsLength (leftLength block)
+  pub right-length : IsLength (rightLength block)
 
--- Numbers 1 to 4 are settled: one of them is given, or the two lengths are.
+-- Numbers 2 to 4 are settled: one of them is given, or the two lengths are good.
 pub data SettlesHeader (block : List ℕ) (number : ℕ) : Header → Type 0 where
   is-refused : {refusal : Refusal} → Refuses block number refusal → SettlesHeader block number (Header.Refused refusal)
   is-good : GoodHeader block number → SettlesHeader block number (Lengths (leftLength block) (rightLength block))
-
--- Numbers 1 to 6 are settled: one of them is given, or the buffers receive the sides.
-pub data SettlesBlock (block : List ℕ) (number : ℕ) (left right : List ℕ) : ReadAnswer → List ℕ → List ℕ → Type 0 where
-  is-refused : {refusal : Refusal} {l r : List ℕ} → Refuses block number refusal → SettlesBlock block number left right (ReadAnswer.Refused refusal) l r
-  is-read :
-      {s t : Term} →
-      ((left right : List ℕ) → NoneOf (ReadGiven block number left right) blockNumbers) →
-      Writes (leftTerm block) s →
-      Writes (rightTerm block) t →
-      SettlesBlock block number left right (Sides (length (leftSide s)) (length (rightSide t))) (receives left (leftSide s)) (receives right (rightSide t))

@@ -1,11 +1,11 @@
-// What stands before a block's terms, and the check: numbers 1 to 4.
+// What stands before a block's terms, and the check: numbers 2 to 4.
 use numbers::Refusal;
 ghost use mathlib.Core.Path.{_≡_};
 ghost use Prim.Native.Nat.{_%_, _-_};
 ghost use lib.ListN.{length};
 ghost use Rattle.ac.specs.Lists.{sum as total};
 ghost use Rattle.block.specs.Block.{twoBytes, checkOfBytes};
-ghost use Rattle.block.specs.Inner.{TermLength, SettlesHeader};
+ghost use Rattle.block.specs.Inner.{TermLengths, SettlesHeader};
 
 // The lengths of the two terms, or why the block is refused.
 pub enum Header {
@@ -13,25 +13,24 @@ pub enum Header {
     Refused(Refusal),
 }
 
-// Settles 1 to 4, in this order.
+// Settles 2 to 4, in this order, for a block of the right length.
 pub fn read_header(block: &[u8], number: u16) -> Header
+    requires { ⌜ length (now block) ≡ 512 ⌝ }
     ensures { λ r. ⌜ SettlesHeader (now (block .entry)) number r ⌝ }
 {
-    if block.len() != 512 {
-        return Header::Refused(Refusal::BlockLength);
-    }
-    if two_bytes(block[510], block[511]) != check_of(block) {
-        return Header::Refused(Refusal::Check);
-    }
-    if two_bytes(block[0], block[1]) != number {
-        return Header::Refused(Refusal::BlockNumber);
-    }
+    let check = two_bytes(block[510], block[511]);
+    let right_check = check_of(block);
+    let written = two_bytes(block[0], block[1]);
     let left = block[2] as usize;
     let right = block[3] as usize;
-    if !is_term_length(left) {
-        return Header::Refused(Refusal::TermLength);
+    let is_good = are_term_lengths(left, right);
+    if check != right_check {
+        return Header::Refused(Refusal::Check);
     }
-    if !is_term_length(right) {
+    if written != number {
+        return Header::Refused(Refusal::BlockNumber);
+    }
+    if !is_good {
         return Header::Refused(Refusal::TermLength);
     }
     Header::Lengths { left, right }
@@ -63,12 +62,15 @@ fn two_bytes(high: u8, low: u8) -> u16
     (high as u16) * 256 + (low as u16)
 }
 
-// A term length is 1 to 127.
-fn is_term_length(length: usize) -> bool
-    ensures { λ r. ⌜ TermLength length r ⌝ }
+// Whether both are the length of a term, 1 to 127.
+fn are_term_lengths(left: usize, right: usize) -> bool
+    ensures { λ r. ⌜ TermLengths left right r ⌝ }
 {
-    match length {
-        1..=127 => true,
+    match left {
+        1..=127 => match right {
+            1..=127 => true,
+            _ => false,
+        },
         _ => false,
     }
 }

@@ -6,51 +6,60 @@ use header::Header;
 use numbers::Refusal;
 use term::Side;
 ghost use mathlib.Core.Path.{_≡_};
-ghost use Prim.Native.Nat.{_≤_};
+ghost use Prim.Native.Nat.{_≤_, min};
 ghost use lib.ListN.{length};
 ghost use Rattle.block.specs.Read.{told, ReadPromise};
-ghost use Rattle.block.specs.Inner.{allZero, SettlesBlock};
+ghost use Rattle.block.specs.Inner.{allZero};
 
-// What Read answers: the lengths of the two flattened sides, or why the block was refused.
+// What Read answers: the lengths of the two flattened sides, or why the block is refused.
 pub enum ReadAnswer {
     Sides { left: usize, right: usize },
     Refused(Refusal),
 }
 
-// Reads a block that is to have this number. The flattened sides go into the two buffers once nothing can be refused any more.
+// Reads a block that is to have this number, and puts its flattened sides into the two buffers.
 pub fn read(block: &[u8], number: u16, left: &mut [u8], right: &mut [u8]) -> ReadAnswer
     ensures { λ r. ⌜ ReadPromise (now (block .entry)) number (now (left .entry)) (now (right .entry)) (told r) (now (left .exit)) (now (right .exit)) ⌝ }
 {
-    if left.len() < 64 {
+    let room = lesser(left.len(), right.len());
+    if room < 64 {
         return ReadAnswer::Refused(Refusal::ShortBuffer);
     }
-    if right.len() < 64 {
-        return ReadAnswer::Refused(Refusal::ShortBuffer);
+    if block.len() != 512 {
+        return ReadAnswer::Refused(Refusal::BlockLength);
     }
     let mut left_atoms = [0u8; 64];
     let mut right_atoms = [0u8; 64];
-    let answer = read_block(block, number, &mut left_atoms, &mut right_atoms);
-    match answer {
-        ReadAnswer::Refused(refusal) => ReadAnswer::Refused(refusal),
-        ReadAnswer::Sides {
-            left: left_count,
-            right: right_count,
-        } => {
-            bytes::copy(&left_atoms[..left_count], left);
-            bytes::copy(&right_atoms[..right_count], right);
-            ReadAnswer::Sides {
-                left: left_count,
-                right: right_count,
-            }
-        }
-    }
+    read_block(
+        block,
+        number,
+        &mut left_atoms,
+        &mut right_atoms,
+        left,
+        right,
+    )
 }
 
-// Settles 1 to 6, in this order. Where the block is refused, the buffers may hold atoms of a part of it.
-fn read_block(block: &[u8], number: u16, left: &mut [u8], right: &mut [u8]) -> ReadAnswer
-    requires { ⌜ 64 ≤ length (now left) ⌝ }
-    requires { ⌜ 64 ≤ length (now right) ⌝ }
-    ensures { λ r. ⌜ SettlesBlock (now (block .entry)) number (now (left .entry)) (now (right .entry)) r (now (left .exit)) (now (right .exit)) ⌝ }
+fn lesser(a: usize, b: usize) -> usize
+    ensures { λ r. ⌜ r ≡ min a b ⌝ }
+{
+    if a < b { a } else { b }
+}
+
+// Reads a block of the right length. The terms are flattened into the two arrays, and the buffers are written once nothing can
+// be refused any more.
+fn read_block(
+    block: &[u8],
+    number: u16,
+    left_atoms: &mut [u8],
+    right_atoms: &mut [u8],
+    left: &mut [u8],
+    right: &mut [u8],
+) -> ReadAnswer
+    requires { ⌜ length (now block) ≡ 512 ⌝ }
+    requires { ⌜ (64 ≤ length (now «left_atoms»)) × (64 ≤ length (now «right_atoms»)) ⌝ }
+    requires { ⌜ (64 ≤ length (now left)) × (64 ≤ length (now right)) ⌝ }
+    ensures { λ r. ⌜ ReadPromise (now (block .entry)) number (now (left .entry)) (now (right .entry)) (told r) (now (left .exit)) (now (right .exit)) ⌝ }
 {
     let header = header::read_header(block, number);
     match header {
@@ -61,17 +70,19 @@ fn read_block(block: &[u8], number: u16, left: &mut [u8], right: &mut [u8]) -> R
         } => {
             let left_end = 4 + left_length;
             let right_end = left_end + right_length;
-            let left_side = term::take_apart(&block[4..left_end], left);
+            let left_side = term::take_apart(&block[4..left_end], left_atoms);
             let Side::Atoms(left_count) = left_side else {
                 return ReadAnswer::Refused(Refusal::Term);
             };
-            let right_side = term::take_apart(&block[left_end..right_end], right);
+            let right_side = term::take_apart(&block[left_end..right_end], right_atoms);
             let Side::Atoms(right_count) = right_side else {
                 return ReadAnswer::Refused(Refusal::Term);
             };
             if !all_zero(&block[right_end..510]) {
                 return ReadAnswer::Refused(Refusal::Filler);
             }
+            bytes::copy(&left_atoms[..left_count], left);
+            bytes::copy(&right_atoms[..right_count], right);
             ReadAnswer::Sides {
                 left: left_count,
                 right: right_count,

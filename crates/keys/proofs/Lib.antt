@@ -1,3 +1,6 @@
 pub mod Any
 pub mod Bits
 pub mod Reach
+pub mod Candidates
+pub mod Table
+pub mod Walk

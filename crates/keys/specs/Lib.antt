@@ -1,1 +1,3 @@
 pub mod Reach
+pub mod Candidates
+pub mod List

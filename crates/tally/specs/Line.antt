@@ -6,9 +6,9 @@ use Rattle.numbers.specs.Numbers.{numberOf}
 use Rattle.block.specs.declared.ReadAnswer.{ReadAnswer}
 use Rattle.block.specs.declared.ReadAnswer.the-variants.{Sides}
 use Rattle.block.specs.declared.ReadAnswer.the-variants as read
-use Rattle.rows.specs.declared.RowsAnswer.{RowsAnswer}
-use Rattle.rows.specs.declared.RowsAnswer.the-variants.{Groups}
-use Rattle.rows.specs.declared.RowsAnswer.the-variants as rows
+use Rattle.solve.specs.declared.RowsAnswer.{RowsAnswer}
+use Rattle.solve.specs.declared.RowsAnswer.the-variants.{Groups}
+use Rattle.solve.specs.declared.RowsAnswer.the-variants as rows
 use Rattle.solver.specs.declared.PageAnswer.{PageAnswer}
 use Rattle.solver.specs.declared.PageAnswer.the-variants.{Page}
 use Rattle.solver.specs.declared.PageAnswer.the-variants as page

@@ -8,7 +8,7 @@ ghost use Rattle.tally.specs.Line.{told, lineOf, lineOfNumber, constants
 ghost use Rattle.tally.specs.Counts.{oneMore, counted, Tallies, closingOf};
 use block::ReadAnswer;
 use numbers::Refusal;
-use rows::RowsAnswer;
+use solve::RowsAnswer;
 use solver::PageAnswer;
 
 // At most so many blocks are read.

@@ -1,4 +1,4 @@
-// The values that a key of a solved pair gives its variables, put into a buffer in the layout of Values.
+// The question Values on a solved pair (document 01, "The questions"): the values that a key gives the variables.
 ghost use Prim.Native.Nat.{_+_, _≤_, _<_};
 ghost use mathlib.Core.Path.{_≡_};
 ghost use mathlib.Core.List.{_∷_, _++_};
@@ -9,10 +9,18 @@ ghost use Rattle.ac.specs.Values.{laidOut};
 ghost use Rattle.buffer.specs.Put.{Put};
 ghost use Rattle.keys.specs.Reach.{any};
 ghost use Rattle.values.specs.Runs.{runs, total, constantTimes, balancedTimes, constantAt, newAt, atomsAt, lengthAt, bindingsBelow};
+ghost use Rattle.keys.specs.List.{OfItsList};
+ghost use Rattle.table.specs.Table.{Within};
+ghost use Rattle.values.specs.Values.{told};
+ghost use Rattle.values.specs.Steps.{SettledOf, WrittenOf, PromiseOfTable};
 use buffer::put_repeated;
+use keys::Next;
 use keys::index_at;
+use keys::least_listed;
 use keys::takes;
+use numbers::Refusal;
 use table::GROUP;
+use table::Table;
 use table::VARIABLES;
 
 // A value has at most 200 atoms.
@@ -20,6 +28,21 @@ pub const LONGEST: usize = 200;
 
 // The first new variable's byte.
 pub const NEW: u8 = 192;
+
+// The buffer has to have room for 6 variables, each with its byte, its count and 200 atoms.
+pub const ROOM: usize = 1212;
+
+// The length written, or why there is nothing.
+pub enum ValuesAnswer {
+    Values { length: usize },
+    Refused(Refusal),
+}
+
+// Whether the key is on the list, or why not.
+pub enum Settled {
+    Listed,
+    Refused(Refusal),
+}
 
 // The same number as a wider one.
 fn wide(number: u8) -> usize
@@ -73,7 +96,7 @@ fn balanced_length(rows: &[u8; 480], balanced: usize, key: u32, place: usize) ->
     ensures { λ r. ⌜ r ≡ total balanced (balancedTimes (now (rows .entry)) key place) ⌝ }
     ensures { λ r. ⌜ r ≤ 4080 ⌝ }
 {
-    let mut length: usize = 0;
+    let mut length = 0;
     let mut i: usize = 0;
     while i < balanced {
         length += balanced_times(rows, key, place, i);
@@ -107,7 +130,7 @@ pub fn too_long(
     requires { ⌜ (places ≤ 6) × (unbalanced ≤ 4) × (balanced ≤ 16) ⌝ }
     ensures { λ r. ⌜ r ≡ any places (λ p. ltb 200 (lengthAt (now (rows .entry)) unbalanced balanced key p)) ⌝ }
 {
-    let mut place: usize = 0;
+    let mut place = 0;
     while place < places {
         if LONGEST < value_length(rows, unbalanced, balanced, key, place) {
             return true;
@@ -207,6 +230,7 @@ pub fn put_bindings(
     ensures { λ r. ⌜ Put (now (out .entry)) 0
         (laidOut (bindingsBelow (now (variables .entry)) (atomsAt (now (rows .entry)) (now (constants .entry)) unbalanced balanced key) places)) r
         (now (out .exit)) ⌝ }
+    ensures { λ r. ⌜ r ≤ 1212 ⌝ }
 {
     let mut next: usize = 0;
     let mut place: usize = 0;
@@ -225,4 +249,65 @@ pub fn put_bindings(
         place += 1;
     }
     next
+}
+
+// The key is listed if the least listed key from it on is itself; else 13 if nothing is listed, and 14 if something else is.
+fn settle(table: Table, key: u32) -> Settled
+    requires { ⌜ Within table ⌝ }
+    ensures { λ r. ⌜ OfItsList table (λ listed. SettledOf listed key r) ⌝ }
+{
+    let first = least_listed(table, 0);
+    let Next::Key(_) = first else {
+        return Settled::Refused(Refusal::NoUnifier);
+    };
+    let least = least_listed(table, key as u64);
+    let Next::Key(found) = least else {
+        return Settled::Refused(Refusal::NotListed);
+    };
+    if found == key {
+        Settled::Listed
+    } else {
+        Settled::Refused(Refusal::NotListed)
+    }
+}
+
+// The values of a key on the list, unless one would be too long.
+fn write(table: Table, key: u32, out: &mut [u8]) -> ValuesAnswer
+    requires { ⌜ Within table ⌝ }
+    requires { ⌜ 1212 ≤ length (now out) ⌝ }
+    ensures { λ r. ⌜ WrittenOf table key (now (out .entry)) (told r) (now (out .exit)) ⌝ }
+{
+    let balanced = table.sizes[0];
+    let rows = table.rows;
+    if too_long(&rows, table.places, table.unbalanced, balanced, key) {
+        return ValuesAnswer::Refused(Refusal::LongValue);
+    }
+    let constants = table.constants;
+    let variables = table.variables;
+    let length = put_bindings(
+        &rows,
+        &constants,
+        &variables,
+        table.places,
+        table.unbalanced,
+        balanced,
+        key,
+        out,
+    );
+    ValuesAnswer::Values { length }
+}
+
+// Values of a solved pair: 16, 13, 14, 17 or the values.
+pub fn values_of(table: Table, key: u32, out: &mut [u8]) -> ValuesAnswer
+    requires { ⌜ Within table ⌝ }
+    ensures { λ r. ⌜ PromiseOfTable table key (now (out .entry)) (told r) (now (out .exit)) ⌝ }
+{
+    if out.len() < ROOM {
+        return ValuesAnswer::Refused(Refusal::ShortBuffer);
+    }
+    let settled = settle(table, key);
+    match settled {
+        Settled::Refused(refusal) => ValuesAnswer::Refused(refusal),
+        Settled::Listed => write(table, key, out),
+    }
 }

@@ -57,9 +57,11 @@ same-length c = put-length (c .before .loop .inv .2)
 returns : tie.Need-returns Inv-loop μ-loop
 returns c =
     let a = c .before .before .before .args in
-    let same : c .before .loop .place ≡ a .places = omega arith in
-    put-as (ap (λ (n : ℕ). laidOut (bindingsBelow (a .variables .now) (atomsAt (a .rows .now) (a .constants .now) (a .unbalanced) (a .balanced) (a .key)) n)) same)
-    (c .before .loop .inv .2)
+    let same : c .before .loop .place ≡ a .places = omega arith in (
+      put-as (ap (λ (n : ℕ). laidOut (bindingsBelow (a .variables .now) (atomsAt (a .rows .now) (a .constants .now) (a .unbalanced) (a .balanced) (a .key)) n)) same)
+          (c .before .loop .inv .2),
+      omega arith,
+    )
 
 pub put-bindings-spec : {M : Type 1} → statement M
 put-bindings-spec =

@@ -1,13 +1,12 @@
 -- `block::header::check_of` meets its contract: the sum is that of the first 510 bytes, and below 65,536. Assumes nothing.
-use mathlib.Core.Path.{sym}
 use borrow.Author.Needs.{needs}
 use native.Mathlib.Omega.{arith}
-use lib.Seq.{length-take-le}
+use lib.ListN.{length-take}
 use Rattle.block.proofs.header.check_of.Statement.{statement}
 use Rattle.block.proofs.header.check_of.Tie as tie
 
 slice-aggregate-sum : tie.Need-slice-aggregate-sum
-slice-aggregate-sum c = sym (length-take-le 510 (c .before .before .args .block .now) (omega arith))
+slice-aggregate-sum c = simp length-take (omega arith)
 
 sum-requires : tie.Need-sum-requires
 sum-requires c κs = search needs

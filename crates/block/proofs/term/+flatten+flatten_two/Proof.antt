@@ -1,9 +1,9 @@
 -- The proof of the cycle of calls {flatten, flatten_two}. The measure is twice the bytes left, and one more after a plus.
 -- `flatten` looks at the first byte; `flatten_two` finds the two terms after a plus. Assumes nothing.
-use Prim.Native.Nat.{ℕ, _+_, _*_, _<_}
-use lib.ListN.{length}
+use Prim.Native.Nat.{ℕ, _+_, _-_, _*_, _<_}
+use lib.ListN.{length, take, drop}
 use Rattle.block.specs.Inner.{found, nothing}
-use Rattle.block.proofs.Begins.{empty-begins-not, above-begins-not, after-first-byte, after-plus-byte, variable-may-be-written, constant-may-be-written, plus-is-128, refused-is-above, first-missing, when-found, when-nothing, found-sizes, filled-within, second-sizes, second-nothing, found-both}
+use Rattle.block.proofs.Begins.{empty-begins-not, above-begins-not, after-first-byte, after-plus-byte, variable-may-be-written, constant-may-be-written, plus-is-128, refused-is-above, first-missing, FoundTerm, when-found, when-nothing, found-sizes, filled-within, second-sizes, second-nothing, found-both}
 use borrow.Author.Needs.{needs}
 use native.Mathlib.Omega.{arith}
 use borrow.Fn.Kinds.{In}
@@ -38,6 +38,36 @@ flatten-two-at t =
 abbrev flatten-two-below : ℕ → In 2 flatten-two-kinds.ps
 flatten-two-below t =
     and 2 flatten-two-kinds.ps (falls 2 flatten-two-kinds.ps _<_ μ-flatten-two t) flatten-two.Pre
+
+-- what `flatten` knows of the first byte's kind, and that there is a first byte
+abbrev At-kind : ℕ → Type 0
+At-kind t = flatten-lts.After-classify (classify-reads.Asked, classify-reads.Learnt, flatten-atom-reads.Asked, flatten-atom-reads.Learnt, flatten-two-below t, flatten-two.Post) (flatten-at t) flatten.Post
+
+some-bytes : (t : ℕ) (c : At-kind t) → 0 < length (c .before .before .before .before .before .args .bytes .now)
+some-bytes t c = omega (arith, c .before .before .if1 .left)
+
+-- what `flatten_two` knows of the first term, and then of the second
+abbrev At-first : ℕ → Type 0
+At-first t = flatten-two-lts.After-known-told (flatten-below t, flatten.Post) (flatten-two-at t) flatten-two.Post
+
+abbrev At-second : ℕ → Type 0
+At-second t = flatten-two-lts.After-known-told2 (flatten-below t, flatten.Post) (flatten-two-at t) flatten-two.Post
+
+abbrev first-known : (t : ℕ) → At-second t → At-first t
+first-known t c = c .before .before .before .before .before .before .before .before
+
+first-term : (t : ℕ) (c : At-first t) →
+    FoundTerm (c .before .before .before .before .before .before .before .before .before .args .bytes .now) (c .before .before .before .before .before .before .before .before .before .args .buffer .now) (c .before .first .given .0 .0) (c .before .first .given .0 .1 .0) (c .before .before .before .before .before .flatten .last .1 .0)
+first-term t c = when-found (c .before .before .before .before .before .flatten .ensures) (c .before .first .given .1)
+
+second-term : (t : ℕ) (c : At-second t) →
+    let at-first = first-known t c in
+    let bytes = at-first .before .before .before .before .before .before .before .before .before .args .bytes .now in
+    let used = at-first .before .first .given .0 .0 in
+    let filled = at-first .before .first .given .0 .1 .0 in
+    let after = at-first .before .before .before .before .before .flatten .last .1 .0 in
+    FoundTerm (take (length bytes - used) (drop used bytes)) (take (length after - filled) (drop filled after)) (c .before .second .given .0 .0) (c .before .second .given .0 .1 .0) (c .before .before .before .before .before .flatten2 .last .1 .0)
+second-term t c = when-found (c .before .before .before .before .before .flatten2 .ensures) (c .before .second .given .1)
 
 flatten-returns : (t : ℕ) → flatten-lts.Need-returns (
   classify-reads.Asked,
@@ -87,7 +117,7 @@ flatten-flatten-atom-requires : (t : ℕ) → flatten-lts.Need-flatten-atom-requ
   flatten-two-below t,
   flatten-two.Post,
 ) (flatten-at t) flatten.Post
-flatten-flatten-atom-requires t c κs = ((variable-may-be-written (rw (c .before .enum-told .given .1) at (c .before .before .before .classify .ensures))), omega (arith, c .before .before .before .before .before .before .before .before .pre .1, c .before .before .before .before .before .if1 .left))
+flatten-flatten-atom-requires t c κs = ((variable-may-be-written (rw (c .before .enum-told .given .1) at (c .before .before .before .classify .ensures))), omega (arith, some-bytes t (c .before .before .before), c .before .before .before .before .before .before .before .before .pre .1))
 
 flatten-enum-told-2 : (t : ℕ) → flatten-lts.Need-enum-told-2 (
   classify-reads.Asked,
@@ -107,7 +137,7 @@ flatten-flatten-atom-requires-2 : (t : ℕ) → flatten-lts.Need-flatten-atom-re
   flatten-two-below t,
   flatten-two.Post,
 ) (flatten-at t) flatten.Post
-flatten-flatten-atom-requires-2 t c κs = ((constant-may-be-written (rw (c .before .enum-told2 .given .1) at (c .before .before .before .classify .ensures))), omega (arith, c .before .before .before .before .before .before .before .before .pre .1, c .before .before .before .before .before .if1 .left))
+flatten-flatten-atom-requires-2 t c κs = ((constant-may-be-written (rw (c .before .enum-told2 .given .1) at (c .before .before .before .classify .ensures))), omega (arith, some-bytes t (c .before .before .before), c .before .before .before .before .before .before .before .before .pre .1))
 
 flatten-enum-told-3 : (t : ℕ) → flatten-lts.Need-enum-told-3 (
   classify-reads.Asked,
@@ -187,7 +217,7 @@ flatten-returns-2 : (t : ℕ) → flatten-lts.Need-returns-2 (
   flatten-two-below t,
   flatten-two.Post,
 ) (flatten-at t) flatten.Post
-flatten-returns-2 t c = after-first-byte (omega (arith, c .before .before .before .before .before .before .before .before .if1 .left)) (c .before .before .flatten-atom .ensures _)
+flatten-returns-2 t c = after-first-byte (some-bytes t (c .before .before .before .before .before .before)) (c .before .before .flatten-atom .ensures _)
 
 flatten-same-length-2 : (t : ℕ) → flatten-lts.Need-same-length-2 (
   classify-reads.Asked,
@@ -207,7 +237,7 @@ flatten-returns-3 : (t : ℕ) → flatten-lts.Need-returns-3 (
   flatten-two-below t,
   flatten-two.Post,
 ) (flatten-at t) flatten.Post
-flatten-returns-3 t c = after-first-byte (omega (arith, c .before .before .before .before .before .before .before .before .if1 .left)) (c .before .before .flatten-atom2 .ensures _)
+flatten-returns-3 t c = after-first-byte (some-bytes t (c .before .before .before .before .before .before)) (c .before .before .flatten-atom2 .ensures _)
 
 flatten-same-length-3 : (t : ℕ) → flatten-lts.Need-same-length-3 (
   classify-reads.Asked,
@@ -227,7 +257,9 @@ flatten-returns-4 : (t : ℕ) → flatten-lts.Need-returns-4 (
   flatten-two-below t,
   flatten-two.Post,
 ) (flatten-at t) flatten.Post
-flatten-returns-4 t c = after-plus-byte (omega (arith, c .before .before .before .before .before .before .before .before .before .if1 .left)) (plus-is-128 (rw (c .before .before .before .before .before .enum-told3 .given .1) at (c .before .before .before .before .before .before .before .classify .ensures))) (c .before .before .flatten-two .ensures)
+flatten-returns-4 t c =
+    let at-kind = c .before .before .before .before .before .before .before in
+    after-plus-byte (some-bytes t at-kind) (plus-is-128 (rw (c .before .before .before .before .before .enum-told3 .given .1) at (at-kind .classify .ensures))) (c .before .before .flatten-two .ensures)
 
 flatten-returns-5 : (t : ℕ) → flatten-lts.Need-returns-5 (
   classify-reads.Asked,
@@ -237,7 +269,9 @@ flatten-returns-5 : (t : ℕ) → flatten-lts.Need-returns-5 (
   flatten-two-below t,
   flatten-two.Post,
 ) (flatten-at t) flatten.Post
-flatten-returns-5 t c = after-first-byte (omega (arith, c .before .before .before .before .if1 .left)) (nothing (above-begins-not (refused-is-above (rw (c .enum-told4 .given .1) at (c .before .before .classify .ensures)))))
+flatten-returns-5 t c =
+    let at-kind = c .before .before in
+    after-first-byte (some-bytes t at-kind) (nothing (above-begins-not (refused-is-above (rw (c .enum-told4 .given .1) at (at-kind .classify .ensures)))))
 
 flatten-two-flatten-requires : (t : ℕ) → flatten-two-lts.Need-flatten-requires (
   flatten-below t,
@@ -277,13 +311,13 @@ flatten-two-sub-flatten : (t : ℕ) → flatten-two-lts.Need-sub-flatten (
   flatten-below t,
   flatten.Post,
 ) (flatten-two-at t) flatten-two.Post
-flatten-two-sub-flatten t c = omega (arith, found-sizes (when-found (c .before .before .before .before .before .flatten .ensures) (c .before .first .given .1)))
+flatten-two-sub-flatten t c = found-sizes (first-term t c) .0
 
 flatten-two-part-flatten-start : (t : ℕ) → flatten-two-lts.Need-part-flatten-start (
   flatten-below t,
   flatten.Post,
 ) (flatten-two-at t) flatten-two.Post
-flatten-two-part-flatten-start t c = found-sizes (when-found (c .before .before .before .before .before .flatten .ensures) (c .before .first .given .1)) .0
+flatten-two-part-flatten-start t c = found-sizes (first-term t c) .0
 
 flatten-two-part-flatten-end : (t : ℕ) → flatten-two-lts.Need-part-flatten-end (
   flatten-below t,
@@ -295,13 +329,13 @@ flatten-two-sub-flatten-2 : (t : ℕ) → flatten-two-lts.Need-sub-flatten-2 (
   flatten-below t,
   flatten.Post,
 ) (flatten-two-at t) flatten-two.Post
-flatten-two-sub-flatten-2 t c = filled-within (when-found (c .before .before .before .before .before .before .flatten .ensures) (c .before .before .first .given .1))
+flatten-two-sub-flatten-2 t c = filled-within (first-term t (c .before))
 
 flatten-two-part-flatten-start-2 : (t : ℕ) → flatten-two-lts.Need-part-flatten-start-2 (
   flatten-below t,
   flatten.Post,
 ) (flatten-two-at t) flatten-two.Post
-flatten-two-part-flatten-start-2 t c = filled-within (when-found (c .before .before .before .before .before .before .flatten .ensures) (c .before .before .first .given .1))
+flatten-two-part-flatten-start-2 t c = filled-within (first-term t (c .before))
 
 flatten-two-part-flatten-end-2 : (t : ℕ) → flatten-two-lts.Need-part-flatten-end-2 (
   flatten-below t,
@@ -313,7 +347,10 @@ flatten-two-flatten-requires-2 : (t : ℕ) → flatten-two-lts.Need-flatten-requ
   flatten-below t,
   flatten.Post,
 ) (flatten-two-at t) flatten-two.Post
-flatten-two-flatten-requires-2 t c κs = let sizes = second-sizes (when-found (c .before .before .before .before .before .before .before .flatten .ensures) (c .before .before .before .first .given .1)) (c .before .before .before .before .before .before .before .before .before .before .before .pre .1) (c .before .before .before .before .before .before .before .flatten .kept .1 .0) in (omega (arith, sizes .0, c .before .before .before .before .before .before .before .before .before .before .before .pre .0), sizes .1)
+flatten-two-flatten-requires-2 t c κs =
+    let at-first = c .before .before in
+    let sizes = second-sizes (first-term t at-first) (at-first .before .before .before .before .before .before .before .before .before .pre .1) (at-first .before .before .before .before .before .flatten .kept .1 .0) in
+    (omega (arith, sizes .0, at-first .before .before .before .before .before .before .before .before .before .pre .0), sizes .1)
 
 flatten-two-enum-known-second : (t : ℕ) → flatten-two-lts.Need-enum-known-second (
   flatten-below t,
@@ -339,7 +376,7 @@ flatten-two-returns-2 :
     (flatten-below t, flatten.Post)
     (flatten-two-at t)
     flatten-two.Post
-flatten-two-returns-2 t c = nothing (second-nothing (when-found (c .before .before .before .before .before .before .before .before .before .before .before .before .flatten .ensures) (c .before .before .before .before .before .before .before .before .first .given .1)) (when-nothing (c .before .before .before .before .flatten2 .ensures) (c .enum-told2 .given .1)))
+flatten-two-returns-2 t c = nothing (second-nothing (first-term t (c .before .before .before .before .before .before .before)) (when-nothing (c .before .before .before .before .flatten2 .ensures) (c .enum-told2 .given .1)))
 
 flatten-two-add-t12 :
     (t : ℕ) →
@@ -347,7 +384,9 @@ flatten-two-add-t12 :
     (flatten-below t, flatten.Post)
     (flatten-two-at t)
     flatten-two.Post
-flatten-two-add-t12 t c = omega (arith, found-sizes (when-found (c .before .before .before .before .before .before .before .before .before .before .before .before .before .flatten .ensures) (c .before .before .before .before .before .before .before .before .before .first .given .1)), c .before .before .before .before .before .before .before .before .before .before .before .before .before .before .before .before .before .good)
+flatten-two-add-t12 t c =
+    let at-first = first-known t c in
+    omega (arith, found-sizes (first-term t at-first), found-sizes (second-term t c), at-first .before .before .before .before .before .before .before .before .before .good)
 
 flatten-two-add-t16 :
     (t : ℕ) →
@@ -355,7 +394,9 @@ flatten-two-add-t16 :
     (flatten-below t, flatten.Post)
     (flatten-two-at t)
     flatten-two.Post
-flatten-two-add-t16 t c = omega (arith, found-sizes (when-found (c .before .before .before .before .before .before .before .before .before .before .before .before .before .flatten .ensures) (c .before .before .before .before .before .before .before .before .before .first .given .1)), found-sizes (when-found (c .before .before .before .before .before .flatten2 .ensures) (c .before .second .given .1)), c .before .before .before .before .before .before .before .before .before .before .before .before .before .before .before .before .before .good)
+flatten-two-add-t16 t c =
+    let at-first = first-known t c in
+    omega (arith, found-sizes (first-term t at-first), found-sizes (second-term t c), at-first .before .before .before .before .before .before .before .before .before .good)
 
 flatten-two-add-t19 :
     (t : ℕ) →
@@ -363,7 +404,9 @@ flatten-two-add-t19 :
     (flatten-below t, flatten.Post)
     (flatten-two-at t)
     flatten-two.Post
-flatten-two-add-t19 t c = omega (arith, found-sizes (when-found (c .before .before .before .before .before .before .before .before .before .before .before .before .before .flatten .ensures) (c .before .before .before .before .before .before .before .before .before .first .given .1)), found-sizes (when-found (c .before .before .before .before .before .flatten2 .ensures) (c .before .second .given .1)), c .before .before .before .before .before .before .before .before .before .before .before .before .before .before .before .before .before .good)
+flatten-two-add-t19 t c =
+    let at-first = first-known t c in
+    omega (arith, found-sizes (first-term t at-first), found-sizes (second-term t c), at-first .before .before .before .before .before .before .before .before .before .good)
 
 flatten-two-same-length-3 : (t : ℕ) → flatten-two-lts.Need-same-length-3 (
   flatten-below t,
@@ -377,7 +420,7 @@ flatten-two-returns-3 :
     (flatten-below t, flatten.Post)
     (flatten-two-at t)
     flatten-two.Post
-flatten-two-returns-3 t c = found-both (when-found (c .before .before .before .before .before .before .before .before .before .before .before .before .before .flatten .ensures) (c .before .before .before .before .before .before .before .before .before .first .given .1)) (when-found (c .before .before .before .before .before .flatten2 .ensures) (c .before .second .given .1))
+flatten-two-returns-3 t c = found-both (first-term t (first-known t c)) (second-term t c)
 
 pub +flatten+flatten-two-spec : {M : Type 1} → statement M
 +flatten+flatten-two-spec = close μ-flatten μ-flatten-two (λ t. flatten-lts.spec (

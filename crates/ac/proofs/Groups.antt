@@ -1,0 +1,68 @@
+-- The groups of a pair exist and are unique.
+use Prim.Native.Nat.{ℕ}
+use mathlib.Core.Path.{_≡_, refl, sym, ap, ap₂, subst, _∙_}
+use mathlib.Core.List.{List, [], _∷_, map, List·Memᴰ, List·Memᴰ·head, List·Memᴰ·tail, Memᴰ·of-map, nil≢cons, head-eq-of-cons-eq, tail-eq-of-cons-eq}
+use mathlib.Core.Logic.{Iff·symm}
+use lib.ListN.{length, length-map}
+use Rattle.ac.specs.Pair.{Mode, count, variables, unbalanced}
+use Rattle.ac.specs.Rows.{Exactly, RowOf, Group, Groups, GroupsOf}
+use Rattle.ac.specs.Equation.{balancedEquation, equationOf}
+use Rattle.ac.specs.Search.{groupOf, groups}
+use Rattle.ac.proofs.Vectors.{exactly-same}
+use Rattle.ac.proofs.Order.{exactly-unique}
+use Rattle.ac.proofs.Bridge.{balanced-row-is-minimal, row-of-constant-is-minimal}
+use Rattle.ac.proofs.Solutions.{minimal-solutions-exact}
+
+module _ (M : Mode) (L R : List ℕ) where
+  -- both sides of the pair's equations have a coefficient for each variable
+  same-coefficients : length (map (λ x. count x L) (variables M L R)) ≡ length (map (λ x. count x R) (variables M L R))
+  same-coefficients = length-map (variables M L R) (λ x. count x L) ∙ sym (length-map (variables M L R) (λ x. count x R))
+
+  constants-of : (cs : List ℕ) → map (λ (g : Group). g .constant) (map (groupOf M L R) cs) ≡ cs
+  constants-of [] = refl
+  constants-of (c ∷ cs) = ap (λ ds. c ∷ ds) (constants-of cs)
+
+  group-rows : (c : ℕ) → Exactly (RowOf M L R c) (groupOf M L R c .rows)
+  group-rows c = exactly-same (λ v. Iff·symm (row-of-constant-is-minimal M L R c v)) (minimal-solutions-exact (equationOf M L R c) same-coefficients)
+
+  -- Every pair has its groups.
+  pub groups-exist : GroupsOf M L R (groups M L R)
+  groups-exist =
+      record {
+        balanced-rows = exactly-same (λ v. Iff·symm (balanced-row-is-minimal M L R v)) (minimal-solutions-exact (balancedEquation M L R) same-coefficients);
+        the-constants = constants-of (unbalanced M L R);
+        constant-rows = λ g m. by-origin g (Memᴰ·of-map (groupOf M L R) (unbalanced M L R) m);
+      }
+    where
+      by-origin : (g : Group) → (c : ℕ) × List·Memᴰ c (unbalanced M L R) × (groupOf M L R c ≡ g) → Exactly (RowOf M L R (g .constant)) (g .rows)
+      by-origin g o = subst (λ h. Exactly (RowOf M L R (h .constant)) (h .rows)) (o .2) (group-rows (o .0))
+
+  -- two lists of the same constants, each with exactly its rows, are equal
+  constants-unique : (gs hs : List Group) → map (λ (g : Group). g .constant) gs ≡ map (λ (g : Group). g .constant) hs
+      → ((g : Group) → List·Memᴰ g gs → Exactly (RowOf M L R (g .constant)) (g .rows))
+      → ((g : Group) → List·Memᴰ g hs → Exactly (RowOf M L R (g .constant)) (g .rows)) → gs ≡ hs
+  constants-unique [] [] same rows-g rows-h = refl
+  constants-unique [] (h ∷ hs) same rows-g rows-h = absurd (nil≢cons same)
+  constants-unique (g ∷ gs) [] same rows-g rows-h = absurd (nil≢cons (sym same))
+  constants-unique (g ∷ gs) (h ∷ hs) same rows-g rows-h =
+      ap₂ {C = List Group} (λ x xs. x ∷ xs) (λ i. record { constant = constant i; rows = rows i })
+      (constants-unique gs hs (tail-eq-of-cons-eq same) (λ x m. rows-g x (List·Memᴰ·tail m)) (λ x m. rows-h x (List·Memᴰ·tail m)))
+    where
+      constant : g .constant ≡ h .constant
+      constant = head-eq-of-cons-eq same
+
+      rows : g .rows ≡ h .rows
+      rows =
+          exactly-unique
+          (subst (λ c. Exactly (RowOf M L R c) (g .rows)) constant (rows-g g (List·Memᴰ·head refl)))
+          (rows-h h (List·Memᴰ·head refl))
+
+  -- A pair has one system of groups.
+  pub groups-unique : {G H : Groups} → GroupsOf M L R G → GroupsOf M L R H → G ≡ H
+  groups-unique {G} {H} g h = λ i. record { balanced = balanced i; constants = constants i }
+    where
+      balanced : G .balanced ≡ H .balanced
+      balanced = exactly-unique (g .balanced-rows) (h .balanced-rows)
+
+      constants : G .constants ≡ H .constants
+      constants = constants-unique (G .constants) (H .constants) (g .the-constants ∙ sym (h .the-constants)) (g .constant-rows) (h .constant-rows)

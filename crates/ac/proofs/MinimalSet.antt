@@ -1,0 +1,140 @@
+-- The list in the words of source document 000: the substitutions of the listed selections are a complete set of minimal unifiers.
+use Prim.Native.Nat.{ℕ, suc, _≤_}
+use native.Mathlib.Omega.{arith}
+use mathlib.Core.Path.{_≡_, refl, sym, ap, subst, subst₂, _∙_}
+use mathlib.Core.Logic.{_↔_, ⊎-elim}
+use mathlib.Core.Bool.{Bool, true, false, cond}
+use mathlib.Core.List.{List, [], _∷_, map, List·Memᴰ, List·Memᴰ·head, List·Memᴰ·tail, List·Memᴰ·not-nil, List·Memᴰ·append-cases}
+use borrow.Author.Tests.{lt-ltb, le-ltb}
+use lib.Dec.{lit≤}
+use Rattle.ac.specs.Term.{Term, atom, flatten}
+use Rattle.ac.specs.Pair.{Mode, IsSide, unifying, count}
+use Rattle.ac.specs.Rows.{Groups, GroupsOf}
+use Rattle.ac.specs.Selection.{Selection, SelectionOf, Taken, takenRows, takenBalanced, taken, placeOf, admissible, value}
+use Rattle.ac.specs.Keys.{Layout, layout, selections, listed}
+use Rattle.ac.specs.Replacement.{Replacement, Unifies, ComesFrom}
+use Rattle.ac.specs.Fages.{Substitution, ACUnifier, MoreGeneral, Pure, anyVariable, variablesOf, tree, substitutionOf, MinimalSet}
+use Rattle.ac.proofs.Order.{filter-member, member-filter}
+use Rattle.ac.proofs.Members.{map-members, members-map}
+use Rattle.ac.proofs.Listed.{selections-are}
+use Rattle.ac.proofs.Counts.{count-some, count-none}
+use Rattle.ac.proofs.Taken.{valueAt-atoms}
+use Rattle.ac.proofs.Constants.{takenRows-atoms}
+use Rattle.ac.proofs.Replaced.{unbalanced-cases}
+use Rattle.ac.proofs.Theorems.{sound, complete, independent}
+use Rattle.ac.proofs.Fages.{Agree, flattened, flatten-tree, unifies-alike, comes-alike, unifier-unifies, more-general, every-variable}
+
+-- the atoms of taken balanced rows are new variables
+takenBalanced-new : (n : ℕ) (rows : List (List ℕ)) (ts : List Bool) (t : Taken) → List·Memᴰ t (takenBalanced n rows ts) → n ≤ t .atom
+takenBalanced-new n [] ts t m = absurd (List·Memᴰ·not-nil m)
+takenBalanced-new n (r ∷ rows) [] t m = absurd (List·Memᴰ·not-nil m)
+takenBalanced-new n (r ∷ rows) (true ∷ ts) t (List·Memᴰ·head e) = omega (arith, ap (λ (u : Taken). u .atom) e)
+takenBalanced-new n (r ∷ rows) (true ∷ ts) t (List·Memᴰ·tail m) = omega (arith, takenBalanced-new (suc n) rows ts t m)
+takenBalanced-new n (r ∷ rows) (false ∷ ts) t m = omega (arith, takenBalanced-new (suc n) rows ts t m)
+
+module _ (M : Mode) (lay : Layout) (s t : Term) (left : IsSide (flatten s)) (right : IsSide (flatten t)) (some : M .empties ≡ false)
+    (above : 128 ≤ lay .new) (stay : (a : ℕ) → lay .new ≤ a → M .moves a ≡ false) {G : Groups} (groups : GroupsOf M (flatten s) (flatten t) G) where
+  -- what a selection gives, as a replacement and as a substitution
+  abbrev values : Selection → Replacement
+  values k = value M (lay .new) (flatten s) (flatten t) G k
+
+  abbrev substitution : Selection → Substitution
+  substitution k = substitutionOf M (lay .new) (flatten s) (flatten t) G k
+
+  abbrev Admitted : Selection → Type 0
+  Admitted k = SelectionOf G k × (admissible M (lay .new) (flatten s) (flatten t) G k ≡ true)
+
+  unifies : {k : Selection} → Admitted k → Unifies M (flatten s) (flatten t) (values k)
+  unifies {k} ok = sound M (lay .new) (flatten s) (flatten t) left right groups (ok .0) (ok .1)
+
+  -- on the pair's variables the substitution is that of the values, and elsewhere it moves nothing
+  its-values : {k : Selection} → Admitted k → Agree (variablesOf M s t) (flattened (substitution k)) (values k)
+  its-values {k} ok x m =
+      ap (λ b. flatten (cond b (tree (values k x)) (atom x))) (lt-ltb 0 (count x (variablesOf M s t)) (count-some x (variablesOf M s t) m))
+      ∙ flatten-tree (values k x) (unifies ok .non-empty x m some)
+
+  elsewhere : (k : Selection) (x : ℕ) → (List·Memᴰ x (variablesOf M s t) → ⊥) → substitution k x ≡ atom x
+  elsewhere k x absent =
+      ap (λ b. cond b (tree (values k x)) (atom x)) (le-ltb 0 (count x (variablesOf M s t)) (omega (arith, count-none x (variablesOf M s t) absent)))
+
+  pure : {k : Selection} → Admitted k → Pure (M .moves) (variablesOf M s t) (substitution k)
+  pure {k} ok x a m at =
+      let row = valueAt-atoms (taken (lay .new) G k) (placeOf x (variablesOf M s t)) a (subst (List·Memᴰ a) (its-values ok x m) at) in
+      subst (λ (b : ℕ). M .moves b ≡ false) (sym (row .2))
+      (⊎-elim
+      (λ constant.
+      unbalanced-cases M (flatten s) (flatten t) (row .0 .atom)
+      (subst (List·Memᴰ (row .0 .atom)) (groups .the-constants) (takenRows-atoms (ok .0 .a-row-each) (row .0) constant)) .1)
+      (λ balanced. stay (row .0 .atom) (takenBalanced-new (lay .new) (G .balanced) (k .takes) (row .0) balanced))
+      (List·Memᴰ·append-cases (takenRows (G .constants) (k .indexes)) (row .1)))
+
+  -- "more general" among them and above them is "comes from"
+  general : {k : Selection} → Admitted k → (ρ : Substitution)
+      → MoreGeneral (anyVariable M (lay .new)) (variablesOf M s t) (substitution k) ρ
+      ↔ ComesFrom M (lay .new) (flatten s) (flatten t) (values k) (flattened ρ)
+  general {k} ok ρ = (
+    λ more.
+        comes-alike M (lay .new) (flatten s) (flatten t) (its-values ok) (λ x m. refl)
+        (more-general M (lay .new) s t some (substitution k) ρ .0 (every-variable M (lay .new) (variablesOf M s t) (substitution k) ρ (pure ok) .0 more)),
+    λ comes.
+        every-variable M (lay .new) (variablesOf M s t) (substitution k) ρ (pure ok) .1
+        (more-general M (lay .new) s t some (substitution k) ρ .1
+        (comes-alike M (lay .new) (flatten s) (flatten t) (λ x m. sym (its-values ok x m)) (λ x m. refl) comes)),
+  )
+
+  listed-admitted : {k : Selection} → List·Memᴰ k (listed M lay (flatten s) (flatten t) G) → Admitted k
+  listed-admitted {k} m =
+      let both = filter-member (admissible M (lay .new) (flatten s) (flatten t) G) (selections G) m in
+      (selections-are G .0 (both .0), both .1)
+
+  admitted-listed : {k : Selection} → Admitted k → List·Memᴰ k (listed M lay (flatten s) (flatten t) G)
+  admitted-listed {k} ok = member-filter (admissible M (lay .new) (flatten s) (flatten t) G) (selections-are G .1 (ok .0)) (ok .1)
+
+  correct : {k : Selection} → Admitted k → ACUnifier M s t (substitution k)
+  correct {k} ok =
+      unifier-unifies M s t (substitution k) .1
+      (unifies-alike M (flatten s) (flatten t) left right (λ x m. sym (its-values ok x m)) (unifies ok))
+
+  minimal : {k l : Selection} → Admitted k → Admitted l
+      → MoreGeneral (anyVariable M (lay .new)) (variablesOf M s t) (substitution k) (substitution l) → k ≡ l
+  minimal {k} {l} ok ok′ more =
+      independent M (lay .new) (flatten s) (flatten t) above groups (ok .0) (ok′ .0) (ok .1) (ok′ .1)
+      (comes-alike M (lay .new) (flatten s) (flatten t) (λ x m. refl) (its-values ok′) (general ok (substitution l) .0 more))
+
+  covered : (ρ : Substitution) → ACUnifier M s t ρ
+      → (k : Selection) × Admitted k × MoreGeneral (anyVariable M (lay .new)) (variablesOf M s t) (substitution k) ρ
+  covered ρ unifier =
+      let found = complete M (lay .new) (flatten s) (flatten t) left right above groups (unifier-unifies M s t ρ .0 unifier) in
+      (found .0, (found .1, found .2), general (found .1, found .2) ρ .1 (found .3))
+
+  -- The substitutions of the listed selections are a complete set of minimal unifiers of the two terms.
+  pub minimal-set : MinimalSet M (lay .new) s t (map substitution (listed M lay (flatten s) (flatten t) G))
+  minimal-set =
+      record {
+        domain = λ σ m x absent. let k = of-selection m in ap (λ (σ : Substitution). σ x) (k .2) ∙ elsewhere (k .0) x absent;
+        purity = λ σ m. let k = of-selection m in subst (Pure (M .moves) (variablesOf M s t)) (sym (k .2)) (pure (listed-admitted (k .1)));
+        correctness = λ σ m. let k = of-selection m in subst (ACUnifier M s t) (sym (k .2)) (correct (listed-admitted (k .1)));
+        completeness =
+            λ ρ unifier.
+            let found = covered ρ unifier in
+            (substitution (found .0), members-map substitution (admitted-listed (found .1)), found .2);
+        minimality =
+            λ σ σ′ m m′ more.
+            let k = of-selection m in
+            let l = of-selection m′ in
+            k .2
+            ∙ ap substitution
+            (minimal (listed-admitted (k .1)) (listed-admitted (l .1))
+            (subst₂ (MoreGeneral (anyVariable M (lay .new)) (variablesOf M s t)) (k .2) (l .2) more))
+            ∙ sym (l .2);
+      }
+    where
+      of-selection : {σ : Substitution} → List·Memᴰ σ (map substitution (listed M lay (flatten s) (flatten t) G))
+          → (k : Selection) × List·Memᴰ k (listed M lay (flatten s) (flatten t) G) × (σ ≡ substitution k)
+      of-selection m = map-members substitution (listed M lay (flatten s) (flatten t) G) m
+
+-- For document 01's atoms and keys.
+pub unifying-minimal-set : (s t : Term) → IsSide (flatten s) → IsSide (flatten t) → {G : Groups} → GroupsOf unifying (flatten s) (flatten t) G
+    → MinimalSet unifying 192 s t (map (substitutionOf unifying 192 (flatten s) (flatten t) G) (listed unifying layout (flatten s) (flatten t) G))
+unifying-minimal-set s t left right groups =
+    minimal-set unifying layout s t left right refl (lit≤ tt) (λ a new. le-ltb a 64 (omega arith)) groups

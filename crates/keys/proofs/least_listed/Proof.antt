@@ -1,0 +1,89 @@
+-- `keys::least_listed` meets its contract. The invariant: no listed key stands from `from` to before the number that the walk has come to.
+-- The measure is what is left of the keys.
+use Prim.Native.Nat.{_-_, _^_}
+use native.Mathlib.Omega.{arith}
+use native.Mathlib.Nat.{le-refl}
+use mathlib.Core.Path.{sym, _∙_}
+use borrow.Author.Needs.{needs}
+use lib.ListN.{length-map}
+use Rattle.keys.proofs.Walk.{Walked, passed-none, step-between, step-weighed, step-found, step-end}
+use Rattle.keys.proofs.least_listed.Statement.{statement}
+use Rattle.keys.proofs.least_listed.Tie as tie
+
+abbrev Inv-loop : tie.InvT-loop
+Inv-loop from table balanced at₀ at = Walked table from at
+
+abbrev μ-loop : tie.MeasureT-loop
+μ-loop from table balanced at₀ at = 2 ^ 32 - at
+
+element-copy-out-balanced : tie.Need-element-copy-out-balanced Inv-loop μ-loop
+element-copy-out-balanced c = search needs
+
+loop-holds : tie.Need-loop-holds Inv-loop μ-loop
+loop-holds c = record { room = sym (length-map (c .before .args .t1 .constants) (λ v. v)) ∙ c .before .good .0 .1 .1 .1 .1 .0 .1 .0 .1; above = le-refl _; passed = passed-none _ _ }
+
+cast-key : tie.Need-cast-key Inv-loop μ-loop
+cast-key c = omega arith
+
+stands-requires : tie.Need-stands-requires Inv-loop μ-loop
+stands-requires c κs = (c .before .before .before .before .before .pre .constants-fit, c .before .before .before .before .before .pre .sizes-fit 0)
+
+enum-known-standing : tie.Need-enum-known-standing Inv-loop μ-loop
+enum-known-standing c = search needs
+
+loop-less : tie.Need-loop-less Inv-loop μ-loop
+loop-less c =
+    omega (
+      arith,
+      step-between (c .before .before .before .before .before .before .before .before .before .pre) (c .before .before .before .before .before .before .before .loop .inv) (c .before .before .before .stands .ensures) (c .before .standing .given .1) .0,
+      c .before .before .before .before .before .before .loop-test .taken,
+    )
+
+loop-again : tie.Need-loop-again Inv-loop μ-loop
+loop-again c = step-between (c .before .before .before .before .before .before .before .before .before .pre) (c .before .before .before .before .before .before .before .loop .inv) (c .before .before .before .stands .ensures) (c .before .standing .given .1) .1
+
+enum-told : tie.Need-enum-told Inv-loop μ-loop
+enum-told c = search needs
+
+weigh-requires : tie.Need-weigh-requires Inv-loop μ-loop
+weigh-requires c κs =
+    let fit = c .before .before .before .before .before .before .before .before .before .before .pre in
+    (fit .places-fit, fit .constants-fit, fit .sizes-fit 0)
+
+returns : tie.Need-returns Inv-loop μ-loop
+returns c =
+    step-found (c .before .before .before .before .before .before .before .before .before .before .before .before .pre) (c .before .before .before .before .before .before .before .before .before .before .loop .inv) (c .before .before .before .before .before .before .stands .ensures) (c .before .before .before .before .enum-told .given .1) (c .before .weigh .ensures) (c .if1 .taken)
+
+add-at : tie.Need-add-at Inv-loop μ-loop
+add-at c = omega arith
+
+loop-less-2 : tie.Need-loop-less-2 Inv-loop μ-loop
+loop-less-2 c = omega arith
+
+loop-again-2 : tie.Need-loop-again-2 Inv-loop μ-loop
+loop-again-2 c =
+    step-weighed (c .before .before .before .before .before .before .before .before .before .before .before .before .pre) (c .before .before .before .before .before .before .before .before .before .before .loop .inv) (c .before .before .before .before .before .before .stands .ensures) (c .before .before .before .before .enum-told .given .1) (c .before .weigh .ensures) (c .if1 .left)
+
+returns-2 : tie.Need-returns-2 Inv-loop μ-loop
+returns-2 c = step-end (c .before .loop .inv) (c .loop-test .left)
+
+pub least-listed-spec : {M : Type 1} → statement M
+least-listed-spec =
+    tie.close
+    (tie.spec
+    Inv-loop
+    μ-loop
+    element-copy-out-balanced
+    loop-holds
+    cast-key
+    stands-requires
+    enum-known-standing
+    loop-less
+    loop-again
+    enum-told
+    weigh-requires
+    returns
+    add-at
+    loop-less-2
+    loop-again-2
+    returns-2)

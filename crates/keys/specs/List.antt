@@ -1,0 +1,21 @@
+-- The list of the pair that a table is of, and the next key on it.
+use Prim.Native.Nat.{ℕ}
+use mathlib.Core.Path.{_≡_}
+use mathlib.Core.Bool.{false}
+use mathlib.Core.List.{List}
+use Rattle.ac.specs.Pair.{Mode}
+use Rattle.ac.specs.Keys.{layout, keys}
+use Rattle.ac.specs.Pages.{LeastFrom, NoneFrom}
+use Rattle.table.specs.Table.{TableOf, groupsIn}
+use Rattle.table.specs.declared.Table.{Table}
+use Rattle.keys.specs.declared.Next.{Next}
+use Rattle.keys.specs.declared.Next.the-variants.{Key, None}
+
+-- It is so of the list of every pair that the table is of, in a mode in which no variable may be empty.
+abbrev pub OfItsList : Table → (List ℕ → Type 0) → Type 0
+OfItsList table So = (M : Mode) (L R : List ℕ) → M .empties ≡ false → TableOf M L R table → So (keys M layout L R (groupsIn table))
+
+-- the least key of the list from a number on, or that the list has none
+pub data NextFrom (keys : List ℕ) (from : ℕ) : Next → Type 0 where
+  found : {key : ℕ} → LeastFrom keys from key → NextFrom keys from (Key key)
+  nothing : NoneFrom keys from → NextFrom keys from None

@@ -1,0 +1,81 @@
+-- The answer to a question's list of numbers, carried from one table to another and past numbers that are not given.
+use Prim.Native.Nat.{ℕ, _≤_}
+use native.Mathlib.Omega.{arith}
+use mathlib.Core.Path.{_≡_, refl, subst}
+use mathlib.Core.Bool.{Bool, true, false, not, _&&_}
+use mathlib.Core.Logic.{_↔_}
+use mathlib.Core.List.{List, [], _∷_, _++_, List·Memᴰ, List·Memᴰ·head, List·Memᴰ·tail, List·Memᴰ·not-nil}
+use borrow.Author.Tests.{leb-true, eqb-false, not-true}
+use lib.Dec.{leb, eqb}
+use Rattle.numbers.specs.First.{First, NoneOf, here, later, end, also}
+
+and-true : (a b : Bool) → (a && b) ≡ true → (a ≡ true) × (b ≡ true)
+and-true true b e = (refl, e)
+and-true false b e = absurd (let z : _≡_ {A = ℕ} 0 1 = cc e in omega arith)
+
+-- the numbers of a list lie between two, by a test that computes
+abbrev pub inside : ℕ → ℕ → List ℕ → Bool
+inside low high [] = true
+inside low high (n ∷ ns) = leb low n && (leb n high && inside low high ns)
+
+pub numbers-between : (low high : ℕ) (ns : List ℕ) → inside low high ns ≡ true → {m : ℕ} → List·Memᴰ m ns → (low ≤ m) × (m ≤ high)
+numbers-between low high [] e mem = absurd (List·Memᴰ·not-nil mem)
+numbers-between low high (n ∷ ns) e (List·Memᴰ·head same) =
+    let first = and-true (leb low n) (leb n high && inside low high ns) e in
+    omega (arith, leb-true low n (first .0), leb-true n high (and-true (leb n high) (inside low high ns) (first .1) .0))
+numbers-between low high (n ∷ ns) e (List·Memᴰ·tail mem) =
+    let first = and-true (leb low n) (leb n high && inside low high ns) e in
+    numbers-between low high ns (and-true (leb n high) (inside low high ns) (first .1) .1) mem
+
+module _ {Given Other : ℕ → Type 0} where
+  -- where two tables agree on a list's numbers, its first number is the same
+  pub first-carried : {ns : List ℕ} {n : ℕ} → ((m : ℕ) → List·Memᴰ m ns → Given m ↔ Other m) → First Given ns n → First Other ns n
+  first-carried agree (here given) = here (agree _ (List·Memᴰ·head refl) .0 given)
+  first-carried agree (later skip first) =
+      later (λ given. skip (agree _ (List·Memᴰ·head refl) .1 given)) (first-carried (λ m mem. agree m (List·Memᴰ·tail mem)) first)
+
+  pub none-carried : {ns : List ℕ} → ((m : ℕ) → List·Memᴰ m ns → Other m → Given m) → NoneOf Given ns → NoneOf Other ns
+  none-carried back end = end
+  none-carried back (also skip none) =
+      also (λ given. skip (back _ (List·Memᴰ·head refl) given)) (none-carried (λ m mem. back m (List·Memᴰ·tail mem)) none)
+
+module _ {Given : ℕ → Type 0} where
+  -- the first number of a list's end is the list's, where none before it is given
+  pub first-after : {ms ns : List ℕ} {n : ℕ} → NoneOf Given ms → First Given ns n → First Given (ms ++ ns) n
+  first-after end first = first
+  first-after (also skip none) first = later skip (first-after none first)
+
+  -- the first number of a list's front is the list's
+  pub first-before : {ms : List ℕ} (ns : List ℕ) {n : ℕ} → First Given ms n → First Given (ms ++ ns) n
+  first-before ns (here given) = here given
+  first-before ns (later skip first) = later skip (first-before ns first)
+
+  pub none-after : {ms ns : List ℕ} → NoneOf Given ms → NoneOf Given ns → NoneOf Given (ms ++ ns)
+  none-after end none = none
+  none-after (also skip others) none = also skip (none-after others none)
+
+-- none of a list's front is given where none of the list is
+pub none-front : {Given : ℕ → Type 0} (ms ns : List ℕ) → NoneOf Given (ms ++ ns) → NoneOf Given ms
+none-front [] ns none = end
+none-front (m ∷ ms) ns (also skip none) = also skip (none-front ms ns none)
+
+-- the first number of a list is given; none of a list's members is, where none of the list is
+pub first-given : {Given : ℕ → Type 0} {ns : List ℕ} {n : ℕ} → First Given ns n → Given n
+first-given (here given) = given
+first-given (later skip first) = first-given first
+
+pub none-given : {Given : ℕ → Type 0} {ns : List ℕ} {n : ℕ} → NoneOf Given ns → List·Memᴰ n ns → Given n → ⊥
+none-given {Given} (also skip none) (List·Memᴰ·head e) given = skip (subst Given e given)
+none-given (also skip none) (List·Memᴰ·tail mem) given = none-given none mem given
+
+-- a number is none of the list's, by a test that computes
+abbrev pub elsewhere : ℕ → List ℕ → Bool
+elsewhere n [] = true
+elsewhere n (m ∷ ms) = not (eqb n m) && elsewhere n ms
+
+-- where the first number is none of a list's front, none of the front is given
+pub first-past : {Given : ℕ → Type 0} (ms ns : List ℕ) {n : ℕ} → elsewhere n ms ≡ true → First Given (ms ++ ns) n → NoneOf Given ms
+first-past [] ns e first = end
+first-past (m ∷ ms) ns {n} e (here given) =
+    absurd (eqb-false n n (not-true (eqb n n) (and-true (not (eqb n n)) (elsewhere n ms) e .0)) refl)
+first-past (m ∷ ms) ns {n} e (later skip first) = also skip (first-past ms ns (and-true (not (eqb n m)) (elsewhere n ms) e .1) first)

@@ -1,0 +1,82 @@
+-- Which numbers a place may have, and that the sums have room for them.
+use Prim.Native.Nat.{ℕ, _+_, _*_, _-_, _/_, _≤_, _<_, min}
+use native.Mathlib.Omega.{arith}
+use native.Mathlib.Nat.{le-trans, le-min, mul-le-mul, mul-le-mul-right, mul-div-right}
+use mathlib.Core.Path.{_≡_, refl, sym, ap, _∙_}
+use mathlib.Core.Bool.{Bool, true, false, cond, _||_}
+use lib.Dec.{leb, ltb}
+use borrow.Author.Tests.{le-leb, lt-leb}
+use Rattle.rows.specs.declared.standing.Standing.{Standing}
+use Rattle.rows.specs.declared.standing.Range.{Range}
+use Rattle.rows.specs.Places.{budgetOf, afterChoice, Room, Possible, Lifts, Ranges}
+
+-- Numbers that fit.
+
+pub bytes-product : {a b : ℕ} → a < 256 → b < 256 → a * b ≤ 65025
+bytes-product {a} {b} h h′ = omega (arith, mul-le-mul {n₁ = a} {m₁ = b} {n₂ = 255} {m₂ = 255} (omega arith) (omega arith))
+
+pub room-after : {at : Standing} {l r n : ℕ} → Room at → l < 256 → r < 256 → n ≤ budgetOf at l r → Room (afterChoice at l r n)
+room-after {at} {l} {r} {n} room bl br = by-kind (leb r l)
+  where
+    by-kind : (b : Bool) → n ≤ cond b (at .up) (at .down) → Room (record { left = at .left + l * n; right = at .right + r * n; up = cond b (at .up - n) (at .up); down = cond b (at .down) (at .down - n); counts = at .counts || ltb 0 n })
+    by-kind true h =
+        record {
+          left-room = omega (arith, room .left-room, mul-le-mul-right n (let h : l ≤ 255 = omega arith in h));
+          right-room = omega (arith, room .right-room, mul-le-mul-right n (let h : r ≤ 255 = omega arith in h));
+        }
+    by-kind false h =
+        record {
+          left-room = omega (arith, room .left-room, mul-le-mul-right n (let h : l ≤ 255 = omega arith in h));
+          right-room = omega (arith, room .right-room, mul-le-mul-right n (let h : r ≤ 255 = omega arith in h));
+        }
+
+-- The number that makes two sums equal.
+
+quotient : (low n : ℕ) {high step : ℕ} → 0 < step → step * n + low ≡ high → (high - low) / step ≡ n
+quotient low n {high} {step} positive e = ap (λ z. z / step) (let h : high - low ≡ step * n = omega arith in h) ∙ mul-div-right n positive
+
+module _ {low high step budget : ℕ} (positive : 0 < step) where
+  pub lifts-none-low : high < low → {range : Range} → range .most ≤ budget → Lifts low high step budget range
+  lifts-none-low h small = record { within = small; covers = λ n fits e. absurd (omega arith) }
+
+  pub lifts-none-high : budget < (high - low) / step → {range : Range} → range .most ≤ budget → Lifts low high step budget range
+  lifts-none-high h small = record { within = small; covers = λ n fits e. absurd (omega (arith, quotient low n positive e)) }
+
+  pub lifts-one : {range : Range} → range .first ≡ (high - low) / step → range .most ≡ (high - low) / step → (high - low) / step ≤ budget
+      → Lifts low high step budget range
+  lifts-one first most fits =
+      record { within = omega arith; covers = λ n h e. (omega (arith, quotient low n positive e), omega (arith, quotient low n positive e)) }
+
+-- what one side has more at a place, it has more for each unit
+more-each : (n x : ℕ) {a b y : ℕ} → b < a → a * n + x ≡ b * n + y → (a - b) * n + x ≡ y
+more-each n x {a} {b} {y} h e = omega (arith, ap (λ z. z * n) (let e : a ≡ b + (a - b) = omega arith in e))
+
+module _ {at : Standing} {l r : ℕ} {last : Bool} {range : Range} where
+  pub ranges-up : r < l → last ≡ true → Lifts (at .left) (at .right) (l - r) (at .up) range → Ranges at l r last range
+  ranges-up h t lifts =
+      let e = le-leb r l (let h′ : r ≤ l = omega arith in h′) in
+      record {
+        within = rw e (lifts .within);
+        covers = λ n p. lifts .covers n (rw e at (p .within)) (more-each n (at .left) h (p .equal t));
+      }
+
+  pub ranges-down : l < r → last ≡ true → Lifts (at .right) (at .left) (r - l) (at .down) range → Ranges at l r last range
+  ranges-down h t lifts =
+      let e = lt-leb r l h in
+      record {
+        within = rw e (lifts .within);
+        covers = λ n p. lifts .covers n (rw e at (p .within)) (more-each n (at .right) h (sym (p .equal t)));
+      }
+
+-- where a unit more changes nothing
+pub ranges-even : (at : Standing) (l r : ℕ) (last : Bool) {most : ℕ} → l ≡ r → most ≤ at .up → min (at .up) (cond (at .counts) 0 1) ≤ most
+    → Ranges at l r last (record { first = 0; most = most })
+ranges-even at l r last same small enough =
+    let e = le-leb r l (let h : r ≤ l = omega arith in h) in
+    record {
+      within = rw e small;
+      covers = λ n p. (omega arith, le-trans (le-min (rw e at (p .within)) (p .even same)) enough);
+    }
+
+pub ranges-all : (at : Standing) (l r : ℕ) (last : Bool) {most : ℕ} → most ≡ budgetOf at l r → Ranges at l r last (record { first = 0; most = most })
+ranges-all at l r last e = record { within = omega arith; covers = λ n p. (omega arith, omega (arith, p .within)) }

@@ -1,0 +1,132 @@
+-- The whole walk: where it starts, with budgets that are enough, and what it has found at the end.
+use Prim.Native.Nat.{ℕ, suc, _+_, _*_, _≤_, _<_, max}
+use native.Mathlib.Omega.{arith}
+use native.Mathlib.Nat.{le-trans}
+use mathlib.Core.Path.{_≡_, refl, sym, ap, subst, _∙_}
+use mathlib.Core.Bool.{Bool, true, false, not, cond}
+use mathlib.Core.List.{List, [], _∷_, List·Memᴰ, List·Memᴰ·head, List·Memᴰ·tail, List·Memᴰ·not-nil}
+use lib.ListN.{length}
+use lib.Dec.{leb}
+use borrow.Author.Tests.{not-false}
+use Rattle.ac.specs.Lists.{sum, Ascending, Ascending.none, Ascending.next}
+use Rattle.ac.specs.Rows.{Exactly, _≺_}
+use Rattle.ac.specs.Equation.{Equation, Solves, Minimal, dot}
+use Rattle.ac.proofs.Vectors.{weighted, at, exactly-same}
+use Rattle.ac.proofs.Order.{≺-asymmetric}
+use Rattle.ac.proofs.Walk.{up, down}
+use Rattle.ac.proofs.Bound.{lambert-bound}
+use Rattle.ac.proofs.Solutions.{minimal-solutions-exact}
+use Rattle.rows.specs.declared.standing.Standing.{Standing}
+use Rattle.rows.specs.Found.{equation, Finds, Finds.few, Finds.more}
+use Rattle.rows.specs.Kept.{Holds, Holds.few, Holds.more, Upto.begins, RowBefore, RowUpto}
+use Rattle.rows.specs.Places.{Stands, upSum, downSum}
+use Rattle.rows.specs.Walk.{Starts, Searchable, Ready, AtMost, Tops}
+use Rattle.rows.proofs.Prefix.{nothing-before}
+use Rattle.rows.proofs.LargestBytes.{at-most-everywhere}
+
+-- The sums within the budgets are Lambert's.
+
+own-part : (b : Bool) (n : ℕ) → cond b n 0 ≡ cond b 1 0 * n
+own-part true n = omega arith
+own-part false n = omega arith
+
+other-part : (b : Bool) (n : ℕ) → cond b 0 n ≡ cond b 0 1 * n
+other-part true n = omega arith
+other-part false n = omega arith
+
+up-sum-weighted : (left right v : List ℕ) → upSum left right v ≤ weighted (up (at left) (at right)) v
+up-sum-weighted [] right v = omega arith
+up-sum-weighted (l ∷ left) [] v = omega arith
+up-sum-weighted (l ∷ left) (r ∷ right) [] = omega arith
+up-sum-weighted (l ∷ left) (r ∷ right) (n ∷ v) = omega (arith, own-part (leb r l) n, up-sum-weighted left right v)
+
+down-sum-weighted : (left right v : List ℕ) → downSum left right v ≤ weighted (down (at left) (at right)) v
+down-sum-weighted [] right v = omega arith
+down-sum-weighted (l ∷ left) [] v = omega arith
+down-sum-weighted (l ∷ left) (r ∷ right) [] = omega arith
+down-sum-weighted (l ∷ left) (r ∷ right) (n ∷ v) = omega (arith, other-part (leb r l) n, down-sum-weighted left right v)
+
+-- budgets from the largest coefficients, the offsets among them, are enough
+pub starts-from-largest : {left right : List ℕ} {a b mostLeft mostRight : ℕ} {h : Bool} {standing : Standing} → AtMost left 0 mostLeft → AtMost right 0 mostRight
+    → standing .left ≡ a → standing .right ≡ b → standing .counts ≡ not h → standing .up ≡ max 1 (max b mostRight) → standing .down ≡ max a mostLeft
+    → standing .up < 256 → standing .down < 256 → Starts (equation left right a b h) standing
+starts-from-largest {left} {right} lefts rights left-sum right-sum counts up-budget down-budget up-byte down-byte =
+    record {
+      left-sum = left-sum;
+      right-sum = right-sum;
+      counts = counts;
+      enough = record {
+        some = omega arith;
+        places = λ i. (omega (arith, at-most-everywhere left lefts i), omega (arith, at-most-everywhere right rights i));
+        offsets = (omega arith, omega arith);
+      };
+      room = record { left-room = omega arith; right-room = omega arith };
+    }
+
+-- before the first place, with the offsets as the sums so far
+pub stands-start : {E : Equation} {standing : Standing} → length (E .left) ≡ length (E .right) → Starts E standing → Stands E [] (E .left) (E .right) standing
+stands-start {E} sides starts =
+    record {
+      sides = sides;
+      level = sides;
+      places = omega arith;
+      solves = λ rest long e positive.
+          record { equal = omega (arith, starts .left-sum, starts .right-sum); not-all-zero = λ t. positive (starts .counts ∙ ap not t) };
+      equal = λ rest long solves. omega (arith, solves .equal, starts .left-sum, starts .right-sum);
+      not-all-zero = λ rest long solves zero. solves .not-all-zero (not-false (E .homogeneous) (sym (starts .counts) ∙ zero));
+      within-up = λ rest minimal. le-trans (up-sum-weighted (E .left) (E .right) rest) (lambert-bound E minimal (starts .enough) .0);
+      within-down = λ rest minimal. le-trans (down-sum-weighted (E .left) (E .right) rest) (lambert-bound E minimal (starts .enough) .1);
+    }
+
+pub ready-start : {limit : ℕ} {left right bytes mostLeft mostRight vector : List ℕ} {E : Equation} {standing : Standing} → Searchable limit left right bytes
+    → Starts E standing → Tops left mostLeft → Tops right mostRight → length mostLeft ≡ 6 → length mostRight ≡ 6 → length vector ≡ length left
+    → Ready limit left right mostLeft mostRight vector bytes 0 0 standing
+ready-start searchable starts lefts rights six-lefts six-rights vectors =
+    record {
+      rights = searchable .rights;
+      most-lefts = omega (arith, searchable .few-places);
+      most-rights = omega (arith, searchable .few-places);
+      vectors = vectors;
+      bytes-room = searchable .bytes-room;
+      limited = searchable .limited;
+      within = omega arith;
+      counted = omega arith;
+      room = starts .room;
+      left-tops = lefts;
+      right-tops = rights;
+    }
+
+-- before the first place nothing has to be found
+pub holds-start : (E : Equation) (limit : ℕ) (bytes : List ℕ) → Holds limit (length (E .left)) (RowBefore E []) bytes 0
+holds-start E limit bytes =
+    few {n = 0} (omega arith)
+    (record { ascending = none; only = λ v m. absurd (List·Memᴰ·not-nil m); all = λ v b. absurd (nothing-before (b .1)) })
+
+-- Ascending vectors that all stand in another ascending list are no more than those of that list.
+
+later-member : {A : Type 0} {a b : A} {xs : List A} → (a ≡ b → ⊥) → List·Memᴰ a (b ∷ xs) → List·Memᴰ a xs
+later-member different (List·Memᴰ·head e) = absurd (different e)
+later-member different (List·Memᴰ·tail m) = m
+
+different : {u v : List ℕ} → u ≺ v → v ≡ u → ⊥
+different {u} before same = let itself : u ≺ u = subst (λ w. u ≺ w) same before in ≺-asymmetric itself itself
+
+ascending-within : {xs ys : List (List ℕ)} → Ascending _≺_ xs → Ascending _≺_ ys → ((v : List ℕ) → List·Memᴰ v xs → List·Memᴰ v ys) → length xs ≤ length ys
+ascending-within none ascending within = omega arith
+ascending-within (next {a = a} after ascending) none within = absurd (List·Memᴰ·not-nil (within a (List·Memᴰ·head refl)))
+ascending-within (next {a = a} {rest = xs} after-a ascending-a) (next {a = b} {rest = ys} after-b ascending-b) within =
+    by-first (λ others. ascending-within ascending-a ascending-b others) (within a (List·Memᴰ·head refl))
+  where
+    by-first : (((v : List ℕ) → List·Memᴰ v xs → List·Memᴰ v ys) → length xs ≤ length ys) → List·Memᴰ a (b ∷ ys) → length (a ∷ xs) ≤ length (b ∷ ys)
+    by-first rests (List·Memᴰ·head same) =
+        omega (arith, rests (λ v m. later-member (λ e. different (after-a v m) (e ∙ sym same)) (within v (List·Memᴰ·tail m))))
+    by-first rests (List·Memᴰ·tail m) =
+        omega (arith, rests (λ v m′. later-member (λ e. ≺-asymmetric (after-a v m′) (subst (λ w. w ≺ a) (sym e) (after-b a m))) (within v (List·Memᴰ·tail m′))))
+
+-- at the end all rows are found, or more than the limit
+pub finds-all : {E : Equation} → length (E .left) ≡ length (E .right) → {limit : ℕ} {bytes : List ℕ} {n : ℕ}
+    → Holds limit (length (E .left)) (RowUpto E []) bytes n → Finds limit E bytes n
+finds-all sides (few small found) = few small (exactly-same (λ v. (λ u. u .0, λ minimal. (minimal, begins))) found)
+finds-all {E} sides (more ascending only many) =
+    let exact = minimal-solutions-exact E sides in
+    more exact (le-trans many (ascending-within ascending (exact .ascending) (λ v m. exact .all v (only v m .0))))

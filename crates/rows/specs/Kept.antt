@@ -1,0 +1,51 @@
+-- Which rows are found so far. The search goes through the vectors in ascending order, so the rows found are at any time those before a prefix.
+use Prim.Native.Nat.{ℕ, suc, _≤_, _<_}
+use mathlib.Core.Path.{_≡_}
+use mathlib.Core.Bool.{Bool, true, false}
+use mathlib.Core.List.{List, [], _∷_, List·Memᴰ}
+use lib.ListN.{length}
+use Rattle.ac.specs.Lists.{Ascending}
+use Rattle.ac.specs.Rows.{Exactly, _≺_, _≼_}
+use Rattle.ac.specs.Equation.{Equation, Solves, Minimal}
+use Rattle.rows.specs.Flat.{rowsOf}
+
+-- The bytes hold the rows of a kind: if they are at most `limit`, exactly they; else the number says that there are more.
+pub data Holds (limit places : ℕ) (Row : List ℕ → Type 0) (bytes : List ℕ) : ℕ → Type 0 where
+  few : {n : ℕ} → n ≤ limit → Exactly Row (rowsOf places n bytes) → Holds limit places Row bytes n
+  more : {rows : List (List ℕ)} → Ascending _≺_ rows → ((v : List ℕ) → List·Memᴰ v rows → Row v) → limit < length rows
+      → Holds limit places Row bytes (suc limit)
+
+-- v begins with the prefix, or stands before all that do
+pub data Upto : List ℕ → List ℕ → Type 0 where
+  begins : {v : List ℕ} → Upto [] v
+  here : {m n : ℕ} {p v : List ℕ} → m < n → Upto (n ∷ p) (m ∷ v)
+  later : {n : ℕ} {p v : List ℕ} → Upto p v → Upto (n ∷ p) (n ∷ v)
+
+module _ (E : Equation) (prefix : List ℕ) where
+  -- the rows that stand before all vectors with the prefix
+  abbrev pub RowBefore : List ℕ → Type 0
+  RowBefore v = Minimal E v × (v ≺ prefix)
+
+  -- and with them those that begin with it
+  abbrev pub RowUpto : List ℕ → Type 0
+  RowUpto v = Minimal E v × Upto prefix v
+
+  -- from the one to the other
+  abbrev pub Advances : ℕ → List ℕ → ℕ → List ℕ → ℕ → Type 0
+  Advances limit bytes n bytes′ n′ = Holds limit (length (E .left)) RowBefore bytes n → Holds limit (length (E .left)) RowUpto bytes′ n′
+
+-- some row found is at or below the vector in every place
+pub record Lower (rows : List (List ℕ)) (v : List ℕ) : Type 0 where
+  pub row : List ℕ
+  pub found : List·Memᴰ row rows
+  pub below : row ≼ v
+
+-- a test tells whether something is so
+pub record Tells (test : Bool) (So : Type 0) : Type 0 where
+  pub so : test ≡ true → So
+  pub not-so : test ≡ false → So → ⊥
+
+-- A vector that solves an equation has been kept, if it is a row.
+pub record Keeps (limit : ℕ) (v bytes : List ℕ) (n : ℕ) (bytes′ : List ℕ) (n′ : ℕ) : Type 0 where
+  pub counted : n′ ≤ suc limit
+  pub found : (E : Equation) → length (E .left) ≡ length (E .right) → length v ≡ length (E .left) → Solves E v → Advances E v limit bytes n bytes′ n′

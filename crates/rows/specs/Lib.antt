@@ -1,0 +1,5 @@
+pub mod Flat
+pub mod Found
+pub mod Kept
+pub mod Places
+pub mod Walk

@@ -1,0 +1,167 @@
+// The walk through the vectors in ascending order, place by place, and the search that it makes.
+use crate::kept::keep;
+use crate::standing::Standing;
+use crate::standing::apart;
+use crate::standing::chosen;
+use crate::standing::possible;
+use crate::standing::wide;
+ghost use mathlib.Core.Path.{_≡_};
+ghost use Prim.Native.Nat.{_*_, _<_, _≤_, max};
+ghost use lib.ListN.{length};
+ghost use Rattle.rows.specs.Found.{equation, Finds};
+ghost use Rattle.rows.specs.Walk.{Settles, Ready, Walks, AtMost, Tops, Starts, Searchable};
+
+// At the end of a vector: keeps it if it solves the equation.
+fn settle(rows: &mut [u8], limit: usize, count: usize, vector: &[u8], at: Standing) -> usize
+    requires { ⌜ (count ≤ limit) × (limit < 65536) × (limit * length (now vector) ≤ length (now rows)) ⌝ }
+    ensures { λ r. ⌜ Settles limit (now (vector .entry)) at (now (rows .entry)) count (now (rows .exit)) r ⌝ }
+{
+    if at.left != at.right {
+        return count;
+    }
+    if !at.counts {
+        return count;
+    }
+    keep(rows, limit, count, vector)
+}
+
+// Finds the rows that begin with the numbers of the vector before `place`, when those that stand before them are found: the numbers that the place
+// may have are taken one after the other, ascending, and with each of them the walk goes on from the next place.
+fn walk(
+    left: &[u8],
+    right: &[u8],
+    lifts: &[u8],
+    drops: &[u8],
+    vector: &mut [u8],
+    rows: &mut [u8],
+    limit: usize,
+    place: usize,
+    count: usize,
+    at: Standing,
+) -> usize
+    requires { ⌜ Ready limit (now left) (now right) (now lifts) (now drops) (now vector) (now rows) place count at ⌝ }
+    ensures { λ r. ⌜ Walks limit (now (left .entry)) (now (right .entry)) (now (vector .entry)) (now (rows .entry)) place count at (now (vector .exit)) (now (rows .exit)) r ⌝ }
+{
+    if limit < count {
+        return count;
+    }
+    if place == left.len() {
+        return settle(rows, limit, count, vector, at);
+    }
+    if apart(at, lifts[place], drops[place]) {
+        return count;
+    }
+    let range = possible(at, left[place], right[place], place + 1 == left.len());
+    let most = range.most;
+    let mut number = range.first;
+    if most < number {
+        return count;
+    }
+    let mut found = count;
+    loop {
+        vector[place] = number;
+        let next = chosen(at, left[place], right[place], number);
+        found = walk(
+            left,
+            right,
+            lifts,
+            drops,
+            vector,
+            rows,
+            limit,
+            place + 1,
+            found,
+            next,
+        );
+        if number == most {
+            return found;
+        }
+        number += 1;
+    }
+}
+
+// The larger of two bytes.
+fn larger(a: u8, b: u8) -> u8
+    ensures { λ r. ⌜ r ≡ max a b ⌝ }
+{
+    if a < b { b } else { a }
+}
+
+// The largest of the bytes from a place on.
+fn largest(bytes: &[u8], from: usize) -> u8
+    ensures { λ r. ⌜ AtMost (now (bytes .entry)) from r ⌝ }
+{
+    let mut most = 0;
+    let mut place = from;
+    while place < bytes.len() {
+        most = larger(most, bytes[place]);
+        place += 1;
+    }
+    most
+}
+
+// For each place the largest of the bytes from there on.
+fn tops(bytes: &[u8]) -> [u8; 6]
+    requires { ⌜ length (now bytes) ≤ 6 ⌝ }
+    ensures { λ r. ⌜ Tops (now (bytes .entry)) r ⌝ }
+{
+    let mut each = [0u8; 6];
+    let mut place = 0;
+    while place < bytes.len() {
+        each[place] = largest(bytes, place);
+        place += 1;
+    }
+    each
+}
+
+// Where the walk starts. The places whose left coefficient is at least the right one get their budget from the largest right coefficient, the
+// others from the largest left one, the offsets among them: the other side sets how large an entry of a row can be.
+fn start(
+    left: &[u8],
+    right: &[u8],
+    left_offset: u8,
+    right_offset: u8,
+    homogeneous: bool,
+) -> Standing
+    ensures { λ r. ⌜ Starts (equation (now (left .entry)) (now (right .entry)) «left_offset» «right_offset» homogeneous) r ⌝ }
+{
+    Standing {
+        left: wide(left_offset),
+        right: wide(right_offset),
+        up: larger(1, larger(right_offset, largest(right, 0))),
+        down: larger(left_offset, largest(left, 0)),
+        counts: !homogeneous,
+    }
+}
+
+// Finds the rows of an equation: the bytes get them, one after the other, unless they are more than the limit; then the number after it is given.
+pub fn search(
+    left: &[u8],
+    right: &[u8],
+    left_offset: u8,
+    right_offset: u8,
+    homogeneous: bool,
+    rows: &mut [u8],
+    limit: usize,
+) -> usize
+    requires { ⌜ Searchable limit (now left) (now right) (now rows) ⌝ }
+    ensures { λ r. ⌜ Finds limit (equation (now (left .entry)) (now (right .entry)) «left_offset» «right_offset» homogeneous) (now (rows .exit)) r ⌝ }
+{
+    let lifts = tops(left);
+    let drops = tops(right);
+    let at = start(left, right, left_offset, right_offset, homogeneous);
+    let places = left.len();
+    let mut vector = [0u8; 6];
+    walk(
+        left,
+        right,
+        &lifts,
+        &drops,
+        &mut vector[..places],
+        rows,
+        limit,
+        0,
+        0,
+        at,
+    )
+}

@@ -1,0 +1,97 @@
+-- Facts about lists: members and places, filtered lists one member at a time, and lists that are written from the front.
+use mathlib.Core.Path.{_≡_, refl, sym, ap, _∙_, fun-ext}
+use mathlib.Core.Bool.{Bool, true, false}
+use mathlib.Core.List.{List, [], _∷_, _++_, map, List·Memᴰ, List·Memᴰ·head, List·Memᴰ·tail, List·Memᴰ·not-nil}
+use Prim.Native.Nat.{ℕ, zero, suc, _+_, _-_, _≤_, _<_}
+use native.Mathlib.Nat.{not-suc-le-zero, le-of-suc-le-suc, zero-add, sub-zero, zero-sub, suc-sub-suc}
+use native.Mathlib.Numerals.{add-one}
+use native.Mathlib.Omega.{arith}
+use lib.ListN.{length, getD, drop, set, replicate, length-append}
+use lib.Seq.{drop-cons, set-append-seam, append-snoc}
+use Rattle.ac.specs.Lists.{from, below, keep, filter, Ascending, none, next}
+use Rattle.sides.specs.Counting.{Written}
+
+-- a member stands at some place
+pub member-at : {x : ℕ} {xs : List ℕ} → List·Memᴰ x xs → (i : ℕ) × (i < length xs) × (getD xs i 0 ≡ x)
+member-at (List·Memᴰ·head e) = (0, omega arith, sym e)
+member-at (List·Memᴰ·tail m) = let t = member-at m in (suc (t .0), omega arith, t .2)
+
+-- what stands at a place is a member
+pub at-member : (xs : List ℕ) (i : ℕ) → i < length xs → List·Memᴰ (getD xs i 0) xs
+at-member [] i h = absurd (not-suc-le-zero h)
+at-member (x ∷ xs) zero h = List·Memᴰ·head refl
+at-member (x ∷ xs) (suc i) h = List·Memᴰ·tail (at-member xs i (le-of-suc-le-suc h))
+
+-- a list that is made place by place from another has its values there
+pub getD-map : (f : ℕ → ℕ) (xs : List ℕ) (i : ℕ) → i < length xs → getD (map f xs) i 0 ≡ f (getD xs i 0)
+getD-map f [] i h = absurd (not-suc-le-zero h)
+getD-map f (x ∷ xs) zero h = refl
+getD-map f (x ∷ xs) (suc i) h = getD-map f xs i (le-of-suc-le-suc h)
+
+pub map-append : (f : ℕ → ℕ) (xs ys : List ℕ) → map f (xs ++ ys) ≡ map f xs ++ map f ys
+map-append f [] ys = refl
+map-append f (x ∷ xs) ys = ap (λ (l : List ℕ). f x ∷ l) (map-append f xs ys)
+
+pub drop-replicate : (n k : ℕ) → drop {A = ℕ} k (replicate n 0) ≡ replicate (n - k) 0
+drop-replicate n zero = ap (λ (m : ℕ). replicate m 0) (sym (sub-zero n))
+drop-replicate zero (suc k) = ap (λ (m : ℕ). replicate m 0) (sym (zero-sub (suc k)))
+drop-replicate (suc n) (suc k) = drop-replicate n k ∙ ap (λ (m : ℕ). replicate m 0) (sym (suc-sub-suc n k))
+
+keep-append : (b : Bool) (x : ℕ) (xs ys : List ℕ) → keep b x xs ++ ys ≡ keep b x (xs ++ ys)
+keep-append true x xs ys = refl
+keep-append false x xs ys = refl
+
+filter-append : (p : ℕ → Bool) (xs ys : List ℕ) → filter p (xs ++ ys) ≡ filter p xs ++ filter p ys
+filter-append p [] ys = refl
+filter-append p (x ∷ xs) ys = ap (λ (l : List ℕ). keep (p x) x l) (filter-append p xs ys) ∙ sym (keep-append (p x) x (filter p xs) (filter p ys))
+
+-- the last of the numbers from a on
+from-last : (a n : ℕ) → from a (suc n) ≡ from a n ++ (a + n) ∷ []
+from-last a zero = ap (λ (m : ℕ). m ∷ []) (omega arith)
+from-last a (suc n) = ap (λ (l : List ℕ). a ∷ l) (from-last (suc a) n ∙ ap (λ (m : ℕ). from (suc a) n ++ m ∷ []) (omega arith))
+
+-- the members below one number more: those below it, and the number itself if it passes
+pub filter-below : (p : ℕ → Bool) (n : ℕ) → filter p (below (n + 1)) ≡ filter p (below n) ++ keep (p n) n []
+filter-below p n =
+    ap (λ (m : ℕ). filter p (below m)) (add-one n) ∙
+    ap (filter p) (from-last 0 n ∙ ap (λ (m : ℕ). below n ++ m ∷ []) (zero-add n)) ∙
+    filter-append p (below n) (n ∷ [])
+
+-- two tests that agree everywhere keep the same members
+pub filter-same : (p q : ℕ → Bool) (xs : List ℕ) → ((x : ℕ) → p x ≡ q x) → filter p xs ≡ filter q xs
+filter-same p q xs same = ap (λ f. filter f xs) (fun-ext same)
+
+pub length-snoc : (xs : List ℕ) (x : ℕ) → length (xs ++ x ∷ []) ≡ length xs + 1
+length-snoc xs x = length-append xs (x ∷ [])
+
+-- one more, stored behind the list
+pub written-more : (list before after : List ℕ) (x : ℕ) → Written list before after → Written (list ++ x ∷ []) before (set after (length list) x)
+written-more list before after x written fits =
+    ap (λ (l : List ℕ). set l (length list) x) (written less ∙ ap (λ (l : List ℕ). list ++ l) (drop-cons before (length list) 0 room)) ∙
+    set-append-seam list (getD before (length list) 0) (drop (suc (length list)) before) x ∙
+    sym (append-snoc list x (drop (suc (length list)) before)) ∙
+    ap (λ (n : ℕ). (list ++ x ∷ []) ++ drop n before) (sym (length-snoc list x ∙ add-one (length list)))
+  where
+    room : length list < length before
+    room = omega (arith, length-snoc list x)
+
+    less : length list ≤ length before
+    less = omega (arith, room)
+
+-- what is filtered from the numbers from a on is at least a
+filter-least : (p : ℕ → Bool) (a n b : ℕ) → List·Memᴰ b (filter p (from a n)) → a ≤ b
+filter-least p a zero b m = absurd (List·Memᴰ·not-nil m)
+filter-least p a (suc n) b m = go (p a) (λ m′. omega (arith, filter-least p (suc a) n b m′)) m
+  where
+    go : (t : Bool) → (List·Memᴰ b (filter p (from (suc a) n)) → a ≤ b) → List·Memᴰ b (keep t a (filter p (from (suc a) n))) → a ≤ b
+    go true rest (List·Memᴰ·head e) = omega (arith, e)
+    go true rest (List·Memᴰ·tail m′) = rest m′
+    go false rest m′ = rest m′
+
+pub filter-ascending : (p : ℕ → Bool) (a n : ℕ) → Ascending _<_ (filter p (from a n))
+filter-ascending p a zero = none
+filter-ascending p a (suc n) = go (p a) (filter-ascending p (suc a) n)
+  where
+    go : (t : Bool) → Ascending _<_ (filter p (from (suc a) n)) → Ascending _<_ (keep t a (filter p (from (suc a) n)))
+    go true rest = next (λ b m. filter-least p (suc a) n b m) rest
+    go false rest = rest

@@ -1,0 +1,33 @@
+-- `sides::variables_of` meets its contract: what is collected over zeros is gathered. Assumes nothing.
+use borrow.Author.Needs.{needs}
+use Rattle.ac.specs.Pair.{variables}
+use Rattle.sides.specs.Limits.{limits}
+use Rattle.sides.proofs.Gathering.{collected-gathered}
+use Rattle.sides.proofs.variables_of.Statement.{statement}
+use Rattle.sides.proofs.variables_of.Tie as tie
+
+slice-aggregate-collect : tie.Need-slice-aggregate-collect
+slice-aggregate-collect c = search needs
+
+slice-aggregate-collect-2 : tie.Need-slice-aggregate-collect-2
+slice-aggregate-collect-2 c = search needs
+
+slice-aggregate-collect-3 : tie.Need-slice-aggregate-collect-3
+slice-aggregate-collect-3 c = search needs
+
+collect-requires : tie.Need-collect-requires
+collect-requires c κs = tt
+
+returns : tie.Need-returns
+returns c M L R counted =
+    collected-gathered (limits .variables) L R (variables M L R) (c .before .before .before .collect .ensures M L R counted)
+
+pub variables-of-spec : {M : Type 1} → statement M
+variables-of-spec =
+    tie.close
+    (tie.spec
+    slice-aggregate-collect
+    slice-aggregate-collect-2
+    slice-aggregate-collect-3
+    collect-requires
+    returns)

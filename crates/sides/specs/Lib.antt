@@ -1,0 +1,4 @@
+pub mod Limits
+pub mod Given
+pub mod Counting
+pub mod Parted

@@ -1,0 +1,5 @@
+pub mod Spreading
+pub mod Finding
+pub mod Counting
+pub mod Accepting
+pub mod Solving

@@ -1,0 +1,3 @@
+pub mod Spread
+pub mod Solved
+pub mod Steps

@@ -1,0 +1,202 @@
+-- Demand 3 follows from Page's promise: 13 exactly where nothing unifies, all else only where something does.
+use Prim.Native.Nat.{ℕ, zero, suc, _<_}
+use native.Mathlib.Omega.{arith}
+use mathlib.Core.Path.{_≡_, refl, sym, _∙_, ap, subst}
+use mathlib.Core.Bool.{Bool, true, false}
+use mathlib.Core.Logic.{_⊎_, inl, inr, ⊎-elim}
+use mathlib.Core.List.{List, [], _∷_, List·Memᴰ, List·Memᴰ·head, List·Memᴰ·tail, List·Memᴰ·not-nil}
+use borrow.Author.Tests.{ltb-false}
+use lib.Dec.{lit≤}
+use lib.ListN.{length, getD, take, List·getD-append}
+use lib.Seq.{take-all}
+use Rattle.ac.specs.Pair.{Mode}
+use Rattle.ac.specs.Rows.{Groups, GroupsOf}
+use Rattle.ac.specs.Search.{groups}
+use Rattle.ac.specs.Selection.{Selection, value}
+use Rattle.ac.specs.Keys.{layout, keys, keyOf, Begin, start, remaining}
+use Rattle.ac.specs.Pages.{more, page as pageOf}
+use Rattle.ac.specs.Replacement.{Replacement, Unifies, ComesFrom}
+use Rattle.ac.proofs.Groups.{groups-exist, groups-unique}
+use Rattle.ac.proofs.Keys.{taken-apart, candidate-selection}
+use Rattle.ac.proofs.Listed.{listed-exactly, listed-candidates}
+use Rattle.ac.proofs.Pages.{remaining-members}
+use Rattle.ac.proofs.Theorems.{sound, complete}
+use Rattle.numbers.specs.First.{First, NoneOf, here, also, end}
+use Rattle.numbers.proofs.Laws.{first-unique, first-not-none}
+use Rattle.numbers.proofs.Carried.{none-carried, first-after, none-front, first-given, elsewhere, first-past}
+use Rattle.solver.specs.Request.{wantedCount}
+use Rattle.solver.specs.Given.{ListGiven, none-admissible, not-listed, last-listed, PageGiven, of-the-sides, of-the-list, pageNumbers}
+use Rattle.solver.specs.Page.{PageOutcome, refused, page, receives, PagePromise, is-refused, is-page}
+use Rattle.solver.specs.Existence.{SomeUnifies, NoneUnifies, replacementOf, PageExistence}
+use Rattle.solver.proofs.Given.{given-list}
+use Rattle.solver.proofs.Limits.{WithinLimits, within-limits}
+
+-- a member of a list stands at a place, and what stands at a place is a member
+member-place : {a : ℕ} (bs : List ℕ) → List·Memᴰ a bs → (i : ℕ) × (i < length bs) × (getD bs i 0 ≡ a)
+member-place (b ∷ bs) (List·Memᴰ·head e) = (0, omega arith, sym e)
+member-place (b ∷ bs) (List·Memᴰ·tail m) = let t = member-place bs m in (suc (t .0), omega (arith, t .1), t .2)
+
+place-member : (bs : List ℕ) (i : ℕ) → i < length bs → List·Memᴰ (getD bs i 0) bs
+place-member [] i h = absurd (omega arith)
+place-member (b ∷ bs) zero h = List·Memᴰ·head refl
+place-member (b ∷ bs) (suc i) h = List·Memᴰ·tail (place-member bs i (omega arith))
+
+taken-member : {a : ℕ} (n : ℕ) (bs : List ℕ) → List·Memᴰ a (take n bs) → List·Memᴰ a bs
+taken-member zero bs m = absurd (List·Memᴰ·not-nil m)
+taken-member (suc n) [] m = absurd (List·Memᴰ·not-nil m)
+taken-member (suc n) (b ∷ bs) (List·Memᴰ·head e) = List·Memᴰ·head e
+taken-member (suc n) (b ∷ bs) (List·Memᴰ·tail m) = List·Memᴰ·tail (taken-member n bs m)
+
+empty-or-member : (bs : List ℕ) → (bs ≡ []) ⊎ ((b : ℕ) × List·Memᴰ b bs)
+empty-or-member [] = inl refl
+empty-or-member (b ∷ bs) = inr (b, List·Memᴰ·head refl)
+
+-- The list and the pair's unifiers.
+module _ {M : Mode} {L R : List ℕ} (fine : WithinLimits M L R) {G : Groups} (of : GroupsOf M L R G) where
+  pub key-unifies : {key : ℕ} → List·Memᴰ key (keys M layout L R G) → Unifies M L R (replacementOf M L R G key)
+  key-unifies m =
+      let candidate = listed-candidates (fine .groups-fit G of) M L R .0 m in
+      sound M (layout .new) L R (fine .left-side) (fine .right-side) of (candidate-selection (fine .groups-fit G of) (candidate .0)) (candidate .1)
+
+  pub unifier-listed : {θ : Replacement} → Unifies M L R θ
+      → (key : ℕ) × List·Memᴰ key (keys M layout L R G) × ComesFrom M (layout .new) L R (replacementOf M L R G key) θ
+  unifier-listed {θ} unifies =
+      let found = complete M (layout .new) L R (fine .left-side) (fine .right-side) (lit≤ tt) of unifies in (
+        keyOf layout (found .0),
+        listed-exactly (fine .groups-fit G of) M L R .1
+            (record { selection = found .0; of-the-groups = found .1; is-admissible = found .2; its-key = refl }),
+        subst (λ (s : Selection). ComesFrom M (layout .new) L R (value M (layout .new) L R G s) θ) (sym (taken-apart (fine .groups-fit G of) (found .1)))
+            (found .3),
+      )
+
+  pub empty-none : keys M layout L R G ≡ [] → NoneUnifies M L R
+  empty-none e θ unifies = let found = unifier-listed unifies in List·Memᴰ·not-nil (subst (List·Memᴰ (found .0)) e (found .1))
+
+  pub none-empty : NoneUnifies M L R → keys M layout L R G ≡ []
+  none-empty nothing =
+      ⊎-elim (λ empty. empty) (λ some. absurd (nothing (replacementOf M L R G (some .0)) (key-unifies (some .1)))) (empty-or-member (keys M layout L R G))
+
+  pub listed-some : (keys M layout L R G ≡ [] → ⊥) → SomeUnifies M L R
+  listed-some some =
+      ⊎-elim (λ empty. absurd (some empty)) (λ one. (replacementOf M L R G (one .0), key-unifies (one .1))) (empty-or-member (keys M layout L R G))
+
+empty-list : {listed : List ℕ} {begin : Begin} {n : ℕ} → n ≡ 13 → ListGiven listed begin n → listed ≡ []
+empty-list e (none-admissible empty) = empty
+empty-list e (not-listed same h) = absurd (omega arith)
+empty-list e (last-listed same m h) = absurd (omega arith)
+
+module _ {M : Mode} {L R : List ℕ} {begin : Begin} {wanted : ℕ} {out : List ℕ} where
+  -- where nothing up to 12 is given, the sides and the groups are within the limits
+  fine-sides : NoneOf (PageGiven M L R begin wanted out) (16 ∷ 7 ∷ 8 ∷ 9 ∷ 10 ∷ 11 ∷ 12 ∷ []) → WithinLimits M L R
+  fine-sides (also no-16 none) = within-limits (none-carried (λ n m given. of-the-sides given) none)
+
+  -- 13 is the answer where nothing before it is given and nothing unifies
+  first-13 : NoneOf (PageGiven M L R begin wanted out) (16 ∷ 7 ∷ 8 ∷ 9 ∷ 10 ∷ 11 ∷ 12 ∷ []) → NoneUnifies M L R
+      → First (PageGiven M L R begin wanted out) pageNumbers 13
+  first-13 none nothing = first-after none (here (of-the-list (groups-exist M L R) (none-admissible (none-empty (fine-sides none) (groups-exist M L R) nothing))))
+
+  -- and something unifies where 13 is not given either
+  some-past-13 : NoneOf (PageGiven M L R begin wanted out) (16 ∷ 7 ∷ 8 ∷ 9 ∷ 10 ∷ 11 ∷ 12 ∷ 13 ∷ []) → SomeUnifies M L R
+  some-past-13 none =
+      listed-some (fine-sides (none-front (16 ∷ 7 ∷ 8 ∷ 9 ∷ 10 ∷ 11 ∷ 12 ∷ []) (13 ∷ []) none)) (groups-exist M L R) (λ e. last-skip none e)
+    where
+      last-skip : NoneOf (PageGiven M L R begin wanted out) (16 ∷ 7 ∷ 8 ∷ 9 ∷ 10 ∷ 11 ∷ 12 ∷ 13 ∷ []) → keys M layout L R (groups M L R) ≡ [] → ⊥
+      last-skip (also _ (also _ (also _ (also _ (also _ (also _ (also _ (also no-13 end)))))))) e = no-13 (of-the-list (groups-exist M L R) (none-admissible e))
+
+  -- Of a refusal.
+  module _ {n : ℕ} (first : First (PageGiven M L R begin wanted out) pageNumbers n) where
+    only-13 : n ≡ 13 → NoneUnifies M L R
+    only-13 e =
+        let none = first-past (16 ∷ 7 ∷ 8 ∷ 9 ∷ 10 ∷ 11 ∷ 12 ∷ []) (13 ∷ 14 ∷ 15 ∷ []) refl (subst (First (PageGiven M L R begin wanted out) pageNumbers) e first) in
+        empty-none (fine-sides none) (groups-exist M L R)
+        (empty-list e (given-list (groups-exist M L R) (omega arith) (omega arith) (first-given first)))
+
+    some-later : {m : ℕ} → elsewhere m (16 ∷ 7 ∷ 8 ∷ 9 ∷ 10 ∷ 11 ∷ 12 ∷ 13 ∷ []) ≡ true → n ≡ m → SomeUnifies M L R
+    some-later {m} past e =
+        some-past-13
+        (first-past (16 ∷ 7 ∷ 8 ∷ 9 ∷ 10 ∷ 11 ∷ 12 ∷ 13 ∷ []) (14 ∷ 15 ∷ []) past (subst (First (PageGiven M L R begin wanted out) pageNumbers) e first))
+
+  -- Of a page.
+  module _ {G : Groups} (none : NoneOf (PageGiven M L R begin wanted out) pageNumbers) (of : GroupsOf M L R G) where
+    pub fine-page : WithinLimits M L R
+    fine-page = fine-sides (none-front (16 ∷ 7 ∷ 8 ∷ 9 ∷ 10 ∷ 11 ∷ 12 ∷ []) (13 ∷ 14 ∷ 15 ∷ []) none)
+
+    page-some : SomeUnifies M L R
+    page-some = some-past-13 (none-front (16 ∷ 7 ∷ 8 ∷ 9 ∷ 10 ∷ 11 ∷ 12 ∷ 13 ∷ []) (14 ∷ 15 ∷ []) none)
+
+    -- what stands in the buffer is a key of the page, and so of the list
+    at-place : (i : ℕ) → i < length (pageOf begin (wantedCount wanted) (keys M layout L R G))
+        → getD (receives out (pageOf begin (wantedCount wanted) (keys M layout L R G))) i 0 ≡ getD (pageOf begin (wantedCount wanted) (keys M layout L R G)) i 0
+    at-place i h = List·getD-append (pageOf begin (wantedCount wanted) (keys M layout L R G)) _ 0 i h
+
+    pub page-unifies : (i : ℕ) → i < length (pageOf begin (wantedCount wanted) (keys M layout L R G))
+        → Unifies M L R (replacementOf M L R G (getD (receives out (pageOf begin (wantedCount wanted) (keys M layout L R G))) i 0))
+    page-unifies i h =
+        subst (λ key. Unifies M L R (replacementOf M L R G key)) (sym (at-place i h))
+        (key-unifies fine-page of
+        (remaining-members begin
+        (taken-member (wantedCount wanted) (remaining begin (keys M layout L R G)) (place-member (pageOf begin (wantedCount wanted) (keys M layout L R G)) i h)) .0))
+
+    -- a page from the start after which no more follow is the whole list
+    pub page-covers : begin ≡ start → more begin (wantedCount wanted) (keys M layout L R G) ≡ false → (θ : Replacement) → Unifies M L R θ
+        → (i : ℕ) × (i < length (pageOf begin (wantedCount wanted) (keys M layout L R G)))
+        × ComesFrom M (layout .new) L R (replacementOf M L R G (getD (receives out (pageOf begin (wantedCount wanted) (keys M layout L R G))) i 0)) θ
+    page-covers from-start no-more θ unifies =
+        let found = unifier-listed fine-page of unifies in
+        let place = member-place (pageOf begin (wantedCount wanted) (keys M layout L R G)) (subst (List·Memᴰ (found .0)) (sym whole) (found .1)) in (
+          place .0,
+          place .1,
+          subst (λ key. ComesFrom M (layout .new) L R (replacementOf M L R G key) θ) (sym (at-place (place .0) (place .1) ∙ place .2)) (found .2),
+        )
+      where
+        whole : pageOf begin (wantedCount wanted) (keys M layout L R G) ≡ keys M layout L R G
+        whole =
+            take-all (wantedCount wanted) (remaining begin (keys M layout L R G)) (ltb-false (wantedCount wanted) (length (remaining begin (keys M layout L R G))) no-more)
+            ∙ ap (λ b. remaining b (keys M layout L R G)) from-start
+
+refused-not-page : {n written : ℕ} {more : Bool} → refused n ≡ page written more → ⊥
+refused-not-page e = let z : _≡_ {A = ℕ} 0 1 = cc e in omega arith
+
+page-not-refused : {n written : ℕ} {more : Bool} → page written more ≡ refused n → ⊥
+page-not-refused e = let z : _≡_ {A = ℕ} 0 1 = cc e in omega arith
+
+page-count : {w w′ : ℕ} {m m′ : Bool} → page w m ≡ page w′ m′ → w ≡ w′
+page-count e = cc e
+
+page-more : {w w′ : ℕ} {m m′ : Bool} → page w m ≡ page w′ m′ → m ≡ m′
+page-more e = cc e
+
+-- Whatever meets Page's promise meets demand 3.
+pub page-existence : {M : Mode} {L R : List ℕ} {begin : Begin} {wanted : ℕ} {out : List ℕ} {outcome : PageOutcome} {out′ : List ℕ}
+    → PagePromise M L R begin wanted out outcome out′ → PageExistence M L R begin wanted out outcome out′
+page-existence (is-refused first) =
+    record {
+      only-where-none = λ e. only-13 first (cc e);
+      always-where-none = λ none nothing. ap refused (first-unique first (first-13 none nothing));
+      unlisted-where-some = λ e. some-later first {m = 14} refl (cc e);
+      last-where-some = λ e. some-later first {m = 15} refl (cc e);
+      page-where-some = λ e. absurd (refused-not-page e);
+      written-unify = λ i of e h. absurd (refused-not-page e);
+      written-cover = λ of from-start e θ unifies. absurd (refused-not-page e);
+    }
+page-existence {M} {L} {R} {begin} {wanted} {out} (is-page {G = G} none of) =
+    record {
+      only-where-none = λ e. absurd (page-not-refused e);
+      always-where-none = λ up-to-12 nothing. absurd (first-not-none (first-13 up-to-12 nothing) none);
+      unlisted-where-some = λ e. absurd (page-not-refused e);
+      last-where-some = λ e. absurd (page-not-refused e);
+      page-where-some = λ e. page-some none of;
+      written-unify =
+          λ i other e h.
+          subst (λ H. Unifies M L R (replacementOf M L R H (getD (receives out (pageOf begin (wantedCount wanted) (keys M layout L R G))) i 0)))
+          (groups-unique M L R of other) (page-unifies none of i (omega (arith, page-count e)));
+      written-cover =
+          λ other from-start e θ unifies.
+          let covered = page-covers none of from-start (page-more e) θ unifies in (
+            covered .0,
+            omega (arith, covered .1, page-count e),
+            subst
+                (λ H. ComesFrom M (layout .new) L R (replacementOf M L R H (getD (receives out (pageOf begin (wantedCount wanted) (keys M layout L R G))) (covered .0) 0)) θ)
+                (groups-unique M L R of other) (covered .2),
+          );
+    }

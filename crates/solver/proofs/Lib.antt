@@ -1,0 +1,9 @@
+pub mod Request
+pub mod Given
+pub mod Determined
+pub mod Beginning
+pub mod Writing
+pub mod Promise
+pub mod Limits
+pub mod Existence
+pub mod Pages

@@ -1,0 +1,84 @@
+-- Pages asked for one after the other hold together the whole list, no key twice.
+use Prim.Native.Nat.{ℕ, _<_}
+use native.Mathlib.Omega.{arith}
+use mathlib.Core.Path.{_≡_, refl, sym, _∙_, ap, subst}
+use mathlib.Core.Bool.{Bool}
+use mathlib.Core.List.{List, [], _++_, append-nil}
+use borrow.Author.Tests.{ltb-false}
+use lib.ListN.{length, take, drop, take-append-drop}
+use lib.Seq.{take-all, take-append-seam}
+use Rattle.ac.specs.Lists.{Ascending}
+use Rattle.ac.specs.Pair.{Mode}
+use Rattle.ac.specs.Rows.{Groups, GroupsOf}
+use Rattle.ac.specs.Keys.{layout, keys, Begin, start, remaining}
+use Rattle.ac.specs.Pages.{together, WholeList, page as pageOf, more as moreOf}
+use Rattle.ac.proofs.Groups.{groups-exist, groups-unique}
+use Rattle.ac.proofs.Listed.{keys-ascending}
+use Rattle.ac.proofs.Pages.{remaining-after-page}
+use Rattle.numbers.proofs.Carried.{first-given}
+use Rattle.solver.specs.Request.{wantedCount}
+use Rattle.solver.specs.Given.{ListGiven, none-admissible, not-listed, last-listed}
+use Rattle.solver.specs.Page.{page, PagePromise, is-refused, is-page}
+use Rattle.solver.specs.Pages.{PagesAsked, one-more, no-more, was-last}
+use Rattle.solver.proofs.Given.{given-list}
+use Rattle.solver.proofs.Limits.{WithinLimits}
+use Rattle.solver.proofs.Beginning.{start-not-after}
+use Rattle.solver.proofs.Existence.{fine-page}
+
+-- where 15 is given, nothing remains
+nothing-remains : {listed : List ℕ} {begin : Begin} {n : ℕ} → n ≡ 15 → ListGiven listed begin n → remaining begin listed ≡ []
+nothing-remains e (none-admissible empty) = absurd (omega arith)
+nothing-remains e (not-listed same h) = absurd (omega arith)
+nothing-remains {listed} e (last-listed same m h) = subst (λ b. remaining b listed ≡ []) (sym same) h
+
+module _ {M : Mode} {L R : List ℕ} {G : Groups} (of : GroupsOf M L R G) where
+  -- what a page's promise says of it: the next keys, and whether more follow
+  pub page-written : {begin : Begin} {wanted written : ℕ} {more : Bool} {out out′ : List ℕ} → PagePromise M L R begin wanted out (page written more) out′
+      → (take written out′ ≡ pageOf begin (wantedCount wanted) (keys M layout L R G)) × (more ≡ moreOf begin (wantedCount wanted) (keys M layout L R G))
+  page-written {begin} {wanted} {out = out} (is-page {G = H} none others) =
+      let same : H ≡ G = groups-unique M L R others of in (
+        take-append-seam (pageOf begin (wantedCount wanted) (keys M layout L R H)) (drop (length (pageOf begin (wantedCount wanted) (keys M layout L R H))) out)
+            ∙ ap (λ K. pageOf begin (wantedCount wanted) (keys M layout L R K)) same,
+        ap (λ K. moreOf begin (wantedCount wanted) (keys M layout L R K)) same,
+      )
+
+  -- together they are what remains from the beginning
+  pub pages-together : {begin : Begin} {pages : List (List ℕ)} → Ascending _<_ (keys M layout L R G) → PagesAsked M L R begin pages
+      → together pages ≡ remaining begin (keys M layout L R G)
+  pages-together ascending (one-more {begin = begin} {wanted = wanted} {pages = pages} before last promise ends rest) =
+      let this = page-written promise in
+      ap (λ (l : List ℕ). l ++ together pages) (this .0)
+      ∙ ap (λ (l : List ℕ). pageOf begin (wantedCount wanted) (keys M layout L R G) ++ l)
+      (pages-together ascending rest ∙ remaining-after-page ascending begin (wantedCount wanted) before last (sym (this .0) ∙ ends))
+      ∙ take-append-drop (wantedCount wanted) (remaining begin (keys M layout L R G))
+  pages-together ascending (no-more {begin = begin} {wanted = wanted} promise) =
+      let this = page-written promise in
+      append-nil _ ∙ this .0
+      ∙ take-all (wantedCount wanted) (remaining begin (keys M layout L R G))
+      (ltb-false (wantedCount wanted) (length (remaining begin (keys M layout L R G))) (sym (this .1)))
+  pages-together ascending (was-last (is-refused first)) = sym (nothing-remains refl (given-list of (omega arith) (omega arith) (first-given first)))
+
+-- a page tells that the pair is within the limits
+page-within : {M : Mode} {L R : List ℕ} {begin : Begin} {wanted written : ℕ} {more : Bool} {out out′ : List ℕ}
+    → PagePromise M L R begin wanted out (page written more) out′ → WithinLimits M L R
+page-within (is-page none of) = fine-page none of
+
+-- no key comes before the start
+after-a-key : {listed : List ℕ} {begin : Begin} {n : ℕ} → n ≡ 15 → ListGiven listed begin n → begin ≡ start → ⊥
+after-a-key e (none-admissible empty) from-start = omega arith
+after-a-key e (not-listed same h) from-start = omega arith
+after-a-key e (last-listed same m h) from-start = start-not-after (sym from-start ∙ same)
+
+asked-within : {M : Mode} {L R : List ℕ} {begin : Begin} {pages : List (List ℕ)} → begin ≡ start → PagesAsked M L R begin pages → WithinLimits M L R
+asked-within from-start (one-more before last promise ends rest) = page-within promise
+asked-within from-start (no-more promise) = page-within promise
+asked-within {M} {L} {R} from-start (was-last (is-refused first)) =
+    absurd (after-a-key refl (given-list (groups-exist M L R) (omega arith) (omega arith) (first-given first)) from-start)
+
+-- Pages asked for one after the other from the start hold together the whole list, no key twice.
+pub pages-hold-the-list : {M : Mode} {L R : List ℕ} {G : Groups} {pages : List (List ℕ)} → GroupsOf M L R G → PagesAsked M L R start pages
+    → WholeList (keys M layout L R G) pages
+pages-hold-the-list {M} {L} {R} {G} of asked =
+    let ascending = keys-ascending (asked-within refl asked .groups-fit G of) M L R in
+    let whole = pages-together of ascending asked in
+    record { whole = whole; none-twice = subst (Ascending _<_) (sym whole) ascending }

@@ -1,0 +1,54 @@
+-- `solver::page_of` meets its contract: 16 first, then what is settled, then what is written.
+use borrow.Author.Needs.{needs}
+use Rattle.solver.proofs.Request.{wanted-some}
+use Rattle.solver.proofs.Promise.{promise-short, promise-refused, promise-page}
+use Rattle.solver.proofs.page_of.Statement.{statement}
+use Rattle.solver.proofs.page_of.Tie as tie
+
+wanted-count-requires : tie.Need-wanted-count-requires
+wanted-count-requires c κs = search needs
+
+returns : tie.Need-returns
+returns c = λ M L R full of none. promise-short (rw (c .before .wanted-count .ensures) at (c .if1 .taken))
+
+settle-requires : tie.Need-settle-requires
+settle-requires c κs = search needs
+
+enum-known-settled : tie.Need-enum-known-settled
+enum-known-settled c = search needs
+
+write-keys-requires : tie.Need-write-keys-requires
+write-keys-requires c κs = (
+  c .before .before .before .before .before .before .before .before .pre,
+  rw (c .before .before .before .before .before .before .wanted-count .ensures) (wanted-some (c .before .before .before .before .before .before .before .before .args .request .wanted)),
+  c .before .before .before .before .before .if1 .left,
+)
+
+enum-known-settled-2 : tie.Need-enum-known-settled-2
+enum-known-settled-2 c = search needs
+
+same-length : tie.Need-same-length
+same-length c = search needs
+
+returns-2 : tie.Need-returns-2
+returns-2 c = λ M L R full of none.
+    promise-page of none (rw (c .before .before .before .before .before .before .before .before .before .wanted-count .ensures) at (c .before .before .before .before .before .before .before .before .if1 .left)) (c .before .before .before .before .before .before .before .settle .ensures M L R full of) (c .before .before .before .before .before .settled .given .1)
+    (rw (c .before .before .before .before .before .before .before .before .before .wanted-count .ensures) at (c .before .before .write-keys .ensures M L R full of))
+
+returns-3 : tie.Need-returns-3
+returns-3 c = λ M L R full of none.
+    promise-refused of none (rw (c .before .before .before .before .before .wanted-count .ensures) at (c .before .before .before .before .if1 .left)) (c .before .before .before .settle .ensures M L R full of) (c .before .settled2 .given .1)
+
+pub page-of-spec : {M : Type 1} → statement M
+page-of-spec =
+    tie.close
+    (tie.spec
+    wanted-count-requires
+    returns
+    settle-requires
+    enum-known-settled
+    write-keys-requires
+    enum-known-settled-2
+    same-length
+    returns-2
+    returns-3)

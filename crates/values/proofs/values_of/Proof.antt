@@ -1,0 +1,44 @@
+-- `values::values_of` meets its contract: 16, then what the list says of the key, then what is written of it. Assumes nothing.
+use native.Mathlib.Omega.{arith}
+use Rattle.values.proofs.Promise.{promise-short, promise-refused, promise-written}
+use borrow.Author.Needs.{needs}
+use Rattle.values.proofs.values_of.Statement.{statement}
+use Rattle.values.proofs.values_of.Tie as tie
+
+returns : tie.Need-returns
+returns c = λ M L R full of none. promise-short (c .if1 .taken)
+
+settle-requires : tie.Need-settle-requires
+settle-requires c κs = search needs
+
+enum-known-settled : tie.Need-enum-known-settled
+enum-known-settled c = search needs
+
+enum-told : tie.Need-enum-told
+enum-told c = search needs
+
+write-requires : tie.Need-write-requires
+write-requires c κs = search needs
+
+returns-2 : tie.Need-returns-2
+returns-2 c = λ M L R full of none. promise-refused of none (omega arith) (c .before .before .before .settle .ensures M L R full of) (c .before .settled .given .1)
+
+same-length : tie.Need-same-length
+same-length c = search needs
+
+returns-3 : tie.Need-returns-3
+returns-3 c = λ M L R full of none.
+    promise-written of none (omega arith) (c .before .before .before .before .before .before .settle .ensures M L R full of) (c .before .before .before .before .enum-told .given .1) (c .before .before .write .ensures M L R full of)
+
+pub values-of-spec : {M : Type 1} → statement M
+values-of-spec =
+    tie.close
+    (tie.spec
+    returns
+    settle-requires
+    enum-known-settled
+    enum-told
+    write-requires
+    returns-2
+    same-length
+    returns-3)

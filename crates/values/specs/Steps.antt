@@ -1,0 +1,41 @@
+-- What the steps of Values give, over the list of the pair that a table is of.
+use Prim.Native.Nat.{ℕ}
+use mathlib.Core.Path.{_≡_}
+use mathlib.Core.Bool.{false}
+use mathlib.Core.List.{List, [], _∷_, List·Memᴰ}
+use lib.ListN.{length}
+use Rattle.ac.specs.Pair.{Mode}
+use Rattle.ac.specs.Rows.{Groups}
+use Rattle.ac.specs.Keys.{layout, keys}
+use Rattle.numbers.specs.Numbers.{numberOf}
+use Rattle.numbers.specs.First.{First, NoneOf}
+use Rattle.numbers.specs.declared.Refusal.{Refusal}
+use Rattle.sides.specs.Limits.{limits}
+use Rattle.sides.specs.Given.{PairGiven}
+use Rattle.table.specs.Table.{TableOf, groupsIn}
+use Rattle.table.specs.declared.Table.{Table}
+use Rattle.values.specs.Given.{ListGiven, LongValue}
+use Rattle.values.specs.Values.{ValuesOutcome, refused, written, valuesOf, receives, ValuesPromise}
+use Rattle.values.specs.declared.Settled.{Settled}
+use Rattle.values.specs.declared.Settled.the-variants.{Listed, Refused}
+
+-- 13 or 14, or that the key is on the list
+pub data SettledOf (listed : List ℕ) (key : ℕ) : Settled → Type 0 where
+  to-refuse : {why : Refusal} → First (ListGiven listed key) (13 ∷ 14 ∷ []) (numberOf why) → SettledOf listed key (Refused why)
+  to-answer : List·Memᴰ key listed → SettledOf listed key Listed
+
+-- Of a listed key: 17 where a value would be too long, else the values are written and their length is told.
+pub data Writes (M : Mode) (L R : List ℕ) (G : Groups) (key : ℕ) (out : List ℕ) : ValuesOutcome → List ℕ → Type 0 where
+  too-long : LongValue M L R G key → Writes M L R G key out (refused 17) out
+  fits : (LongValue M L R G key → ⊥) → Writes M L R G key out (written (length (valuesOf M L R G key))) (receives out (valuesOf M L R G key))
+
+abbrev pub WrittenOf : Table → ℕ → List ℕ → ValuesOutcome → List ℕ → Type 0
+WrittenOf table key out outcome out′ =
+    (M : Mode) (L R : List ℕ) → M .empties ≡ false → TableOf M L R table → List·Memᴰ key (keys M layout L R (groupsIn table))
+    → Writes M L R (groupsIn table) key out outcome out′
+
+-- the promise of Values, for each pair that the table is of and whose sides give no number
+abbrev pub PromiseOfTable : Table → ℕ → List ℕ → ValuesOutcome → List ℕ → Type 0
+PromiseOfTable table key out outcome out′ =
+    (M : Mode) (L R : List ℕ) → M .empties ≡ false → TableOf M L R table → NoneOf (PairGiven limits M L R) (7 ∷ 8 ∷ 9 ∷ 10 ∷ 11 ∷ 12 ∷ [])
+    → ValuesPromise M L R key out outcome out′

@@ -1,0 +1,136 @@
+#!/usr/bin/env python3
+"""Cases for the program block_runs, and what document 01 says of each.
+
+    tools/read_cases.py questions >crates/block_runs/stdin
+    tools/read_cases.py answers >crates/block_runs/stdout
+
+The answers come from a reader of blocks of its own, written from document 01.
+"""
+import sys
+
+from library import PLUS, block
+
+EXAMPLE = block(0, bytes([PLUS, 0, 1]), bytes([PLUS, 64, 65]))
+
+
+def with_check(filled):
+    return filled + (65535 - sum(filled) % 65536).to_bytes(2, "big")
+
+
+def changed(whole, place, byte):
+    """The block with another byte at a place before the check, and the check of that."""
+    return with_check(whole[:place] + bytes([byte]) + whole[place + 1 : 510])
+
+
+def left_brackets(atoms):
+    return bytes([PLUS] * (len(atoms) - 1)) + bytes(atoms)
+
+
+def right_brackets(atoms):
+    return b"".join(bytes([PLUS, a]) for a in atoms[:-1]) + bytes(atoms[-1:])
+
+
+UP = list(range(64))
+DOWN = list(range(127, 63, -1))
+
+# name, block, expected number, length of the left buffer and of the right one
+CASES = [
+    ("example block 0", EXAMPLE, 0, 64, 64),
+    ("example block 1", block(1, bytes([PLUS, 0, 0]), bytes([64])), 1, 64, 64),
+    ("longer buffers", EXAMPLE, 0, 65, 255),
+    ("the highest number", block(65535, bytes([5]), bytes([70])), 65535, 64, 64),
+    ("127 bytes, brackets left", block(7, left_brackets(UP), left_brackets(DOWN)), 7, 64, 64),
+    ("127 bytes, brackets right", block(7, right_brackets(UP), right_brackets(DOWN)), 7, 64, 64),
+    ("127 bytes and one", block(7, right_brackets(UP), bytes([127])), 7, 64, 64),
+    ("no block", b"", 0, 64, 64),
+    ("511 bytes", EXAMPLE[:511], 0, 64, 64),
+    ("513 bytes", EXAMPLE + b"\0", 0, 64, 64),
+    ("zeros", bytes(512), 0, 64, 64),
+    ("check one more", EXAMPLE[:511] + bytes([EXAMPLE[511] + 1]), 0, 64, 64),
+    ("filler against the check", EXAMPLE[:509] + b"\1" + EXAMPLE[510:], 0, 64, 64),
+    ("another number", EXAMPLE, 1, 64, 64),
+    ("number and length wrong", changed(EXAMPLE, 2, 0), 1, 64, 64),
+    ("left length 0", changed(EXAMPLE, 2, 0), 0, 64, 64),
+    ("right length 0", changed(EXAMPLE, 3, 0), 0, 64, 64),
+    ("left length 128", block(0, bytes([PLUS]) + right_brackets(UP), bytes([64])), 0, 64, 64),
+    ("right length 255", changed(EXAMPLE, 3, 255), 0, 64, 64),
+    ("left term ends early", block(0, bytes([PLUS, 0]), bytes([64])), 0, 64, 64),
+    ("right term ends early", block(0, bytes([0]), bytes([PLUS, PLUS, 64, 65])), 0, 64, 64),
+    ("left term has bytes left over", block(0, bytes([0, 1, 2]), bytes([64])), 0, 64, 64),
+    ("right term has bytes left over", block(0, bytes([0]), bytes([PLUS, 64, 65, 66])), 0, 64, 64),
+    ("byte 129 on the left", block(0, bytes([PLUS, 0, 129]), bytes([64])), 0, 64, 64),
+    ("byte 255 on the right", block(0, bytes([0]), bytes([255])), 0, 64, 64),
+    ("term and filler wrong", changed(block(0, bytes([0]), bytes([129])), 509, 1), 0, 64, 64),
+    ("first filler byte", changed(EXAMPLE, 10, 1), 0, 64, 64),
+    ("last filler byte", changed(EXAMPLE, 509, 128), 0, 64, 64),
+    ("short left buffer", EXAMPLE, 0, 63, 64),
+    ("short right buffer", EXAMPLE, 0, 64, 63),
+    ("short buffer and no block", b"", 1, 0, 0),
+]
+
+
+def term(written):
+    """The atoms of the bytes as one term, or None."""
+    atoms, wanted = [], 1
+    for place, byte in enumerate(written):
+        if byte > PLUS:
+            return None
+        if byte == PLUS:
+            wanted += 1
+        else:
+            atoms.append(byte)
+            wanted -= 1
+        if wanted == 0:
+            return atoms if place + 1 == len(written) else None
+    return None
+
+
+def read(whole, number, left_length, right_length):
+    """A number of the table, or the two sides."""
+    if min(left_length, right_length) < 64:
+        return 16
+    if len(whole) != 512:
+        return 1
+    if int.from_bytes(whole[510:], "big") != 65535 - sum(whole[:510]) % 65536:
+        return 2
+    if int.from_bytes(whole[:2], "big") != number:
+        return 3
+    left_end = 4 + whole[2]
+    right_end = left_end + whole[3]
+    if not (1 <= whole[2] <= 127 and 1 <= whole[3] <= 127):
+        return 4
+    sides = term(whole[4:left_end]), term(whole[left_end:right_end])
+    if None in sides:
+        return 5
+    if any(whole[right_end:510]):
+        return 6
+    return sides
+
+
+def name(atom):
+    return f"v{atom}" if atom < 64 else f"c{atom - 64}"
+
+
+def question(case):
+    title, whole, number, left_length, right_length = case
+    head = title.ljust(32).encode() + number.to_bytes(2, "big") + len(whole).to_bytes(2, "big") + bytes([left_length, right_length, 0, 0])
+    return (head + whole).ljust(640, b"\0")
+
+
+def answer(case):
+    title, *asked = case
+    outcome = read(*asked)
+    if isinstance(outcome, int):
+        told = f"refused {outcome}"
+    else:
+        left, right = ("+".join(map(name, side)) for side in outcome)
+        told = f"{left} = {right}"
+    return f"{title:32}{told}, kept\n".encode()
+
+
+if __name__ == "__main__":
+    made = {"questions": question, "answers": answer}
+    if len(sys.argv) != 2 or sys.argv[1] not in made:
+        sys.exit(__doc__)
+    for case in CASES:
+        sys.stdout.buffer.write(made[sys.argv[1]](case))

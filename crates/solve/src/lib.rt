@@ -141,17 +141,3 @@ pub fn solve(left: &[u8], right: &[u8]) -> Solved
         Verdict::Accepted => solve_pair(pair),
     }
 }
-
-// What Rows answers: how many balanced rows there are, how many unbalanced constants, and how many rows the first to the fourth
-// of them have, 0 where there is none; or why there are none.
-pub enum RowsAnswer {
-    Groups {
-        balanced: usize,
-        constants: usize,
-        first: usize,
-        second: usize,
-        third: usize,
-        fourth: usize,
-    },
-    Refused(Refusal),
-}

@@ -17,7 +17,7 @@ use Rattle.table.specs.declared.Table.{Table}
 use Rattle.table.proofs.Groups.{constants-groupsFrom, groupsFrom-stands, Stands}
 use Rattle.rows.specs.Flat.{rowsOf}
 use Rattle.solve.specs.Spread.{groupIn, Spreads}
-use Rattle.solve.specs.Steps.{RowIn, More, FoundOf, GroupsUpto, PutOf, Roomy}
+use Rattle.solve.specs.Steps.{RowIn, More, FoundOf, GroupsUpto, GroupsFound, Roomy}
 use Rattle.solve.proofs.Finding.{take-padded}
 use Rattle.solve.proofs.Counting.{twelve-given}
 
@@ -52,11 +52,11 @@ groups-next {Row} {places} {count} {group} {bytes} {before} {after} {sizes} ther
 
 -- a group with too many rows, and all groups put
 module _ {M : Mode} {L R : List ℕ} {places : ℕ} {rows sizes : List ℕ} where
-  pub put-too-many : {g : ℕ} → g ≤ length (unbalanced M L R) → More 16 (RowIn M L R g) → PutOf limits M L R places rows sizes false
+  pub put-too-many : {g : ℕ} → g ≤ length (unbalanced M L R) → More 16 (RowIn M L R g) → GroupsFound limits M L R places rows sizes false
   put-too-many {g} within more = record { if-true = λ e. absurd (false≢true e); if-false = λ e. twelve-given g within more }
 
   pub put-all : {upto : ℕ} → upto ≡ suc (length (unbalanced M L R)) → GroupsUpto 16 (RowIn M L R) places rows sizes upto
-      → PutOf limits M L R places rows sizes true
+      → GroupsFound limits M L R places rows sizes true
   put-all all known = record { if-true = λ e. subst (GroupsUpto 16 (RowIn M L R) places rows sizes) all known; if-false = λ e. absurd (false≢true (sym e)) }
 
 -- what is known before the turn of a group

@@ -8,11 +8,12 @@ use mathlib.Core.Logic.{_⊎_, inl, inr}
 use mathlib.Core.List.{List, [], _∷_, _++_, map, append-assoc}
 use lib.ListN.{length, take, drop, set, length-drop}
 use lib.Seq.{sets, sets-eq, length-sets, take-at, drop-at, take-set-le, drop-set-lt, drop-set-add, length-take-le}
-use Rattle.ac.specs.Lists.{from, below}
+use Rattle.ac.specs.Lists.{below}
 use Rattle.buffer.specs.Put.{Put}
 use Rattle.rows.specs.Flat.{rowsOf}
 use Rattle.rows.proofs.Flat.{rowAt, rows-snoc}
 use Rattle.solve.specs.Spread.{rowIn, groupIn, Spreads}
+use Rattle.solve.proofs.Lists.{below-same, from-snoc}
 
 -- What stands at one place of a list is not touched by what is put at another.
 
@@ -45,20 +46,6 @@ sets-there l at vs room =
   where
     rest : List ℕ
     rest = drop (at + length vs) l
-
--- Lists made of the numbers below a bound.
-
-from-same {ℓ} : {A : Type ℓ} (f g : ℕ → A) (a n : ℕ) → ((i : ℕ) → a ≤ i → i < a + n → f i ≡ g i) → map f (from a n) ≡ map g (from a n)
-from-same f g a zero same = refl
-from-same f g a (suc n) same =
-    ap₂ (λ x xs. x ∷ xs) (same a (omega arith) (omega arith)) (from-same f g (suc a) n (λ i low high. same i (omega arith) (omega arith)))
-
-pub below-same {ℓ} : {A : Type ℓ} (f g : ℕ → A) (n : ℕ) → ((i : ℕ) → i < n → f i ≡ g i) → map f (below n) ≡ map g (below n)
-below-same f g n same = from-same f g 0 n (λ i low high. same i (omega arith))
-
-from-snoc {ℓ} : {A : Type ℓ} (f : ℕ → A) (a n : ℕ) → map f (from a (suc n)) ≡ map f (from a n) ++ (f (a + n) ∷ [])
-from-snoc f a zero = ap (λ k. f k ∷ []) (omega arith)
-from-snoc f a (suc n) = ap (λ xs. f a ∷ xs) (from-snoc f (suc a) n ∙ ap (λ k. map f (from (suc a) n) ++ (f k ∷ [])) (omega arith))
 
 -- rows that stand one after the other, each by its index
 rows-by-index : (k n : ℕ) (bytes : List ℕ) → rowsOf k n bytes ≡ map (rowAt k bytes) (below n)

@@ -39,6 +39,6 @@ pub record GroupsUpto (limit : ℕ) (Row : ℕ → List ℕ → Type 0) (places 
   pub the-rows : (g : ℕ) → g < upto → Exactly (Row g) (groupIn places rows g (getD sizes g 0))
 
 -- all groups of the pair stand at their places, or number 12 is given
-pub record PutOf (limits : Limits) (M : Mode) (L R : List ℕ) (places : ℕ) (rows sizes : List ℕ) (fits : Bool) : Type 0 where
+pub record GroupsFound (limits : Limits) (M : Mode) (L R : List ℕ) (places : ℕ) (rows sizes : List ℕ) (fits : Bool) : Type 0 where
   pub if-true : fits ≡ true → GroupsUpto (limits .balanced-rows) (RowIn M L R) places rows sizes (suc (length (unbalanced M L R)))
   pub if-false : fits ≡ false → PairGiven limits M L R 12

@@ -17,9 +17,13 @@ ghost use lib.ListN.{length, getD};
 ghost use Rattle.ac.specs.Pair.{Mode, unifying};
 ghost use Rattle.sides.specs.Limits.{limits};
 ghost use Rattle.sides.specs.Parted.{PairOf};
-ghost use Rattle.solve.specs.Spread.{Spreads};
+ghost use Rattle.buffer.specs.Put.{Put};
+ghost use Rattle.table.specs.Table.{Within, groupsIn};
+ghost use Rattle.solve.specs.Spread.{groupIn, Spreads};
 ghost use Rattle.solve.specs.Solved.{pairNumbers, SolvedOf};
-ghost use Rattle.solve.specs.Steps.{Roomy, RowIn, FoundOf, PutOf};
+ghost use Rattle.solve.specs.Steps.{Roomy, RowIn, FoundOf, GroupsFound};
+ghost use Rattle.solve.specs.Rows.{told, size, allRows, bytesOf, RowsPromise};
+ghost use Rattle.solve.specs.Putting.{PromiseOfTable};
 
 // What solving gives. The table says something only where the sides are accepted.
 pub struct Solved {
@@ -61,10 +65,10 @@ fn find_group(pair: Pair, group: usize) -> Found
 }
 
 // Puts the rows of every group at their places, and beside them how many they are; or tells that a group has too many.
-fn put_groups(pair: Pair, rows: &mut [u8], sizes: &mut [usize]) -> bool
+fn find_groups(pair: Pair, rows: &mut [u8], sizes: &mut [usize]) -> bool
     requires { ⌜ Roomy pair × (length (now rows) ≡ 480) × (length (now sizes) ≡ 5) × ((g : ℕ) → getD (now sizes) g 0 ≡ 0) ⌝ }
     ensures { λ r. ⌜ ((M : Mode) (L R : List ℕ) → PairOf limits M L R pair
-        → PutOf limits M L R (pair .variables .count) (now (rows .exit)) (now (sizes .exit)) r) ⌝ }
+        → GroupsFound limits M L R (pair .variables .count) (now (rows .exit)) (now (sizes .exit)) r) ⌝ }
 {
     let places = pair.variables.count;
     let unbalanced = pair.constants.count;
@@ -108,7 +112,7 @@ fn solve_pair(pair: Pair) -> Solved
 {
     let mut rows = [0u8; 480];
     let mut sizes = [0usize; 5];
-    if !put_groups(pair, &mut rows, &mut sizes) {
+    if !find_groups(pair, &mut rows, &mut sizes) {
         return refused(Refusal::Rows);
     }
     let variables = pair.variables;
@@ -139,5 +143,109 @@ pub fn solve(left: &[u8], right: &[u8]) -> Solved
     match verdict {
         Verdict::Refused(refusal) => refused(refusal),
         Verdict::Accepted => solve_pair(pair),
+    }
+}
+
+// What Rows answers: how many balanced rows there are, how many unbalanced constants, and how many rows the first to the fourth
+// of them have, 0 where there is none; or why there are none.
+pub enum RowsAnswer {
+    Groups {
+        balanced: usize,
+        constants: usize,
+        first: usize,
+        second: usize,
+        third: usize,
+        fourth: usize,
+    },
+    Refused(Refusal),
+}
+
+// The shortest buffer that the rows fit into, whatever the pair.
+pub const BUFFER: usize = 480;
+
+// Puts the rows of a group one after the other.
+fn put_group(
+    rows: &[u8],
+    group: usize,
+    count: usize,
+    places: usize,
+    out: &mut [u8],
+    at: usize,
+) -> usize
+    requires { ⌜ (places ≤ 6) × (count ≤ 16) × (group < 5) × (length (now rows) ≡ 480) ⌝ }
+    requires { ⌜ at + count * places ≤ length (now out) ⌝ }
+    ensures { λ r. ⌜ Put (now (out .entry)) at (bytesOf (groupIn places (now (rows .entry)) group count)) r (now (out .exit)) ⌝ }
+{
+    let mut next = at;
+    let mut i = 0;
+    while i < count {
+        let start = GROUP * group + VARIABLES * i;
+        let end = start + places;
+        next = put_bytes(out, next, &rows[start..end]);
+        i += 1;
+    }
+    next
+}
+
+// Puts the rows of all groups, the balanced ones first.
+fn put_groups(table: Table, out: &mut [u8]) -> usize
+    requires { ⌜ Within table × (480 ≤ length (now out)) ⌝ }
+    ensures { λ r. ⌜ Put (now (out .entry)) 0 (bytesOf (allRows (groupsIn table))) r (now (out .exit)) × (r ≤ 480) ⌝ }
+{
+    let rows = table.rows;
+    let sizes = table.sizes;
+    let mut next = 0;
+    let mut group = 0;
+    while group <= table.unbalanced {
+        let count = sizes[group];
+        next = put_group(&rows, group, count, table.places, out, next);
+        group += 1;
+    }
+    next
+}
+
+// How many rows the constant at a place has, 0 where there is no such constant.
+fn size_at(table: Table, place: usize) -> usize
+    requires { ⌜ Within table × (place < 4) ⌝ }
+    ensures { λ r. ⌜ r ≡ size (groupsIn table) place ⌝ }
+{
+    let sizes = table.sizes;
+    if place < table.unbalanced {
+        sizes[place + 1]
+    } else {
+        0
+    }
+}
+
+// The question Rows on a solved pair.
+pub fn rows_of(table: Table, out: &mut [u8]) -> RowsAnswer
+    requires { ⌜ Within table × (480 ≤ length (now out)) ⌝ }
+    ensures { λ r. ⌜ PromiseOfTable table (now (out .entry)) (told r) (now (out .exit)) ⌝ }
+{
+    put_groups(table, out);
+    let sizes = table.sizes;
+    RowsAnswer::Groups {
+        balanced: sizes[0],
+        constants: table.unbalanced,
+        first: size_at(table, 0),
+        second: size_at(table, 1),
+        third: size_at(table, 2),
+        fourth: size_at(table, 3),
+    }
+}
+
+// Puts the rows of two sides into the buffer. Every refusal is settled before the first byte is written.
+pub fn rows(left: &[u8], right: &[u8], out: &mut [u8]) -> RowsAnswer
+    ensures { λ r. ⌜ RowsPromise unifying (now (left .entry)) (now (right .entry)) (now (out .entry)) (told r) (now (out .exit)) ⌝ }
+{
+    if out.len() < BUFFER {
+        return RowsAnswer::Refused(Refusal::ShortBuffer);
+    }
+    let solved = solve(left, right);
+    let verdict = solved.verdict;
+    let table = solved.table;
+    match verdict {
+        Verdict::Refused(refusal) => RowsAnswer::Refused(refusal),
+        Verdict::Accepted => rows_of(table, out),
     }
 }

@@ -1,20 +1,18 @@
 -- Candidates place by place, and that between a field that is too large and the end of its block there is none.
-use Prim.Native.Nat.{ℕ, zero, suc, _+_, _-_, _*_, _/_, _%_, _^_, _<_, _≤_}
+use Prim.Native.Nat.{ℕ, suc, _+_, _-_, _*_, _/_, _%_, _^_, _<_, _≤_}
 use native.Mathlib.Omega.{arith}
 use native.Mathlib.Nat.{div-lt-iff-lt-mul, mul-le-mul-right, mod-lt}
 use native.Mathlib.Numerals.{add-one}
 use native.Mathlib.Decide.{decLt}
-use mathlib.Core.Path.{_≡_, refl, sym, _∙_, ap, subst}
+use mathlib.Core.Path.{_≡_, sym, _∙_, ap, subst}
 use mathlib.Core.Bool.{cond}
 use mathlib.Core.List.{List}
 use borrow.Author.Tests.{lt-ltb, le-ltb}
-use lib.Dec.{ltb}
 use lib.ListN.{length, getD}
 use lib.Pow.{pow-pos, pow-add, split, shr-shr, shr-mono, shr-lt}
 use Rattle.ac.specs.Rows.{Groups}
 use Rattle.ac.specs.Keys.{layout, fieldAt, Candidate, Fits}
 use Rattle.ac.proofs.Fields.{rowsAt, candidate-places, places-candidate}
-use Rattle.keys.specs.Reach.{group}
 use Rattle.keys.specs.Candidates.{Sized, fieldLimit}
 
 -- the end of a block of 2 ^ bits numbers

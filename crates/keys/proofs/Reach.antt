@@ -2,7 +2,7 @@
 use Prim.Native.Nat.{ℕ, zero, suc, _+_, _*_, _<_, _≤_}
 use native.Mathlib.Omega.{arith}
 use native.Mathlib.Numerals.{add-one}
-use mathlib.Core.Path.{_≡_, refl, sym, _∙_, ap, ap₂, subst}
+use mathlib.Core.Path.{_≡_, refl, sym, _∙_, ap, ap₂}
 use mathlib.Core.Bool.{Bool, true, false, _||_, _&&_}
 use mathlib.Core.List.{List, [], _∷_, _++_, map}
 use lib.Dec.{ltb}
@@ -12,7 +12,7 @@ use Rattle.ac.specs.Rows.{Group, Groups}
 use Rattle.ac.specs.Selection.{Taken, takenRows, takenBalanced, taken, reached, allReached}
 use Rattle.ac.specs.Keys.{layout, bit, fieldAt, selectionAt, Candidate, Fits}
 use Rattle.ac.proofs.Fields.{rowsAt, length-fieldsOf, index-at, places-candidate}
-use Rattle.keys.specs.Reach.{any, all, group, Holds, constantReaches, balancedReaches, reaches}
+use Rattle.keys.specs.Reach.{any, all, Holds, constantReaches, balancedReaches, reaches}
 use Rattle.keys.proofs.Any.{or-assoc, any-front, any-same}
 
 -- of rows taken one after the other, one of the first or one of the second reaches

@@ -2,13 +2,13 @@
 use Prim.Native.Nat.{ℕ, zero, suc, _+_, _*_, _<_, _≤_}
 use native.Mathlib.Omega.{arith}
 use native.Mathlib.Decide.{decLt}
-use mathlib.Core.Path.{_≡_, refl, sym, _∙_, ap, subst}
+use mathlib.Core.Path.{_≡_, refl, _∙_, ap}
 use mathlib.Core.List.{List, [], _∷_, map, List·Memᴰ, List·Memᴰ·head, List·Memᴰ·tail}
 use lib.ListN.{length, getD, take, drop, length-map, length-take}
 use lib.Seq.{length-take-le, getD-take, getD-drop}
 use Rattle.ac.specs.Lists.{from, Ascending}
 use Rattle.ac.specs.Pair.{Mode}
-use Rattle.ac.specs.Rows.{Group, Groups}
+use Rattle.ac.specs.Rows.{Group}
 use Rattle.ac.specs.Keys.{layout, keys, Fits}
 use Rattle.ac.proofs.Fields.{rowsAt}
 use Rattle.ac.proofs.Keys.{length-from}

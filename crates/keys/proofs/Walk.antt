@@ -2,7 +2,7 @@
 use Prim.Native.Nat.{ℕ, _+_, _^_, _<_, _≤_}
 use native.Mathlib.Omega.{arith}
 use native.Mathlib.Decide.{decLt, ℕ-discrete}
-use mathlib.Core.Path.{_≡_, refl, sym, _∙_, ap, subst}
+use mathlib.Core.Path.{_≡_, sym, _∙_, ap, subst}
 use mathlib.Core.Bool.{Bool, true, false}
 use mathlib.Core.List.{List, List·Memᴰ}
 use lib.ListN.{length, getD}
@@ -98,7 +98,7 @@ module _ {t : Table} {start at : ℕ} (passed : Passed t start at) where
 
 between-none : {G : Groups} {key later : ℕ} → Stands G key (NoneBefore later)
     → (key < later) × ((other : ℕ) → key ≤ other → other < later → Candidate layout G other → ⊥)
-between-none (between less end none) = (less, none)
+between-none (between less none) = (less, none)
 
 stands-candidate : {G : Groups} {key : ℕ} → Stands G key IsCandidate → Candidate layout G key
 stands-candidate (on-candidate candidate) = candidate

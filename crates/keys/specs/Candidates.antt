@@ -1,5 +1,5 @@
 -- Where a number stands among the candidates of the groups.
-use Prim.Native.Nat.{ℕ, _+_, _^_, _<_, _≤_}
+use Prim.Native.Nat.{ℕ, _+_, _<_, _≤_}
 use mathlib.Core.Path.{_≡_}
 use mathlib.Core.Bool.{cond}
 use mathlib.Core.List.{List}
@@ -23,5 +23,5 @@ fieldLimit sizes unbalanced g = cond (ltb g unbalanced) (getD sizes (g + 1) 0) 1
 -- on a candidate, or where no candidate comes before a later number
 pub data Stands (G : Groups) (key : ℕ) : Standing → Type 0 where
   on-candidate : IsCandidate layout G key → Stands G key Candidate
-  between : {later : ℕ} → key < later → later ≤ 2 ^ 32 → ((other : ℕ) → key ≤ other → other < later → IsCandidate layout G other → ⊥)
+  between : {later : ℕ} → key < later → ((other : ℕ) → key ≤ other → other < later → IsCandidate layout G other → ⊥)
       → Stands G key (NoneBefore later)

@@ -11,7 +11,7 @@ use Rattle.table.specs.declared.Table.{Table}
 use Rattle.keys.specs.declared.Next.{Next}
 use Rattle.keys.specs.declared.Next.the-variants.{Key, None}
 
--- so it is of the list of each pair that the table is of
+-- It is so of the list of every pair that the table is of, in a mode in which no variable may be empty.
 abbrev pub OfItsList : Table → (List ℕ → Type 0) → Type 0
 OfItsList table So = (M : Mode) (L R : List ℕ) → M .empties ≡ false → TableOf M L R table → So (keys M layout L R (groupsIn table))
 

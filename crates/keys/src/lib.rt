@@ -28,7 +28,7 @@ pub const KEYS: u64 = 4_294_967_296;
 
 // Whether the key takes balanced row `i`: bit i of the low 16.
 pub fn takes(key: u32, i: usize) -> bool
-    requires { ⌜ i < 16 ⌝ }
+    requires { ⌜ i < layout .rows ⌝ }
     ensures { λ r. ⌜ r ≡ bit key i ⌝ }
 {
     key >> i & 1 == 1
@@ -36,7 +36,7 @@ pub fn takes(key: u32, i: usize) -> bool
 
 // The row index of constant number `g`: bits 28 to 31 for the lowest, for the next 24 to 27, then 20 to 23 and 16 to 19.
 pub fn index_at(key: u32, g: usize) -> usize
-    requires { ⌜ g < 4 ⌝ }
+    requires { ⌜ g < layout .constants ⌝ }
     ensures { λ r. ⌜ r ≡ fieldAt layout key g ⌝ }
 {
     (key >> (MASK_BITS + INDEX_BITS * (CONSTANTS - (g + 1))) & INDEX_MASK) as usize
@@ -44,7 +44,7 @@ pub fn index_at(key: u32, g: usize) -> usize
 
 // Whether one of the constants' rows that the key takes is above 0 at the place.
 fn constants_reach(rows: &[u8; 480], unbalanced: usize, key: u32, place: usize) -> bool
-    requires { ⌜ (unbalanced ≤ 4) × (place < 6) ⌝ }
+    requires { ⌜ (unbalanced ≤ layout .constants) × (place < 6) ⌝ }
     ensures { λ r. ⌜ r ≡ any unbalanced (constantReaches (now (rows .entry)) key place) ⌝ }
 {
     let mut g: usize = 0;
@@ -60,7 +60,7 @@ fn constants_reach(rows: &[u8; 480], unbalanced: usize, key: u32, place: usize) 
 
 // Whether one of the balanced rows that the key takes is above 0 at the place.
 fn balanced_reach(rows: &[u8; 480], balanced: usize, key: u32, place: usize) -> bool
-    requires { ⌜ (balanced ≤ 16) × (place < 6) ⌝ }
+    requires { ⌜ (balanced ≤ layout .rows) × (place < 6) ⌝ }
     ensures { λ r. ⌜ r ≡ any balanced (balancedReaches (now (rows .entry)) key place) ⌝ }
 {
     let mut i: usize = 0;
@@ -75,7 +75,7 @@ fn balanced_reach(rows: &[u8; 480], balanced: usize, key: u32, place: usize) -> 
 
 // Whether a row that the key takes is above 0 at the place.
 fn reached(rows: &[u8; 480], unbalanced: usize, balanced: usize, key: u32, place: usize) -> bool
-    requires { ⌜ (unbalanced ≤ 4) × (balanced ≤ 16) × (place < 6) ⌝ }
+    requires { ⌜ (unbalanced ≤ layout .constants) × (balanced ≤ layout .rows) × (place < 6) ⌝ }
     ensures { λ r. ⌜ r ≡ reaches (now (rows .entry)) unbalanced balanced key place ⌝ }
 {
     if constants_reach(rows, unbalanced, key, place) {
@@ -86,7 +86,7 @@ fn reached(rows: &[u8; 480], unbalanced: usize, balanced: usize, key: u32, place
 
 // Whether the key's selection is admissible, of a candidate: each place is above 0 in at least one taken row.
 pub fn weigh(rows: &[u8; 480], places: usize, unbalanced: usize, balanced: usize, key: u32) -> bool
-    requires { ⌜ (places ≤ 6) × (unbalanced ≤ 4) × (balanced ≤ 16) ⌝ }
+    requires { ⌜ (places ≤ 6) × (unbalanced ≤ layout .constants) × (balanced ≤ layout .rows) ⌝ }
     ensures { λ r. ⌜ ((G : Groups) → Holds (now (rows .entry)) places unbalanced balanced G → Fits layout G
         → Candidate layout G key → r ≡ allReached (taken (layout .new) G (selectionAt layout G key)) places) ⌝ }
 {
@@ -102,7 +102,7 @@ pub fn weigh(rows: &[u8; 480], places: usize, unbalanced: usize, balanced: usize
 
 // How many values the field of constant number `g` may have: one for each of its rows; where there is no such constant only 0.
 fn field_limit(sizes: &[usize; 5], unbalanced: usize, g: usize) -> usize
-    requires { ⌜ g < 4 ⌝ }
+    requires { ⌜ g < layout .constants ⌝ }
     ensures { λ r. ⌜ r ≡ fieldLimit (now (sizes .entry)) unbalanced g ⌝ }
 {
     if g < unbalanced { sizes[g + 1] } else { 1 }
@@ -124,7 +124,7 @@ pub enum Standing {
 
 // Where the key stands. Up to the end of its block a field only grows, so that one which is too large stays so, and the block is left.
 pub fn stands(sizes: &[usize; 5], unbalanced: usize, key: u32) -> Standing
-    requires { ⌜ (unbalanced ≤ 4) × (getD (now sizes) 0 0 ≤ 16) ⌝ }
+    requires { ⌜ (unbalanced ≤ layout .constants) × (getD (now sizes) 0 0 ≤ layout .rows) ⌝ }
     ensures { λ r. ⌜ ((G : Groups) → Sized (now (sizes .entry)) unbalanced G → Fits layout G → Stands G key r) ⌝ }
 {
     let mut g: usize = 0;

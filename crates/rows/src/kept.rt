@@ -14,8 +14,8 @@ fn lower(rows: &[u8], count: usize, vector: &[u8]) -> bool
 {
     let mut met = false;
     let mut row = 0;
-    let mut start = 0;
     'rows: while row < count {
+        let start = row * vector.len();
         let mut place = 0;
         'places: loop {
             if place == vector.len() {
@@ -28,7 +28,6 @@ fn lower(rows: &[u8], count: usize, vector: &[u8]) -> bool
             place += 1;
         }
         row += 1;
-        start += vector.len();
     }
     met
 }

@@ -1,7 +1,7 @@
 // Where the walk stands after the numbers chosen so far, and which numbers the next place may have in a row.
 ghost use mathlib.Core.Path.{_≡_};
 ghost use mathlib.Core.Bool.{true};
-ghost use Prim.Native.Nat.{_*_, _<_, _≤_};
+ghost use Prim.Native.Nat.{_*_, _<_, _≤_, min};
 ghost use Rattle.rows.specs.Places.{Room, Apart, Lifts, Ranges, budgetOf, afterChoice};
 
 // Where the walk stands, of the numbers chosen so far: the two sums, the offsets included; what is left of the budget of the places whose left
@@ -30,6 +30,12 @@ fn times(a: u8, b: u8) -> u32
     ensures { λ r. ⌜ r ≡ a * b ⌝ }
 {
     wide(a) * wide(b)
+}
+
+fn smaller(a: u8, b: u8) -> u8
+    ensures { λ r. ⌜ r ≡ min a b ⌝ }
+{
+    if a < b { a } else { b }
 }
 
 // What is left of the budget that a place with these coefficients spends.
@@ -97,20 +103,29 @@ fn divided(low: u32, high: u32, step: u8, budget: u8) -> Range
     }
 }
 
-// The numbers that a place with these coefficients may have: up to its budget, and at the last place only the one that makes the sums equal.
+// The numbers that a place with these coefficients may have: up to its budget; at the last place only the one that makes the sums equal; and where
+// the coefficients are equal, none but what keeps the vector from being all zero.
 pub fn possible(at: Standing, left: u8, right: u8, last: bool) -> Range
     ensures { λ r. ⌜ Ranges at left right last r ⌝ }
 {
-    if last {
-        if right < left {
-            return divided(at.left, at.right, left - right, at.up);
+    if left == right {
+        if at.counts {
+            return Range { first: 0, most: 0 };
         }
-        if left < right {
-            return divided(at.right, at.left, right - left, at.down);
-        }
+        return Range {
+            first: 0,
+            most: smaller(1, at.up),
+        };
     }
-    Range {
-        first: 0,
-        most: budget(at, left, right),
+    if !last {
+        return Range {
+            first: 0,
+            most: budget(at, left, right),
+        };
+    }
+    if right < left {
+        divided(at.left, at.right, left - right, at.up)
+    } else {
+        divided(at.right, at.left, right - left, at.down)
     }
 }

@@ -8,7 +8,7 @@ use Rattle.ac.specs.Lists.{Ascending}
 use Rattle.ac.specs.Keys.{Begin, start, after, remaining}
 use Rattle.ac.specs.Pages.{LeastFrom, NoneFrom}
 use Rattle.ac.proofs.Pages.{least-first, none-remains}
-use Rattle.numbers.specs.First.{First, NoneOf, here, later, end, also}
+use Rattle.numbers.specs.First.{here, later, end, also}
 use Rattle.numbers.specs.declared.Refusal.the-variants.{NoUnifier, NotListed, LastKey}
 use Rattle.solver.specs.Given.{ListGiven, none-admissible, not-listed, last-listed}
 use Rattle.solver.specs.Steps.{SettledOf, to-refuse, to-answer}

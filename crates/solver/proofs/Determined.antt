@@ -3,10 +3,8 @@ use Prim.Native.Nat.{ℕ}
 use mathlib.Core.Path.{_≡_, refl, ap}
 use mathlib.Core.List.{List}
 use Rattle.ac.specs.Pair.{Mode}
-use Rattle.ac.specs.Rows.{Groups}
-use Rattle.ac.specs.Keys.{layout, keys, Begin}
+use Rattle.ac.specs.Keys.{Begin}
 use Rattle.ac.proofs.Groups.{groups-unique}
-use Rattle.numbers.specs.Numbers.{numberOf}
 use Rattle.numbers.proofs.Laws.{numberOf-one-to-one, first-unique, first-not-none}
 use Rattle.solver.specs.Page.{PageOutcome, refused, told, PagePromise, is-refused, is-page}
 use Rattle.solver.specs.declared.PageAnswer.{PageAnswer}

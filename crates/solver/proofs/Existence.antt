@@ -1,21 +1,20 @@
 -- Demand 3 follows from Page's promise: 13 exactly where nothing unifies, all else only where something does.
-use Prim.Native.Nat.{ℕ, zero, suc, _+_, _<_, _≤_}
+use Prim.Native.Nat.{ℕ, zero, suc, _<_}
 use native.Mathlib.Omega.{arith}
 use mathlib.Core.Path.{_≡_, refl, sym, _∙_, ap, subst}
 use mathlib.Core.Bool.{Bool, true, false}
 use mathlib.Core.Logic.{_⊎_, inl, inr, ⊎-elim}
-use mathlib.Core.List.{List, [], _∷_, _++_, List·Memᴰ, List·Memᴰ·head, List·Memᴰ·tail, List·Memᴰ·not-nil}
+use mathlib.Core.List.{List, [], _∷_, List·Memᴰ, List·Memᴰ·head, List·Memᴰ·tail, List·Memᴰ·not-nil}
 use borrow.Author.Tests.{ltb-false}
-use lib.Dec.{ltb, lit≤}
-use lib.ListN.{length, getD, take, drop, List·getD-append}
+use lib.Dec.{lit≤}
+use lib.ListN.{length, getD, take, List·getD-append}
 use lib.Seq.{take-all}
 use Rattle.ac.specs.Pair.{Mode}
 use Rattle.ac.specs.Rows.{Groups, GroupsOf}
 use Rattle.ac.specs.Search.{groups}
 use Rattle.ac.specs.Selection.{Selection, value}
 use Rattle.ac.specs.Keys.{layout, keys, keyOf, Begin, start, remaining}
-use Rattle.ac.specs.Pages.{more}
-use Rattle.ac.specs.Pages.{page as pageOf}
+use Rattle.ac.specs.Pages.{more, page as pageOf}
 use Rattle.ac.specs.Replacement.{Replacement, Unifies, ComesFrom}
 use Rattle.ac.proofs.Groups.{groups-exist, groups-unique}
 use Rattle.ac.proofs.Keys.{taken-apart, candidate-selection}
@@ -25,8 +24,6 @@ use Rattle.ac.proofs.Theorems.{sound, complete}
 use Rattle.numbers.specs.First.{First, NoneOf, here, also, end}
 use Rattle.numbers.proofs.Laws.{first-unique, first-not-none}
 use Rattle.numbers.proofs.Carried.{none-carried, first-after, none-front, first-given, elsewhere, first-past}
-use Rattle.sides.specs.Limits.{limits}
-use Rattle.sides.specs.Given.{PairGiven}
 use Rattle.solver.specs.Request.{wantedCount}
 use Rattle.solver.specs.Given.{ListGiven, none-admissible, not-listed, last-listed, PageGiven, of-the-sides, of-the-list, pageNumbers}
 use Rattle.solver.specs.Page.{PageOutcome, refused, page, receives, PagePromise, is-refused, is-page}

@@ -2,8 +2,8 @@
 use Prim.Native.Nat.{ℕ, _<_, _≤_}
 use native.Mathlib.Omega.{arith}
 use native.Mathlib.Decide.{decLt}
-use mathlib.Core.Path.{_≡_, sym, ap}
-use mathlib.Core.List.{List, [], _∷_, map, List·Memᴰ}
+use mathlib.Core.Path.{ap}
+use mathlib.Core.List.{List, [], _∷_}
 use lib.ListN.{length, length-map}
 use Rattle.ac.specs.Pair.{Mode, IsSide, unbalanced}
 use Rattle.ac.specs.Rows.{Group, Groups, GroupsOf}

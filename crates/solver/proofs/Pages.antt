@@ -2,25 +2,23 @@
 use Prim.Native.Nat.{ℕ, _<_}
 use native.Mathlib.Omega.{arith}
 use mathlib.Core.Path.{_≡_, refl, sym, _∙_, ap, subst}
-use mathlib.Core.Bool.{Bool, false}
-use mathlib.Core.List.{List, [], _∷_, _++_, append-nil}
+use mathlib.Core.Bool.{Bool}
+use mathlib.Core.List.{List, [], _++_, append-nil}
 use borrow.Author.Tests.{ltb-false}
 use lib.ListN.{length, take, drop, take-append-drop}
 use lib.Seq.{take-all, take-append-seam}
 use Rattle.ac.specs.Lists.{Ascending}
 use Rattle.ac.specs.Pair.{Mode}
 use Rattle.ac.specs.Rows.{Groups, GroupsOf}
-use Rattle.ac.specs.Keys.{layout, keys, Begin, start, after, remaining}
-use Rattle.ac.specs.Pages.{together, WholeList}
-use Rattle.ac.specs.Pages.{page as pageOf, more as moreOf}
+use Rattle.ac.specs.Keys.{layout, keys, Begin, start, remaining}
+use Rattle.ac.specs.Pages.{together, WholeList, page as pageOf, more as moreOf}
 use Rattle.ac.proofs.Groups.{groups-exist, groups-unique}
 use Rattle.ac.proofs.Listed.{keys-ascending}
 use Rattle.ac.proofs.Pages.{remaining-after-page}
-use Rattle.numbers.specs.First.{First}
 use Rattle.numbers.proofs.Carried.{first-given}
 use Rattle.solver.specs.Request.{wantedCount}
-use Rattle.solver.specs.Given.{ListGiven, none-admissible, not-listed, last-listed, PageGiven, pageNumbers}
-use Rattle.solver.specs.Page.{PageOutcome, refused, page, PagePromise, is-refused, is-page}
+use Rattle.solver.specs.Given.{ListGiven, none-admissible, not-listed, last-listed}
+use Rattle.solver.specs.Page.{page, PagePromise, is-refused, is-page}
 use Rattle.solver.specs.Pages.{PagesAsked, one-more, no-more, was-last}
 use Rattle.solver.proofs.Given.{given-list}
 use Rattle.solver.proofs.Limits.{WithinLimits}

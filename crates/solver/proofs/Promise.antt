@@ -1,13 +1,10 @@
 -- Page's promise from its steps, of a table that is the pair's.
 use Prim.Native.Nat.{ℕ, _<_, _≤_}
-use mathlib.Core.Path.{_≡_, refl, sym, _∙_, ap, subst, subst₂}
-use mathlib.Core.Bool.{false}
+use mathlib.Core.Path.{_≡_, sym, subst, subst₂}
 use mathlib.Core.List.{List, [], _∷_}
-use lib.ListN.{length, take}
+use lib.ListN.{length}
 use Rattle.ac.specs.Pair.{Mode}
 use Rattle.ac.specs.Keys.{layout, keys, Begin, after, remaining}
-use Rattle.ac.specs.Pages.{more}
-use Rattle.ac.specs.Pages.{page as pageOf}
 use Rattle.numbers.specs.Numbers.{numberOf}
 use Rattle.numbers.specs.First.{First, NoneOf}
 use Rattle.numbers.specs.declared.Refusal.{Refusal}
@@ -17,7 +14,7 @@ use Rattle.table.specs.Table.{TableOf, groupsIn}
 use Rattle.table.specs.declared.Table.{Table}
 use Rattle.solver.specs.Request.{wantedCount}
 use Rattle.solver.specs.Given.{ListGiven}
-use Rattle.solver.specs.Page.{PageOutcome, refused, page, receives, PagePromise, is-refused, is-page}
+use Rattle.solver.specs.Page.{PageOutcome, refused, PagePromise, is-refused, is-page}
 use Rattle.solver.specs.Steps.{SettledOf, to-refuse, to-answer, WrittenOf}
 use Rattle.solver.specs.declared.Settled.{Settled}
 use Rattle.solver.specs.declared.Settled.the-variants.{FirstKey, Refused}

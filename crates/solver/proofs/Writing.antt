@@ -1,5 +1,5 @@
 -- Writing a page: the keys done so far, and what is left of those that remain.
-use Prim.Native.Nat.{ℕ, zero, suc, _+_, _-_, _^_, _<_, _≤_}
+use Prim.Native.Nat.{ℕ, suc, _+_, _^_, _<_, _≤_}
 use native.Mathlib.Omega.{arith}
 use native.Mathlib.Numerals.{add-one}
 use mathlib.Core.Path.{_≡_, refl, sym, _∙_, ap, subst}
@@ -9,11 +9,10 @@ use borrow.Author.Tests.{lt-ltb, le-ltb}
 use lib.Dec.{ltb}
 use lib.ListN.{length, getD, take, drop, set, length-append, length-drop}
 use lib.Seq.{drop-cons, drop-set-lt, set-at, take-all, take-at}
-use Rattle.ac.specs.Pair.{Mode}
 use Rattle.ac.specs.Keys.{layout, keys, after, remaining}
 use Rattle.ac.specs.Pages.{LeastFrom, NoneFrom}
 use Rattle.ac.proofs.Pages.{least-first, none-remains}
-use Rattle.table.specs.Table.{TableOf, groupsIn}
+use Rattle.table.specs.Table.{groupsIn}
 use Rattle.table.specs.declared.Table.{Table}
 use Rattle.keys.specs.List.{OfItsList}
 use Rattle.keys.proofs.Table.{table-ascending}

@@ -6,8 +6,7 @@ use lib.ListN.{length, drop}
 use Rattle.ac.specs.Pair.{Mode}
 use Rattle.ac.specs.Rows.{Groups, GroupsOf}
 use Rattle.ac.specs.Keys.{layout, keys, Begin}
-use Rattle.ac.specs.Pages.{more}
-use Rattle.ac.specs.Pages.{page as pageOf}
+use Rattle.ac.specs.Pages.{more, page as pageOf}
 use Rattle.numbers.specs.Numbers.{numberOf}
 use Rattle.numbers.specs.First.{First, NoneOf}
 use Rattle.solver.specs.Request.{wantedCount}

@@ -1,7 +1,6 @@
 -- A page request (document 01, "The questions"): where to begin, and how many keys are wanted.
 use Prim.Native.Nat.{ℕ, zero, suc}
-use Rattle.ac.specs.Keys.{start, after}
-use Rattle.ac.specs.Keys.{Begin as Beginning}
+use Rattle.ac.specs.Keys.{start, after, Begin as Beginning}
 use Rattle.solver.specs.declared.Begin.{Begin}
 use Rattle.solver.specs.declared.Begin.the-variants.{Start, After}
 

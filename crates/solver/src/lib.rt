@@ -1,4 +1,4 @@
-// The questions on two sides that the list answers (document 01, "The questions"): Page.
+// The questions on two sides that the list answers (document 01, "The questions"): Page and Values.
 ghost use mathlib.Core.Path.{_≡_};
 ghost use mathlib.Core.List.{_∷_, List·Memᴰ};
 ghost use Prim.Native.Nat.{ℕ, _<_, _≤_};
@@ -7,12 +7,20 @@ ghost use Rattle.ac.specs.Keys.{after, remaining};
 ghost use Rattle.table.specs.Table.{Within};
 ghost use Rattle.keys.specs.List.{OfItsList};
 ghost use Rattle.solver.specs.Request.{wantedCount, beginningOf};
-ghost use Rattle.solver.specs.Page.{told};
+ghost use Rattle.solver.specs.Page.{told, PagePromise};
+ghost use Rattle.solver.specs.Existence.{PageExistence};
+ghost use Rattle.values.specs.Values.{ValuesPromise};
+ghost use Rattle.values.specs.Values.{told as toldValues};
+ghost use Rattle.ac.specs.Pair.{unifying};
 ghost use Rattle.solver.specs.Steps.{SettledOf, WrittenOf, PromiseOfTable};
 use keys::Next;
 use keys::least_listed;
 use numbers::Refusal;
+use sides::Verdict;
 use table::Table;
+use values::ROOM;
+use values::ValuesAnswer;
+use values::values_of;
 
 // How many keys a page has if the request says 0.
 pub const DEFAULT_COUNT: usize = 200;
@@ -43,7 +51,7 @@ fn wanted_count(wanted: usize) -> usize
 }
 
 // The first key of a page, or why there is none.
-pub enum Settled {
+enum Settled {
     FirstKey(u32),
     Refused(Refusal),
 }
@@ -154,5 +162,40 @@ pub fn page_of(table: Table, request: PageRequest, out: &mut [u32]) -> PageAnswe
     match settled {
         Settled::FirstKey(first) => write_keys(table, first, wanted, out),
         Settled::Refused(refusal) => PageAnswer::Refused(refusal),
+    }
+}
+
+// The question Page: 16 first, then what solving the pair refuses, then the page of the solved pair.
+pub fn page(left: &[u8], right: &[u8], request: PageRequest, out: &mut [u32]) -> PageAnswer
+    ensures promise { λ r. ⌜ PagePromise unifying (now (left .entry)) (now (right .entry)) (beginningOf (request .begin)) (request .wanted) (now (out .entry))
+        (told r) (now (out .exit)) ⌝ }
+    ensures existence { λ r. ⌜ PageExistence unifying (now (left .entry)) (now (right .entry)) (beginningOf (request .begin)) (request .wanted)
+        (now (out .entry)) (told r) (now (out .exit)) ⌝ }
+{
+    if out.len() < wanted_count(request.wanted) {
+        return PageAnswer::Refused(Refusal::ShortBuffer);
+    }
+    let solved = solve::solve(left, right);
+    let verdict = solved.verdict;
+    let table = solved.table;
+    match verdict {
+        Verdict::Refused(refusal) => PageAnswer::Refused(refusal),
+        Verdict::Accepted => page_of(table, request, out),
+    }
+}
+
+// The question Values: 16 first, then what solving the pair refuses, then the values of the solved pair.
+pub fn values(left: &[u8], right: &[u8], key: u32, out: &mut [u8]) -> ValuesAnswer
+    ensures { λ r. ⌜ ValuesPromise unifying (now (left .entry)) (now (right .entry)) key (now (out .entry)) (toldValues r) (now (out .exit)) ⌝ }
+{
+    if out.len() < ROOM {
+        return ValuesAnswer::Refused(Refusal::ShortBuffer);
+    }
+    let solved = solve::solve(left, right);
+    let verdict = solved.verdict;
+    let table = solved.table;
+    match verdict {
+        Verdict::Refused(refusal) => ValuesAnswer::Refused(refusal),
+        Verdict::Accepted => values_of(table, key, out),
     }
 }

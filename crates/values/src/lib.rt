@@ -30,7 +30,7 @@ pub const LONGEST: usize = 200;
 pub const NEW: u8 = 192;
 
 // The buffer has to have room for 6 variables, each with its byte, its count and 200 atoms.
-const ROOM: usize = 1212;
+pub const ROOM: usize = 1212;
 
 // The length written, or why there is nothing.
 pub enum ValuesAnswer {

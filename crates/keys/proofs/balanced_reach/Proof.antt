@@ -1,18 +1,14 @@
-use mathlib.Core.Logic.{⊎-elim}
+-- `keys::balanced_reach` meets its contract. The invariant: no balanced row before i is taken and reaches the place.
 use Prim.Native.Nat.{ℕ, _≤_, _-_}
 use native.Mathlib.Omega.{arith}
+use mathlib.Core.Logic.{⊎-elim}
 use mathlib.Core.Path.{_≡_, refl, sym, subst, _∙_, ap₂}
 use mathlib.Core.Bool.{false, _&&_}
-use lib.Dec.{ltb}
-use lib.ListN.{getD}
 use Rattle.ac.specs.Keys.{bit}
 use Rattle.keys.specs.Reach.{any, balancedReaches}
 use Rattle.keys.proofs.Any.{any-found, any-more, and-left-false, and-right-false}
 use Rattle.keys.proofs.balanced_reach.Statement.{statement}
 use Rattle.keys.proofs.balanced_reach.Tie as tie
-use Rattle.keys.proofs.balanced_reach.Reads as reads
-use Rattle.keys.proofs.balanced_reach.Lts as lts
-use Rattle.keys.proofs.takes.Reads as takes-reads
 
 abbrev Inv-loop : tie.InvT-loop
 Inv-loop rows balanced key place i₀ i = (i ≤ balanced) × (any i (balancedReaches rows key place) ≡ false)

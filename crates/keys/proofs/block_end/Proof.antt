@@ -1,12 +1,11 @@
+-- `keys::block_end` meets its contract: the end of a block is at most 2 ^ 32, so nothing is lost in the shift.
 use native.Mathlib.Omega.{arith}
 use native.Mathlib.Nat.{mod-eq-of-lt}
+use borrow.Author.Needs.{needs}
 use lib.Pow.{shr-le}
 use Rattle.keys.proofs.Candidates.{block-end-within}
-use borrow.Author.Needs.{needs}
 use Rattle.keys.proofs.block_end.Statement.{statement}
 use Rattle.keys.proofs.block_end.Tie as tie
-use Rattle.keys.proofs.block_end.Reads as reads
-use Rattle.keys.proofs.block_end.Lts as lts
 
 shr-result : tie.Need-shr-result
 shr-result c = search needs

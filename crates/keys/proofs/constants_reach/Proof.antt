@@ -1,17 +1,13 @@
-use borrow.Author.Tests.{lt-ltb, le-ltb}
+-- `keys::constants_reach` meets its contract. The invariant: no constant before g reaches the place.
 use Prim.Native.Nat.{ℕ, _≤_, _-_}
 use native.Mathlib.Omega.{arith}
 use mathlib.Core.Path.{_≡_, refl, sym, subst}
 use mathlib.Core.Bool.{false}
-use lib.Dec.{ltb}
-use lib.ListN.{getD}
+use borrow.Author.Tests.{lt-ltb, le-ltb}
 use Rattle.keys.specs.Reach.{any, constantReaches}
 use Rattle.keys.proofs.Any.{any-found, any-more}
 use Rattle.keys.proofs.constants_reach.Statement.{statement}
 use Rattle.keys.proofs.constants_reach.Tie as tie
-use Rattle.keys.proofs.constants_reach.Reads as reads
-use Rattle.keys.proofs.constants_reach.Lts as lts
-use Rattle.keys.proofs.index_at.Reads as index-at-reads
 
 abbrev Inv-loop : tie.InvT-loop
 Inv-loop rows unbalanced key place g₀ g = (g ≤ unbalanced) × (any g (constantReaches rows key place) ≡ false)

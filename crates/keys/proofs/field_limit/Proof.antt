@@ -1,10 +1,9 @@
+-- `keys::field_limit` meets its contract: one branch for each case of the limit.
 use mathlib.Core.Path.{sym}
-use Rattle.keys.proofs.Candidates.{limit-used, limit-unused}
 use borrow.Author.Needs.{needs}
+use Rattle.keys.proofs.Candidates.{limit-used, limit-unused}
 use Rattle.keys.proofs.field_limit.Statement.{statement}
 use Rattle.keys.proofs.field_limit.Tie as tie
-use Rattle.keys.proofs.field_limit.Reads as reads
-use Rattle.keys.proofs.field_limit.Lts as lts
 
 add-result : tie.Need-add-result
 add-result c = search needs

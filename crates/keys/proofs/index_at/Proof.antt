@@ -1,13 +1,12 @@
+-- `keys::index_at` meets its contract: the shift and the mask are the field.
 use Prim.Native.Nat.{_+_, _-_, _*_, _/_, _%_, _^_}
 use native.Mathlib.Omega.{arith}
 use native.Mathlib.Numerals.{add-one}
 use mathlib.Core.Path.{ap, _∙_}
-use Rattle.keys.proofs.Bits.{field-at, field-below}
 use borrow.Author.Needs.{needs}
+use Rattle.keys.proofs.Bits.{field-at, field-below}
 use Rattle.keys.proofs.index_at.Statement.{statement}
 use Rattle.keys.proofs.index_at.Tie as tie
-use Rattle.keys.proofs.index_at.Reads as reads
-use Rattle.keys.proofs.index_at.Lts as lts
 
 add-result : tie.Need-add-result
 add-result c = search needs

@@ -1,16 +1,14 @@
+-- `keys::least_listed` meets its contract. The invariant: no listed key stands from `from` to before the number that the walk has come to.
+-- The measure is what is left of the keys.
 use Prim.Native.Nat.{_-_, _^_}
 use native.Mathlib.Omega.{arith}
 use native.Mathlib.Nat.{le-refl}
 use mathlib.Core.Path.{sym, _∙_}
-use lib.ListN.{length-map}
 use borrow.Author.Needs.{needs}
+use lib.ListN.{length-map}
 use Rattle.keys.proofs.Walk.{Walked, passed-none, step-between, step-weighed, step-found, step-end}
 use Rattle.keys.proofs.least_listed.Statement.{statement}
 use Rattle.keys.proofs.least_listed.Tie as tie
-use Rattle.keys.proofs.least_listed.Reads as reads
-use Rattle.keys.proofs.least_listed.Lts as lts
-use Rattle.keys.proofs.stands.Reads as stands-reads
-use Rattle.keys.proofs.weigh.Reads as weigh-reads
 
 abbrev Inv-loop : tie.InvT-loop
 Inv-loop from table balanced at₀ at = Walked table from at

@@ -1,12 +1,9 @@
+-- `keys::reached` meets its contract: a constant's row reaches the place, or else a balanced row decides.
+use borrow.Author.Needs.{needs}
 use Rattle.keys.specs.Reach.{any, balancedReaches}
 use Rattle.keys.proofs.Any.{or-left, or-right}
-use borrow.Author.Needs.{needs}
 use Rattle.keys.proofs.reached.Statement.{statement}
 use Rattle.keys.proofs.reached.Tie as tie
-use Rattle.keys.proofs.reached.Reads as reads
-use Rattle.keys.proofs.reached.Lts as lts
-use Rattle.keys.proofs.balanced_reach.Reads as balanced-reach-reads
-use Rattle.keys.proofs.constants_reach.Reads as constants-reach-reads
 
 constants-reach-requires : tie.Need-constants-reach-requires
 constants-reach-requires c κs = search needs

@@ -1,19 +1,15 @@
-use borrow.Author.Needs.{needs}
-use borrow.Author.Count.{below-more}
+-- `keys::stands` meets its contract. The invariant: the fields before this one are below their limits.
 use Prim.Native.Nat.{ℕ, _≤_, _<_, _-_}
 use native.Mathlib.Omega.{arith}
+use borrow.Author.Needs.{needs}
+use borrow.Author.Count.{below-more}
 use lib.ListN.{getD}
 use Rattle.ac.specs.Keys.{layout, fieldAt}
 use Rattle.keys.specs.Candidates.{fieldLimit, between, on-candidate}
-use Rattle.keys.proofs.Candidates.{fieldEnd, below-block-end, block-end-within, field-beyond, mask-beyond, limits-candidate}
+use Rattle.keys.proofs.Candidates.{fieldEnd, below-block-end, field-beyond, mask-beyond, limits-candidate}
 use Rattle.keys.proofs.Bits.{nothing-beyond, something-beyond}
 use Rattle.keys.proofs.stands.Statement.{statement}
 use Rattle.keys.proofs.stands.Tie as tie
-use Rattle.keys.proofs.stands.Reads as reads
-use Rattle.keys.proofs.stands.Lts as lts
-use Rattle.keys.proofs.block_end.Reads as block-end-reads
-use Rattle.keys.proofs.field_limit.Reads as field-limit-reads
-use Rattle.keys.proofs.index_at.Reads as index-at-reads
 
 abbrev Inv-loop : tie.InvT-loop
 Inv-loop sizes unbalanced key g₀ g = (g ≤ 4) × ((h : ℕ) → h < g → fieldAt layout key h < fieldLimit sizes unbalanced h)
@@ -47,9 +43,7 @@ returns c = λ G sized fits.
     let at = c .before .before .before .before .before .before .args in
     let g = c .before .before .before .before .before .loop .g in
     rw (c .block-end .ensures)
-    (between (below-block-end (at .key) (fieldEnd g))
-    (block-end-within (at .key) (fieldEnd g) (c .before .before .before .before .before .before .fits .key .fits) (omega arith))
-    (field-beyond sized fits g (omega arith) (omega arith)))
+    (between (below-block-end (at .key) (fieldEnd g)) (field-beyond sized fits g (omega arith) (omega arith)))
 
 add-g : tie.Need-add-g Inv-loop μ-loop
 add-g c = omega arith
@@ -76,7 +70,7 @@ returns-2 : tie.Need-returns-2 Inv-loop μ-loop
 returns-2 c = λ G sized fits.
     let at = c .before .before .before .before .before .args in
     rw (c .block-end2 .ensures)
-    (between (below-block-end (at .key) 16) (block-end-within (at .key) 16 (c .before .before .before .before .before .fits .key .fits) (omega arith))
+    (between (below-block-end (at .key) 16)
     (mask-beyond sized fits (something-beyond (at .key) 16 (getD (at .sizes .now) 0 0) (c .before .if2 .taken))))
 
 returns-3 : tie.Need-returns-3 Inv-loop μ-loop

@@ -1,11 +1,10 @@
-use lib.Dec.{eqb}
+-- `keys::takes` meets its contract: the shift and the mask are the bit.
 use mathlib.Core.Path.{ap}
-use Rattle.keys.proofs.Bits.{field-at}
 use borrow.Author.Needs.{needs}
+use lib.Dec.{eqb}
+use Rattle.keys.proofs.Bits.{field-at}
 use Rattle.keys.proofs.takes.Statement.{statement}
 use Rattle.keys.proofs.takes.Tie as tie
-use Rattle.keys.proofs.takes.Reads as reads
-use Rattle.keys.proofs.takes.Lts as lts
 
 cast-result : tie.Need-cast-result
 cast-result c = search needs

@@ -1,3 +1,4 @@
+-- `keys::weigh` meets its contract. The invariant: every place before this one is reached.
 use Prim.Native.Nat.{_≤_, _-_}
 use native.Mathlib.Omega.{arith}
 use native.Mathlib.Nat.{le-refl}
@@ -9,9 +10,6 @@ use Rattle.keys.proofs.Any.{all-more, all-missed}
 use Rattle.keys.proofs.Reach.{places-reached}
 use Rattle.keys.proofs.weigh.Statement.{statement}
 use Rattle.keys.proofs.weigh.Tie as tie
-use Rattle.keys.proofs.weigh.Reads as reads
-use Rattle.keys.proofs.weigh.Lts as lts
-use Rattle.keys.proofs.reached.Reads as reached-reads
 
 abbrev Inv-loop : tie.InvT-loop
 Inv-loop rows places unbalanced balanced key place₀ place = (place ≤ places) × (all place (reaches rows unbalanced balanced key) ≡ true)

@@ -1,13 +1,9 @@
+-- `solver::page_of` meets its contract: 16 first, then what is settled, then what is written.
+use borrow.Author.Needs.{needs}
 use Rattle.solver.proofs.Request.{wanted-some}
 use Rattle.solver.proofs.Promise.{promise-short, promise-refused, promise-page}
-use borrow.Author.Needs.{needs}
 use Rattle.solver.proofs.page_of.Statement.{statement}
 use Rattle.solver.proofs.page_of.Tie as tie
-use Rattle.solver.proofs.page_of.Reads as reads
-use Rattle.solver.proofs.page_of.Lts as lts
-use Rattle.solver.proofs.settle.Reads as settle-reads
-use Rattle.solver.proofs.wanted_count.Reads as wanted-count-reads
-use Rattle.solver.proofs.write_keys.Reads as write-keys-reads
 
 wanted-count-requires : tie.Need-wanted-count-requires
 wanted-count-requires c κs = search needs

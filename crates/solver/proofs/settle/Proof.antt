@@ -1,13 +1,10 @@
+-- `solver::settle` meets its contract: at the start the least key of the list, else what stands after the key.
+use borrow.Author.Needs.{needs}
 use Rattle.keys.proofs.Table.{table-ascending}
 use Rattle.keys.proofs.Walk.{next-key, next-none}
 use Rattle.solver.proofs.Beginning.{settled-start, settled-empty}
-use borrow.Author.Needs.{needs}
 use Rattle.solver.proofs.settle.Statement.{statement}
 use Rattle.solver.proofs.settle.Tie as tie
-use Rattle.solver.proofs.settle.Reads as reads
-use Rattle.solver.proofs.settle.Lts as lts
-use Rattle.keys.proofs.least_listed.Reads as least-listed-reads
-use Rattle.solver.proofs.settle_after.Reads as settle-after-reads
 
 enum-told : tie.Need-enum-told
 enum-told c = search needs

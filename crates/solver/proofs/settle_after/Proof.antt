@@ -1,14 +1,10 @@
+-- `solver::settle_after` meets its contract: the least key from it on is the key itself, another, or none.
+use borrow.Author.Needs.{needs}
 use Rattle.keys.proofs.Table.{table-ascending}
 use Rattle.keys.proofs.Walk.{next-key, next-none}
 use Rattle.solver.proofs.Beginning.{settled-unlisted, least-itself, least-unlisted, none-unlisted}
-use borrow.Author.Needs.{needs}
 use Rattle.solver.proofs.settle_after.Statement.{statement}
 use Rattle.solver.proofs.settle_after.Tie as tie
-use Rattle.solver.proofs.settle_after.Reads as reads
-use Rattle.solver.proofs.settle_after.Lts as lts
-use Rattle.keys.proofs.least_listed.Reads as least-listed-reads
-use Rattle.solver.proofs.settle_listed.Reads as settle-listed-reads
-use Rattle.solver.proofs.settle_unlisted.Reads as settle-unlisted-reads
 
 least-listed-requires : tie.Need-least-listed-requires
 least-listed-requires c κs = search needs

@@ -1,12 +1,10 @@
+-- `solver::settle_listed` meets its contract: the least key above a listed one is the next; if there is none, it is the last.
+use borrow.Author.Needs.{needs}
 use Rattle.keys.proofs.Table.{table-ascending}
 use Rattle.keys.proofs.Walk.{next-key, next-none}
 use Rattle.solver.proofs.Beginning.{settled-next, settled-last}
-use borrow.Author.Needs.{needs}
 use Rattle.solver.proofs.settle_listed.Statement.{statement}
 use Rattle.solver.proofs.settle_listed.Tie as tie
-use Rattle.solver.proofs.settle_listed.Reads as reads
-use Rattle.solver.proofs.settle_listed.Lts as lts
-use Rattle.keys.proofs.least_listed.Reads as least-listed-reads
 
 add-least-listed : tie.Need-add-least-listed
 add-least-listed c = search needs

@@ -1,13 +1,11 @@
+-- `solver::settle_unlisted` meets its contract: the list has a first key, or is empty.
+use borrow.Author.Needs.{needs}
+use Rattle.ac.specs.Keys.{after}
 use Rattle.keys.proofs.Table.{table-ascending}
 use Rattle.keys.proofs.Walk.{next-key, next-none}
-use Rattle.ac.specs.Keys.{after}
 use Rattle.solver.proofs.Beginning.{settled-empty, settled-unlisted}
-use borrow.Author.Needs.{needs}
 use Rattle.solver.proofs.settle_unlisted.Statement.{statement}
 use Rattle.solver.proofs.settle_unlisted.Tie as tie
-use Rattle.solver.proofs.settle_unlisted.Reads as reads
-use Rattle.solver.proofs.settle_unlisted.Lts as lts
-use Rattle.keys.proofs.least_listed.Reads as least-listed-reads
 
 least-listed-requires : tie.Need-least-listed-requires
 least-listed-requires c κs = search needs

@@ -1,9 +1,8 @@
-use Rattle.solver.proofs.Request.{wanted-itself}
+-- `solver::wanted_count` meets its contract: 0 means 200, any other count itself.
 use borrow.Author.Needs.{needs}
+use Rattle.solver.proofs.Request.{wanted-itself}
 use Rattle.solver.proofs.wanted_count.Statement.{statement}
 use Rattle.solver.proofs.wanted_count.Tie as tie
-use Rattle.solver.proofs.wanted_count.Reads as reads
-use Rattle.solver.proofs.wanted_count.Lts as lts
 
 returns : tie.Need-returns
 returns c = search needs

@@ -1,15 +1,14 @@
-use mathlib.Core.Path.{_∙_}
-use lib.ListN.{length-set}
-use Rattle.keys.proofs.Walk.{next-key, next-none}
+-- `solver::write_keys` meets its contract. The invariant: the keys up to the last one written stand in front, and what remains after it is left.
+-- The measure is how many are still wanted.
 use Prim.Native.Nat.{_-_}
 use native.Mathlib.Omega.{arith}
+use mathlib.Core.Path.{_∙_}
 use borrow.Author.Needs.{needs}
+use lib.ListN.{length-set}
+use Rattle.keys.proofs.Walk.{next-key, next-none}
 use Rattle.solver.proofs.Writing.{Writing, writing-first, writing-length, writing-next, written-all, written-more}
 use Rattle.solver.proofs.write_keys.Statement.{statement}
 use Rattle.solver.proofs.write_keys.Tie as tie
-use Rattle.solver.proofs.write_keys.Reads as reads
-use Rattle.solver.proofs.write_keys.Lts as lts
-use Rattle.keys.proofs.least_listed.Reads as least-listed-reads
 
 abbrev Inv-loop : tie.InvT-loop
 Inv-loop table first wanted out₀ last₀ written₀ out last written = Writing table first last written wanted out₀ out

@@ -1,0 +1,108 @@
+-- The groups of a pair put at their places one after the other, and the table that then is that of the pair.
+use Prim.Native.Nat.{ℕ, zero, suc, _+_, _≤_, _<_}
+use native.Mathlib.Omega.{arith}
+use native.Mathlib.Decide.{decLt, ℕ-discrete}
+use mathlib.Core.Path.{_≡_, refl, sym, ap, ap₂, subst, _∙_}
+use mathlib.Core.Bool.{Bool, true, false, false≢true}
+use mathlib.Core.List.{List, [], _∷_, map, List·Memᴰ}
+use lib.ListN.{length, getD, take, set}
+use lib.Seq.{getD-set-same, getD-set-other}
+use Rattle.ac.specs.Pair.{Mode, variables, unbalanced}
+use Rattle.ac.specs.Rows.{Exactly, Group, Groups, GroupsOf, RowOf}
+use Rattle.sides.specs.Limits.{limits}
+use Rattle.sides.specs.Parted.{PairOf}
+use Rattle.sides.specs.declared.Pair.{Pair}
+use Rattle.table.specs.Table.{groupAt, groupsIn, Within, TableOf}
+use Rattle.table.specs.declared.Table.{Table}
+use Rattle.table.proofs.Groups.{constants-groupsFrom, groupsFrom-stands, Stands}
+use Rattle.rows.specs.Flat.{rowsOf}
+use Rattle.solve.specs.Spread.{groupIn, Spreads}
+use Rattle.solve.specs.Steps.{RowIn, More, FoundOf, GroupsUpto, GroupsFound, Roomy}
+use Rattle.solve.proofs.Finding.{take-padded}
+use Rattle.solve.proofs.Counting.{twelve-given}
+
+pub groups-none : {Row : ℕ → List ℕ → Type 0} {places : ℕ} {rows sizes : List ℕ} → ((g : ℕ) → getD sizes g 0 ≡ 0) → GroupsUpto 16 Row places rows sizes 0
+groups-none empty = record { sizes-fit = λ g. omega (arith, empty g); the-rows = λ g h. absurd (omega arith) }
+
+-- one group more
+pub groups-next : {Row : ℕ → List ℕ → Type 0} {places count group : ℕ} {bytes before after sizes : List ℕ} → group < length sizes → count ≤ 16
+    → FoundOf 16 (Row group) places bytes count → Spreads places group count bytes before after → GroupsUpto 16 Row places before sizes group
+    → GroupsUpto 16 Row places after (set sizes group count) (group + 1)
+groups-next {Row} {places} {count} {group} {bytes} {before} {after} {sizes} there few found spread known =
+    record { sizes-fit = λ g. fits g (ℕ-discrete g group); the-rows = λ g h. exact g h (ℕ-discrete g group) }
+  where
+    its-size : (g : ℕ) → g ≡ group → getD (set sizes group count) g 0 ≡ count
+    its-size g e = ap (λ k. getD (set sizes group count) k 0) e ∙ getD-set-same sizes group count 0 there
+
+    other-size : (g : ℕ) → (g ≡ group → ⊥) → getD (set sizes group count) g 0 ≡ getD sizes g 0
+    other-size g differs = getD-set-other sizes group g count 0 differs
+
+    fits : (g : ℕ) → Dec (g ≡ group) → getD (set sizes group count) g 0 ≤ 16
+    fits g (yes e) = omega (arith, its-size g e)
+    fits g (no differs) = omega (arith, other-size g differs, known .sizes-fit g)
+
+    exact : (g : ℕ) → g < group + 1 → Dec (g ≡ group) → Exactly (Row g) (groupIn places after g (getD (set sizes group count) g 0))
+    exact g h (yes e) =
+        subst (λ k. Exactly (Row k) (groupIn places after k (getD (set sizes group count) k 0))) (sym e)
+        (subst (λ n. Exactly (Row group) (groupIn places after group n)) (sym (its-size group refl))
+        (subst (Exactly (Row group)) (sym (spread .stored)) (found .few few)))
+    exact g h (no differs) =
+        subst (Exactly (Row g)) (sym (ap (groupIn places after g) (other-size g differs) ∙ spread .others g (getD sizes g 0) differs (known .sizes-fit g)))
+        (known .the-rows g (omega (arith, differs)))
+
+-- a group with too many rows, and all groups put
+module _ {M : Mode} {L R : List ℕ} {places : ℕ} {rows sizes : List ℕ} where
+  pub put-too-many : {g : ℕ} → g ≤ length (unbalanced M L R) → More 16 (RowIn M L R g) → GroupsFound limits M L R places rows sizes false
+  put-too-many {g} within more = record { if-true = λ e. absurd (false≢true e); if-false = λ e. twelve-given g within more }
+
+  pub put-all : {upto : ℕ} → upto ≡ suc (length (unbalanced M L R)) → GroupsUpto 16 (RowIn M L R) places rows sizes upto
+      → GroupsFound limits M L R places rows sizes true
+  put-all all known = record { if-true = λ e. subst (GroupsUpto 16 (RowIn M L R) places rows sizes) all known; if-false = λ e. absurd (false≢true (sym e)) }
+
+-- what is known before the turn of a group
+pub record PutUpto (pair : Pair) (rows sizes : List ℕ) (group : ℕ) : Type 0 where
+  pub rows-size : length rows ≡ 480
+  pub sizes-size : length sizes ≡ 5
+  pub groups : (M : Mode) (L R : List ℕ) → PairOf limits M L R pair → GroupsUpto 16 (RowIn M L R) (pair .variables .count) rows sizes group
+
+-- The table that holds the pair's atoms beside all its groups is that of the pair.
+module _ {M : Mode} {L R : List ℕ} {pair : Pair} (of : PairOf limits M L R pair) (roomy : Roomy pair) {rows sizes : List ℕ}
+    (known : GroupsUpto 16 (RowIn M L R) (pair .variables .count) rows sizes (suc (length (unbalanced M L R)))) where
+  abbrev tableWith : Table
+  tableWith =
+      record {
+        variables = pair .variables .atoms;
+        places = pair .variables .count;
+        constants = pair .constants .atoms;
+        unbalanced = pair .constants .count;
+        rows = rows;
+        sizes = sizes;
+      }
+
+  the-constants : take (pair .constants .count) (pair .constants .atoms) ≡ unbalanced M L R
+  the-constants =
+      ap (take (pair .constants .count)) (of .the-constants .the-atoms) ∙ take-padded 4 (unbalanced M L R) (of .the-constants .how-many)
+
+  rows-of-constant : (h : Group) → List·Memᴰ h (groupsIn tableWith .constants) → Exactly (RowOf M L R (h .constant)) (h .rows)
+  rows-of-constant h member =
+      subst (λ c. Exactly (RowOf M L R c) (h .rows)) (sym (s .its-constant ∙ ap (λ cs. getD cs (s .place) 0) the-constants))
+      (subst (Exactly (RowIn M L R (suc (s .place)))) (sym (s .its-rows ∙ ap (groupAt tableWith) (let e : 1 + s .place ≡ suc (s .place) = omega arith in e)))
+      (known .the-rows (suc (s .place)) (omega (arith, s .within, ap length the-constants))))
+    where
+      s : Stands tableWith 1 (take (pair .constants .count) (pair .constants .atoms)) h
+      s = groupsFrom-stands tableWith 1 (take (pair .constants .count) (pair .constants .atoms)) member
+
+  pub table-of : TableOf M L R tableWith
+  table-of =
+      record {
+        within = record { places-fit = roomy .variables-fit; constants-fit = roomy .constants-fit; sizes-fit = known .sizes-fit };
+        the-variables =
+            ap (take (pair .variables .count)) (of .the-variables .the-atoms) ∙ take-padded 6 (variables M L R) (of .the-variables .how-many);
+        the-places = of .the-variables .how-many;
+        the-groups =
+            record {
+              balanced-rows = known .the-rows 0 (omega arith);
+              the-constants = constants-groupsFrom tableWith 1 (take (pair .constants .count) (pair .constants .atoms)) ∙ the-constants;
+              constant-rows = rows-of-constant;
+            };
+      }

@@ -1,0 +1,116 @@
+-- What is found by the net parts of a pair's atoms are the rows of its groups.
+use Prim.Native.Nat.{ℕ, zero, suc, _+_, _-_, _≤_, _<_}
+use native.Mathlib.Omega.{arith}
+use mathlib.Core.Path.{_≡_, refl, sym, ap, ap₂, subst, _∙_}
+use mathlib.Core.Logic.{_↔_, Iff·trans, Iff·symm}
+use mathlib.Core.Bool.{Bool, true, false}
+use mathlib.Core.List.{List, [], _∷_, _++_, map}
+use lib.ListN.{length, getD, take, replicate, length-map, List·getD-append}
+use lib.Seq.{take-at}
+use Rattle.ac.specs.Pair.{Mode, count, variables, unbalanced}
+use Rattle.ac.specs.Rows.{Exactly, BalancedRow, RowOf}
+use Rattle.ac.specs.Equation.{Equation, Minimal, balancedEquation, equationOf}
+use Rattle.ac.specs.Search.{beyond, netted}
+use Rattle.ac.proofs.Vectors.{exactly-same}
+use Rattle.ac.proofs.Bridge.{balanced-row-is-minimal, row-of-constant-is-minimal}
+use Rattle.ac.proofs.Nets.{netted-minimal, length-beyond}
+use Rattle.sides.specs.Limits.{Limits, limits}
+use Rattle.sides.specs.Parted.{padded, excess, PairOf}
+use Rattle.sides.specs.declared.Pair.{Pair}
+use Rattle.rows.specs.Flat.{rowsOf}
+use Rattle.rows.specs.Found.{equation, Finds, Finds.few, Finds.more}
+use Rattle.solve.specs.Steps.{RowIn, More, FoundOf}
+
+-- what stands at a place of a list that is padded, or made of another
+pub take-padded : (size : ℕ) (xs : List ℕ) {n : ℕ} → n ≡ length xs → take n (padded size xs) ≡ xs
+take-padded size xs {n} e = take-at xs (replicate (size - length xs) 0) n (sym e)
+
+getD-map : (f : ℕ → ℕ) (xs : List ℕ) (i : ℕ) → i < length xs → getD (map f xs) i 0 ≡ f (getD xs i 0)
+getD-map f [] i h = absurd (omega arith)
+getD-map f (x ∷ xs) zero h = refl
+getD-map f (x ∷ xs) (suc i) h = getD-map f xs i (omega arith)
+
+getD-padded : (size : ℕ) (f : ℕ → ℕ) (xs : List ℕ) (i : ℕ) → i < length xs → getD (padded size (map f xs)) i 0 ≡ f (getD xs i 0)
+getD-padded size f xs i h =
+    List·getD-append (map f xs) (replicate (size - length (map f xs)) 0) 0 i (let l : i < length (map f xs) = omega (arith, length-map xs f) in l)
+    ∙ getD-map f xs i h
+
+-- the net parts of a list's atoms, by place
+beyond-map : (f g : ℕ → ℕ) (xs : List ℕ) → beyond (map f xs) (map g xs) ≡ map (λ x. f x - g x) xs
+beyond-map f g [] = refl
+beyond-map f g (x ∷ xs) = ap (λ l. (f x - g x) ∷ l) (beyond-map f g xs)
+
+-- what is found of an equation's minimal solutions is found of the rows that they are
+found-as : {limit n : ℕ} {E : Equation} {Row : List ℕ → Type 0} {bytes : List ℕ} {places : ℕ} → ((v : List ℕ) → Minimal E v ↔ Row v)
+    → length (E .left) ≡ places → Finds limit E bytes n → FoundOf limit Row places bytes n
+found-as {n = n} {Row = Row} {bytes = bytes} same size (few within exact) =
+    record {
+      few = λ h. subst (λ k. Exactly Row (rowsOf k n bytes)) size (exactly-same same exact);
+      more = λ above. absurd (omega arith);
+    }
+found-as same size (more {rows} exact above) =
+    record { few = λ h. absurd (omega arith); more = λ h. record { rows = rows; exactly = exactly-same same exact; above = above } }
+
+module _ {M : Mode} {L R : List ℕ} {pair : Pair} (of : PairOf limits M L R pair) where
+  abbrev occurrencesOf : List ℕ → List ℕ
+  occurrencesOf side = map (λ x. count x side) (variables M L R)
+
+  -- an equation of the pair's variables, and one of their net parts
+  abbrev whole : ℕ → ℕ → Bool → Equation
+  whole = equation (occurrencesOf L) (occurrencesOf R)
+
+  abbrev parts : ℕ → ℕ → Bool → Equation
+  parts = equation (take (pair .variables .count) (pair .variables .left)) (take (pair .variables .count) (pair .variables .right))
+
+  -- the coefficients of the variables are their net parts
+  net-parts : (side other held : List ℕ) → held ≡ padded 6 (map (excess side other) (variables M L R))
+      → take (pair .variables .count) held ≡ beyond (occurrencesOf side) (occurrencesOf other)
+  net-parts side other held e =
+      ap (take (pair .variables .count)) e
+      ∙ take-padded 6 (map (excess side other) (variables M L R)) (of .the-variables .how-many ∙ sym (length-map (variables M L R) (excess side other)))
+      ∙ sym (beyond-map (λ x. count x side) (λ x. count x other) (variables M L R))
+
+  -- an equation with them, and with the net parts of two offsets, finds the rows that are its minimal solutions
+  found-rows : {left-offset right-offset n : ℕ} {homogeneous : Bool} {bytes : List ℕ} {Row : List ℕ → Type 0}
+      → ((v : List ℕ) → Row v ↔ Minimal (whole left-offset right-offset homogeneous) v)
+      → Finds 16 (parts (left-offset - right-offset) (right-offset - left-offset) homogeneous) bytes n
+      → FoundOf 16 Row (pair .variables .count) bytes n
+  found-rows {left-offset} {right-offset} {n} {homogeneous} {bytes} rows found =
+      found-as (λ v. Iff·trans (netted-minimal (whole left-offset right-offset homogeneous) v) (Iff·symm (rows v))) size
+      (subst (λ E. Finds 16 E bytes n) netted-parts found)
+    where
+      size : length (beyond (occurrencesOf L) (occurrencesOf R)) ≡ pair .variables .count
+      size = length-beyond (occurrencesOf L) (occurrencesOf R) ∙ length-map (variables M L R) (λ x. count x L) ∙ sym (of .the-variables .how-many)
+
+      netted-parts : parts (left-offset - right-offset) (right-offset - left-offset) homogeneous ≡ netted (whole left-offset right-offset homogeneous)
+      netted-parts i =
+          record {
+            left = net-parts L R (pair .variables .left) (of .the-variables .left-parts) i;
+            right = net-parts R L (pair .variables .right) (of .the-variables .right-parts) i;
+            left-offset = left-offset - right-offset;
+            right-offset = right-offset - left-offset;
+            homogeneous = homogeneous;
+          }
+
+  pub found-balanced : {n : ℕ} {bytes : List ℕ}
+      → Finds 16 (parts 0 0 true) bytes n
+      → FoundOf 16 (RowIn M L R 0) (pair .variables .count) bytes n
+  found-balanced = found-rows (balanced-row-is-minimal M L R)
+
+  pub found-constant : {g n : ℕ} {bytes : List ℕ} → g < pair .constants .count
+      → Finds 16 (parts (getD (pair .constants .left) g 0) (getD (pair .constants .right) g 0) false) bytes n
+      → FoundOf 16 (RowIn M L R (suc g)) (pair .variables .count) bytes n
+  found-constant {g} {n} {bytes} within found =
+      found-rows (row-of-constant-is-minimal M L R constant)
+      (subst (λ o. Finds 16 (parts (o .0) (o .1) false) bytes n) offsets found)
+    where
+      constant : ℕ
+      constant = getD (unbalanced M L R) g 0
+
+      there : g < length (unbalanced M L R)
+      there = omega (arith, within, of .the-constants .how-many)
+
+      offsets : _≡_ {A = ℕ × ℕ} (getD (pair .constants .left) g 0, getD (pair .constants .right) g 0) (excess L R constant, excess R L constant)
+      offsets =
+          ap₂ (λ l r. (getD l g 0, getD r g 0)) (of .the-constants .left-parts) (of .the-constants .right-parts)
+          ∙ ap₂ (λ l r. (l, r)) (getD-padded 4 (excess L R) (unbalanced M L R) g there) (getD-padded 4 (excess R L) (unbalanced M L R) g there)

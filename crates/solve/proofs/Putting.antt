@@ -1,0 +1,128 @@
+-- The rows of a table put into a buffer one after the other.
+use Prim.Native.Nat.{ℕ, zero, suc, _+_, _*_, _-_, _≤_, _<_}
+use native.Mathlib.Omega.{arith}
+use native.Mathlib.Nat.{suc-mul, zero-mul, mul-le-mul, mul-le-mul-right}
+use native.Mathlib.Numerals.{add-one}
+use mathlib.Core.Path.{_≡_, refl, sym, ap, ap₂, _∙_}
+use mathlib.Core.List.{List, [], _∷_, _++_, map, append-nil}
+use lib.ListN.{length, getD, take, drop, length-append, length-drop, length-map, List·getD-eq-default}
+use lib.Seq.{length-take-le}
+use Rattle.ac.specs.Lists.{from, below, flatMap}
+use Rattle.ac.specs.Rows.{Group, Groups}
+use Rattle.buffer.specs.Put.{Put}
+use Rattle.buffer.proofs.Puts.{put-then, put-as, put-length}
+use Rattle.table.specs.Table.{groupAt, groupsFrom, groupsIn, Within}
+use Rattle.table.specs.declared.Table.{Table}
+use Rattle.table.proofs.Groups.{length-groupAt, length-groupsFrom}
+use Rattle.solve.specs.Spread.{rowIn, groupIn}
+use Rattle.solve.specs.Rows.{size, allRows, bytesOf}
+use Rattle.solve.proofs.Lists.{from-snoc, flatMap-append, flatMap-from-snoc}
+
+-- Rows at their places in an array.
+
+-- one row more
+bytes-next : (places group : ℕ) (rows : List ℕ) (i : ℕ)
+    → bytesOf (groupIn places rows group (suc i)) ≡ bytesOf (groupIn places rows group i) ++ rowIn places rows group i
+bytes-next places group rows i =
+    ap bytesOf (from-snoc (rowIn places rows group) 0 i)
+    ∙ flatMap-append (λ row. row) (groupIn places rows group i) (rowIn places rows group (0 + i) ∷ [])
+    ∙ ap (λ l. bytesOf (groupIn places rows group i) ++ l)
+    (append-nil (rowIn places rows group (0 + i)) ∙ ap (rowIn places rows group) (let e : 0 + i ≡ i = omega arith in e))
+
+module _ (rows : List ℕ) {places group : ℕ} (size : length rows ≡ 480) (narrow : places ≤ 6) (few-groups : group < 5) where
+  pub row-length : (i : ℕ) → i < 16 → length (rowIn places rows group i) ≡ places
+  row-length i h = length-take-le places (drop (96 * group + 6 * i) rows) (omega (arith, length-drop (96 * group + 6 * i) rows))
+
+  pub bytes-length : (count : ℕ) → count ≤ 16 → length (bytesOf (groupIn places rows group count)) ≡ count * places
+  bytes-length zero few = sym (zero-mul places)
+  bytes-length (suc i) few =
+      ap length (bytes-next places group rows i)
+      ∙ length-append (bytesOf (groupIn places rows group i)) (rowIn places rows group i)
+      ∙ ap₂ (λ m n. m + n) (bytes-length i (omega arith)) (row-length i (omega arith))
+      ∙ sym (suc-mul i places)
+
+  -- a row behind those before it
+  pub row-fits : {i count at next : ℕ} {out mid : List ℕ} → i < count → count ≤ 16 → Put out at (bytesOf (groupIn places rows group i)) next mid
+      → at + count * places ≤ length out → next + length (rowIn places rows group i) ≤ length mid
+  row-fits {i} {count} {at} {next} {out} {mid} within few put room =
+      omega (
+        arith,
+        put .place,
+        bytes-length i (let h : i ≤ 16 = omega arith in h),
+        row-length i (let h : i < 16 = omega arith in h),
+        suc-mul i places,
+        mul-le-mul-right places within,
+        put-length put,
+      )
+
+  -- a group takes no more than its room
+  pub group-room : (count : ℕ) → count ≤ 16 → count * places ≤ 96
+  group-room count few = mul-le-mul few narrow
+
+  -- the part of the array that a row is
+  pub row-part : (i : ℕ) → take (96 * group + 6 * i + places - (96 * group + 6 * i)) (drop (96 * group + 6 * i) rows) ≡ rowIn places rows group i
+  row-part i =
+      ap (λ n. take n (drop (96 * group + 6 * i) rows)) (let e : 96 * group + 6 * i + places - (96 * group + 6 * i) ≡ places = omega arith in e)
+
+pub put-row : (places group : ℕ) (rows : List ℕ) (i : ℕ) {at next n : ℕ} {out mid after bytes : List ℕ} → Put out at (bytesOf (groupIn places rows group i)) next mid
+    → bytes ≡ rowIn places rows group i → Put mid next bytes n after → Put out at (bytesOf (groupIn places rows group (i + 1))) n after
+put-row places group rows i before same put =
+    put-as
+    (ap (λ l. bytesOf (groupIn places rows group i) ++ l) same ∙ sym (bytes-next places group rows i)
+    ∙ ap (λ k. bytesOf (groupIn places rows group k)) (sym (add-one i)))
+    (put-then before put)
+
+-- The groups of a table.
+
+-- the groups before one
+abbrev pub rowsBefore : Table → ℕ → List (List ℕ)
+rowsBefore t group = flatMap (groupAt t) (below group)
+
+pub put-group : (t : Table) (group : ℕ) {at next n : ℕ} {out mid after : List ℕ} → Put out at (bytesOf (rowsBefore t group)) next mid
+    → Put mid next (bytesOf (groupAt t group)) n after → Put out at (bytesOf (rowsBefore t (group + 1))) n after
+put-group t group before put =
+    put-as
+    (sym (flatMap-append (λ row. row) (rowsBefore t group) (groupAt t group))
+    ∙ ap bytesOf
+    (ap (λ k. rowsBefore t group ++ groupAt t k) (let e : group ≡ 0 + group = omega arith in e)
+    ∙ sym (flatMap-from-snoc (groupAt t) 0 group)
+    ∙ ap (rowsBefore t) (sym (add-one group))))
+    (put-then before put)
+
+rows-groupsFrom : (t : Table) (first : ℕ) (cs : List ℕ) → flatMap (λ (g : Group). g .rows) (groupsFrom t first cs) ≡ flatMap (groupAt t) (from first (length cs))
+rows-groupsFrom t first [] = refl
+rows-groupsFrom t first (c ∷ cs) = ap (λ l. groupAt t first ++ l) (rows-groupsFrom t (suc first) cs)
+
+-- all rows are those of the groups up to the last constant's
+pub all-rows : {t : Table} → Within t → length (t .constants) ≡ 4 → allRows (groupsIn t) ≡ rowsBefore t (t .unbalanced + 1)
+all-rows {t} within room =
+    ap (λ l. groupAt t 0 ++ l)
+    (rows-groupsFrom t 1 (take (t .unbalanced) (t .constants))
+    ∙ ap (λ n. flatMap (groupAt t) (from 1 n)) (length-take-le (t .unbalanced) (t .constants) (omega (arith, within .constants-fit))))
+    ∙ ap (rowsBefore t) (sym (add-one (t .unbalanced)))
+
+-- The sizes of the constants' groups.
+
+size-from : (t : Table) (first : ℕ) (cs : List ℕ) (i : ℕ) → i < length cs
+    → getD (map (λ (g : Group). length (g .rows)) (groupsFrom t first cs)) i 0 ≡ getD (t .sizes) (first + i) 0
+size-from t first [] i h = absurd (omega arith)
+size-from t first (c ∷ cs) zero h = length-groupAt t first ∙ ap (λ g. getD (t .sizes) g 0) (let e : first ≡ first + 0 = omega arith in e)
+size-from t first (c ∷ cs) (suc i) h =
+    size-from t (suc first) cs i (omega arith) ∙ ap (λ g. getD (t .sizes) g 0) (let e : suc first + i ≡ first + suc i = omega arith in e)
+
+module _ {t : Table} (within : Within t) (room : length (t .constants) ≡ 4) where
+  pub how-many-constants : length (groupsIn t .constants) ≡ t .unbalanced
+  how-many-constants =
+      length-groupsFrom t 1 (take (t .unbalanced) (t .constants)) ∙ length-take-le (t .unbalanced) (t .constants) (omega (arith, within .constants-fit))
+
+  pub size-there : (place : ℕ) → place < t .unbalanced → getD (t .sizes) (place + 1) 0 ≡ size (groupsIn t) place
+  size-there place h =
+      sym
+      (size-from t 1 (take (t .unbalanced) (t .constants)) place (omega (arith, how-many-constants, length-groupsFrom t 1 (take (t .unbalanced) (t .constants))))
+      ∙ ap (λ g. getD (t .sizes) g 0) (let e : 1 + place ≡ place + 1 = omega arith in e))
+
+  pub size-beyond : (place : ℕ) → t .unbalanced ≤ place → 0 ≡ size (groupsIn t) place
+  size-beyond place h =
+      sym
+      (List·getD-eq-default (map (λ (g : Group). length (g .rows)) (groupsIn t .constants)) 0
+      (omega (arith, how-many-constants, length-map (groupsIn t .constants) (λ (g : Group). length (g .rows)))))

@@ -1,0 +1,6 @@
+pub mod Spread
+pub mod Solved
+pub mod Steps
+pub mod Given
+pub mod Rows
+pub mod Putting

@@ -1,0 +1,93 @@
+//! The four questions with their lent buffers (document 01, The questions).
+
+use crate::block::{self, Sides};
+use crate::question::{Answer, Ask, Question, FIGURES};
+use crate::refusal::Refusal;
+use crate::solved::Solved;
+use crate::values::Value;
+
+/// What a question gives when it is not refused: the returned numbers and what each buffer receives.
+#[derive(Default)]
+struct Given {
+    figures: [u32; FIGURES],
+    first: Vec<u8>,
+    second: Vec<u8>,
+}
+
+/// The answer to a question, with pairs solved by the given means: refusal 16 first, buffers unchanged on a
+/// refusal and after the written part.
+pub fn answer(question: &Question, solve: impl Fn(&Sides) -> Result<Solved, Refusal>) -> Answer {
+    let (number, given) = match give(question, solve) {
+        Ok(given) => (0, given),
+        Err(refusal) => (refusal.number(), Given::default()),
+    };
+    Answer {
+        number,
+        figures: given.figures,
+        first: buffer(question.fill, question.first_bytes(), &given.first),
+        second: buffer(question.fill, usize::from(question.second_buffer), &given.second),
+    }
+}
+
+/// A buffer full of one byte, after the given bytes have been written to its beginning.
+fn buffer(fill: u8, length: usize, written: &[u8]) -> Vec<u8> {
+    let mut buffer = vec![fill; length];
+    buffer[..written.len()].copy_from_slice(written);
+    buffer
+}
+
+/// What a question gives, or its refusal.
+fn give(question: &Question, solve: impl Fn(&Sides) -> Result<Solved, Refusal>) -> Result<Given, Refusal> {
+    if buffers_too_short(question) {
+        return Err(Refusal::Buffer);
+    }
+    match question.ask {
+        Ask::Read { expected } => block::read(&question.sides.left, expected).map(give_sides),
+        Ask::Rows => solve(&question.sides).map(|solved| give_rows(&solved)),
+        Ask::Page { after, .. } => give_page(&solve(&question.sides)?, after, question.ask.wanted()),
+        Ask::Values { key } => solve(&question.sides)?.values(key).map(|values| give_values(&values)),
+    }
+}
+
+/// Whether a lent buffer is too short for its question.
+fn buffers_too_short(question: &Question) -> bool {
+    let least = question.ask.least_buffer();
+    let second_too_short =
+        matches!(question.ask, Ask::Read { .. }) && usize::from(question.second_buffer) < least;
+    usize::from(question.first_buffer) < least || second_too_short
+}
+
+/// Read gives the lengths of the sides and the sides.
+fn give_sides(sides: Sides) -> Given {
+    let figures = [sides.left.len() as u32, sides.right.len() as u32, 0, 0, 0, 0];
+    Given { figures, first: sides.left, second: sides.right }
+}
+
+/// Rows gives the size of each group and the rows one after the other.
+fn give_rows(solved: &Solved) -> Given {
+    let groups = &solved.groups;
+    let mut figures = [groups.balanced.len() as u32, groups.constants.len() as u32, 0, 0, 0, 0];
+    for (figure, rows) in figures[2..].iter_mut().zip(&groups.constants) {
+        *figure = rows.len() as u32;
+    }
+    let first = groups.balanced.iter().chain(groups.constants.iter().flatten()).flatten().copied().collect();
+    Given { figures, first, ..Given::default() }
+}
+
+/// Page gives the number of keys, whether more follow, and the keys.
+fn give_page(solved: &Solved, after: Option<u32>, wanted: usize) -> Result<Given, Refusal> {
+    let page = solved.page(after, wanted)?;
+    let figures = [page.keys.len() as u32, u32::from(page.more), 0, 0, 0, 0];
+    let first = page.keys.iter().flat_map(|key| key.to_be_bytes()).collect();
+    Ok(Given { figures, first, ..Given::default() })
+}
+
+/// Values gives the length and, for each variable, its byte, a byte count and the atoms.
+fn give_values(values: &[Value]) -> Given {
+    let mut first = Vec::new();
+    for value in values {
+        first.extend([value.variable, value.atoms.len() as u8]);
+        first.extend(&value.atoms);
+    }
+    Given { figures: [first.len() as u32, 0, 0, 0, 0, 0], first, ..Given::default() }
+}

@@ -1,0 +1,270 @@
+//! Planted faults: answers that are wrong in one known way, to show that the comparison can fail. One for
+//! each question, one for each plausible error of document 01, and two in the nightly text.
+
+use crate::answer::answer;
+use crate::block::Sides;
+use crate::list::{stages, List};
+use crate::pair::Pair;
+use crate::question::{Answer, Ask, Question};
+use crate::refusal::Refusal;
+use crate::rows::{at_or_below, weight, Groups, Row, MOST_ROWS};
+use crate::solved::Solved;
+use crate::text;
+use crate::values::FIRST_NEW_VARIABLE;
+use std::io::{self, Read, Write};
+
+/// One way to be wrong.
+#[derive(Clone, Copy, Debug, PartialEq, Eq)]
+pub enum Fault {
+    /// Read looks at the block number before the check.
+    NumberBeforeCheck,
+    /// Rows clears the byte after the last row.
+    ByteAfterRows,
+    /// Page says that more follow whenever it is full.
+    MoreWhenFull,
+    /// Values puts the new variables of a value before the constants.
+    NewVariablesFirst,
+    /// A variable is bounded by the counts on its own side.
+    OwnSideBound,
+    /// Only the set of all balanced rows is taken.
+    AllRowsOnly,
+    /// Variables of net count 0 are dropped.
+    NetCountZeroDropped,
+    /// Rows of the first constant answer for the second one too.
+    ConstantsMixed,
+    /// Rows that are the half sum of two others are left out.
+    HalfSumsLeftOut,
+    /// A new vector is compared only with the row found last.
+    LastRowOnly,
+    /// The nightly text says `more` for a list of exactly 200.
+    TextMore,
+    /// The nightly text counts blocks without unifier as refused.
+    TextCounts,
+}
+
+/// All faults by name.
+pub const FAULTS: [(&str, Fault); 12] = [
+    ("number-before-check", Fault::NumberBeforeCheck),
+    ("byte-after-rows", Fault::ByteAfterRows),
+    ("more-when-full", Fault::MoreWhenFull),
+    ("new-variables-first", Fault::NewVariablesFirst),
+    ("own-side-bound", Fault::OwnSideBound),
+    ("all-rows-only", Fault::AllRowsOnly),
+    ("net-count-zero-dropped", Fault::NetCountZeroDropped),
+    ("constants-mixed", Fault::ConstantsMixed),
+    ("half-sums-left-out", Fault::HalfSumsLeftOut),
+    ("last-row-only", Fault::LastRowOnly),
+    ("text-more", Fault::TextMore),
+    ("text-counts", Fault::TextCounts),
+];
+
+/// The fault with a name.
+pub fn named(name: &str) -> Option<Fault> {
+    FAULTS.iter().find(|(known, _)| *known == name).map(|(_, fault)| *fault)
+}
+
+/// The answer to a question, wrong where a fault is planted.
+pub fn answer_with(question: &Question, fault: Option<Fault>) -> Answer {
+    match fault {
+        None => answer(question, Solved::of),
+        Some(fault) => {
+            let mut answer = answer(question, |sides| fault.solve(sides));
+            fault.spoil_answer(question, &mut answer);
+            answer
+        }
+    }
+}
+
+/// The nightly text of a library, wrong where a fault is planted.
+pub fn nightly_with(library: impl Read, mut output: impl Write, fault: Option<Fault>) -> io::Result<()> {
+    let Some(fault) = fault else { return text::nightly(library, output) };
+    let mut right_text = Vec::new();
+    text::nightly(library, &mut right_text)?;
+    let text = String::from_utf8_lossy(&right_text);
+    let spoiled = match fault {
+        Fault::TextMore => text.replace("end 200\n", "more\n"),
+        Fault::TextCounts => text.lines().map(none_counted_as_refused).collect(),
+        _ => text.into_owned(),
+    };
+    output.write_all(spoiled.as_bytes())
+}
+
+/// A line of the text; of the last one, the blocks without unifier are moved to the refused ones.
+fn none_counted_as_refused(line: &str) -> String {
+    let words: Vec<&str> = line.split(' ').collect();
+    match words[..] {
+        ["blocks", blocks, "listed", listed, "none", none, "refused", refused] => {
+            let sum = none.parse::<u64>().unwrap_or(0) + refused.parse::<u64>().unwrap_or(0);
+            format!("blocks {blocks} listed {listed} none 0 refused {sum}\n")
+        }
+        _ => format!("{line}\n"),
+    }
+}
+
+impl Fault {
+    /// Whether the fault changes which unifiers are given, so that the semantic check must object as well.
+    pub fn changes_unifiers(self) -> bool {
+        matches!(
+            self,
+            Fault::OwnSideBound
+                | Fault::AllRowsOnly
+                | Fault::NetCountZeroDropped
+                | Fault::ConstantsMixed
+                | Fault::HalfSumsLeftOut
+                | Fault::LastRowOnly
+        )
+    }
+
+    /// Whether the fault is in the nightly text.
+    pub fn in_text(self) -> bool {
+        matches!(self, Fault::TextMore | Fault::TextCounts)
+    }
+
+    /// A pair solved with the fault.
+    fn solve(self, sides: &Sides) -> Result<Solved, Refusal> {
+        let mut pair = Pair::of(sides)?;
+        if self == Fault::NetCountZeroDropped {
+            pair.variables.retain(|variable| variable.net != 0);
+        }
+        let groups = self.groups(&pair)?;
+        let mut stages = stages(&groups);
+        if self == Fault::AllRowsOnly {
+            for stage in stages.iter_mut().filter(|stage| stage.field < 1 << MOST_ROWS) {
+                let last = stage.choices.len() - 1;
+                stage.choices.drain(..last);
+            }
+        }
+        let list = List::of_stages(stages, pair.variables.len());
+        Ok(Solved { pair, groups, list })
+    }
+
+    /// The rows of a pair with the fault.
+    fn groups(self, pair: &Pair) -> Result<Groups, Refusal> {
+        let mut groups = Groups::of(pair)?;
+        match self {
+            Fault::OwnSideBound => {
+                each_group(&mut groups, |rows| rows.retain(|row| within_own_side(pair, row)))
+            }
+            Fault::HalfSumsLeftOut => each_group(&mut groups, leave_out_half_sums),
+            Fault::ConstantsMixed => groups = Groups::of(&mixed(pair))?,
+            Fault::LastRowOnly => groups = compared_with_last_only(pair, &groups)?,
+            _ => (),
+        }
+        Ok(groups)
+    }
+
+    /// Changes the right answer where the fault lies in how it is given.
+    fn spoil_answer(self, question: &Question, answer: &mut Answer) {
+        match (self, question.ask) {
+            (Fault::NumberBeforeCheck, Ask::Read { expected }) => {
+                let other_number = question.sides.left.get(..2) != Some(&expected.to_be_bytes()[..]);
+                if answer.number == Refusal::Check.number() && other_number {
+                    answer.number = Refusal::BlockNumber.number();
+                }
+            }
+            (Fault::ByteAfterRows, Ask::Rows) => clear_byte_after_rows(question, answer),
+            (Fault::MoreWhenFull, Ask::Page { .. }) if answer.number == 0 => {
+                answer.figures[1] = u32::from(answer.figures[0] as usize == question.ask.wanted());
+            }
+            (Fault::NewVariablesFirst, Ask::Values { .. }) => put_new_variables_first(answer),
+            _ => (),
+        }
+    }
+}
+
+/// Does the same to the balanced rows and to those of each constant.
+fn each_group(groups: &mut Groups, change: impl Fn(&mut Vec<Row>)) {
+    change(&mut groups.balanced);
+    groups.constants.iter_mut().for_each(change);
+}
+
+/// Whether each number of a row is within the highest net count on the variable's own side.
+fn within_own_side(pair: &Pair, row: &Row) -> bool {
+    pair.variables.iter().zip(row).all(|(variable, &number)| {
+        let same_side = pair.variables.iter().filter(|other| other.net * variable.net > 0);
+        let bound = same_side.map(|other| other.net.abs()).max().unwrap_or(1);
+        i32::from(number) <= bound
+    })
+}
+
+/// Removes the rows that are the half sum of two other rows of their group.
+fn leave_out_half_sums(rows: &mut Vec<Row>) {
+    let all = rows.clone();
+    rows.retain(|row| {
+        let is_half_sum = |one: &Row, other: &Row| {
+            one != row && row.iter().zip(one.iter().zip(other)).all(|(&half, (&a, &b))| 2 * half == a + b)
+        };
+        !all.iter().any(|one| all.iter().any(|other| is_half_sum(one, other)))
+    });
+}
+
+/// The pair in which the first constant's net count has the second one's added.
+fn mixed(pair: &Pair) -> Pair {
+    let mut mixed = pair.clone();
+    if let [first, second, ..] = &mut mixed.constants[..] {
+        first.net += second.net;
+    }
+    mixed
+}
+
+/// The groups that come out if the vectors up to the largest numbers of the right rows are tried in ascending
+/// order and each is compared only with the row found last.
+fn compared_with_last_only(pair: &Pair, right: &Groups) -> Result<Groups, Refusal> {
+    let nets: Vec<i32> = pair.variables.iter().map(|variable| variable.net).collect();
+    let kept = |rows: &[Row], constant: i32| {
+        let mut kept: Vec<Row> = Vec::new();
+        for vector in vectors_up_to_largest(rows, nets.len()) {
+            let fits =
+                constant + weight(&nets, &vector) == 0 && (constant != 0 || vector.iter().any(|&n| n > 0));
+            if fits && !kept.last().is_some_and(|last| at_or_below(last, &vector)) {
+                kept.push(vector);
+            }
+        }
+        if kept.len() > MOST_ROWS {
+            Err(Refusal::Rows)
+        } else {
+            Ok(kept)
+        }
+    };
+    let constants = pair.constants.iter().zip(&right.constants);
+    Ok(Groups {
+        balanced: kept(&right.balanced, 0)?,
+        constants: constants.map(|(constant, rows)| kept(rows, constant.net)).collect::<Result<_, _>>()?,
+    })
+}
+
+/// All vectors, ascending, that are in each place at most as large as the largest of the rows there.
+fn vectors_up_to_largest(rows: &[Row], places: usize) -> Vec<Row> {
+    let mut vectors = vec![Vec::new()];
+    for place in 0..places {
+        let largest = rows.iter().map(|row| row[place]).max().unwrap_or(0);
+        let longer = |vector: &Row| {
+            let vector = vector.clone();
+            (0..=largest).map(move |number| [&vector[..], &[number]].concat())
+        };
+        vectors = vectors.iter().flat_map(longer).collect();
+    }
+    vectors
+}
+
+/// Sets the byte after the written rows to 0, if there is one.
+fn clear_byte_after_rows(question: &Question, answer: &mut Answer) {
+    let Ok(solved) = Solved::of(&question.sides) else { return };
+    let rows = solved.groups.balanced.iter().chain(solved.groups.constants.iter().flatten());
+    let written: usize = rows.map(Vec::len).sum();
+    if let (0, Some(byte)) = (answer.number, answer.first.get_mut(written)) {
+        *byte = 0;
+    }
+}
+
+/// Puts the new variables of each value before its constants.
+fn put_new_variables_first(answer: &mut Answer) {
+    let length = answer.figures[0] as usize;
+    let mut rest = &mut answer.first[..length];
+    while !rest.is_empty() {
+        let count = usize::from(rest[1]);
+        let (value, after) = rest.split_at_mut(2 + count);
+        value[2..].sort_by_key(|&atom| (atom < FIRST_NEW_VARIABLE, atom));
+        rest = after;
+    }
+}

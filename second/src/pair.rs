@@ -1,0 +1,65 @@
+//! A pair as net counts (document 01, From sides to equations).
+
+use crate::block::Sides;
+use crate::refusal::Refusal;
+use std::collections::BTreeMap;
+
+/// The first byte that is a constant.
+pub const FIRST_CONSTANT: u8 = 64;
+/// The last byte that is an atom.
+pub const LAST_ATOM: u8 = 127;
+const MOST_ATOMS: usize = 64;
+const MOST_VARIABLES: usize = 6;
+const FURTHEST_NET_COUNT: i32 = 8;
+const MOST_CONSTANTS: usize = 4;
+
+/// An atom with its occurrences on the left minus those on the right.
+#[derive(Clone, Debug, PartialEq, Eq)]
+pub struct NetCount {
+    pub atom: u8,
+    pub net: i32,
+}
+
+/// All distinct variables of a pair and its unbalanced constants, both ascending.
+#[derive(Clone, Debug, PartialEq, Eq)]
+pub struct Pair {
+    pub variables: Vec<NetCount>,
+    pub constants: Vec<NetCount>,
+}
+
+impl Pair {
+    /// The net counts of two sides, or the first of the refusals 7 to 11 that holds.
+    pub fn of(sides: &Sides) -> Result<Pair, Refusal> {
+        if [&sides.left, &sides.right].iter().any(|side| side.is_empty() || side.len() > MOST_ATOMS) {
+            return Err(Refusal::SideLength);
+        }
+        if sides.left.iter().chain(&sides.right).any(|&byte| byte > LAST_ATOM) {
+            return Err(Refusal::SideByte);
+        }
+        let (variables, mut constants): (Vec<_>, Vec<_>) =
+            net_counts(sides).into_iter().partition(|count| count.atom < FIRST_CONSTANT);
+        if variables.len() > MOST_VARIABLES {
+            return Err(Refusal::Variables);
+        }
+        if variables.iter().chain(&constants).any(|count| count.net.abs() > FURTHEST_NET_COUNT) {
+            return Err(Refusal::NetCount);
+        }
+        constants.retain(|count| count.net != 0);
+        if constants.len() > MOST_CONSTANTS {
+            return Err(Refusal::Constants);
+        }
+        Ok(Pair { variables, constants })
+    }
+}
+
+/// Every atom that occurs with its net count, ascending by atom.
+pub fn net_counts(sides: &Sides) -> Vec<NetCount> {
+    let mut counts = BTreeMap::new();
+    for &atom in &sides.left {
+        *counts.entry(atom).or_insert(0) += 1;
+    }
+    for &atom in &sides.right {
+        *counts.entry(atom).or_insert(0) -= 1;
+    }
+    counts.into_iter().map(|(atom, net)| NetCount { atom, net }).collect()
+}

@@ -1,0 +1,103 @@
+//! The questions of a comparison: the fixed ones, then random ones up to the stated number.
+
+use crate::block::Sides;
+use crate::chance::Chance;
+use crate::question::{Ask, Question};
+
+/// The longest buffer in bytes.
+const LONGEST_BUFFER: usize = 4096;
+/// The longest buffer of a page in numbers.
+pub const LONGEST_PAGE: usize = 1024;
+
+/// Questions being gathered.
+pub struct Questions {
+    pub chance: Chance,
+    asked: Vec<Question>,
+}
+
+/// Exactly so many questions that a seed sets. An error if the fixed ones alone are more, or if a list does
+/// not have the number of keys that inclusion and exclusion count.
+pub fn questions(seed: u64, total: usize) -> Result<Vec<Question>, String> {
+    let mut questions = Questions { chance: Chance::new(seed), asked: Vec::new() };
+    questions.ask_fixed_reads();
+    questions.ask_fixed_pairs()?;
+    let fixed = questions.asked.len();
+    if fixed > total {
+        return Err(format!("{total} questions are too few: the fixed ones alone are {fixed}"));
+    }
+    while questions.asked.len() < total {
+        match questions.chance.one_in(5) {
+            true => questions.ask_random_read(),
+            false => questions.ask_random_pair()?,
+        }
+    }
+    questions.asked.truncate(total);
+    Ok(questions.asked)
+}
+
+impl Questions {
+    /// Adds a question whose buffers are long enough.
+    pub fn ask(&mut self, ask: Ask, sides: &Sides) {
+        let first = self.long_enough(ask);
+        let second = self.long_enough(ask);
+        self.ask_with_buffers(ask, sides, first, second);
+    }
+
+    /// Adds a question whose buffers may be too short.
+    pub fn ask_any(&mut self, ask: Ask, sides: &Sides) {
+        let first = self.any_length(ask);
+        let second = self.any_length(ask);
+        self.ask_with_buffers(ask, sides, first, second);
+    }
+
+    /// Adds a question with each of some lengths of its buffers: one short, exact, one more, and the longest.
+    pub fn ask_with_each_buffer(&mut self, ask: Ask, sides: &Sides) {
+        let least = ask.least_buffer();
+        for length in [least - 1, least, least + 1, longest(ask)] {
+            self.ask_with_buffers(ask, sides, length, least);
+            if matches!(ask, Ask::Read { .. }) {
+                self.ask_with_buffers(ask, sides, least, length);
+            }
+        }
+    }
+
+    /// Adds a question with buffers of these lengths, cut to what the protocol allows; only Read has a second
+    /// one.
+    fn ask_with_buffers(&mut self, ask: Ask, sides: &Sides, first: usize, second: usize) {
+        let is_read = matches!(ask, Ask::Read { .. });
+        self.asked.push(Question {
+            ask,
+            sides: sides.clone(),
+            fill: self.chance.byte(0, u8::MAX),
+            first_buffer: first.min(longest(ask)) as u16,
+            second_buffer: if is_read { second as u16 } else { 0 },
+        });
+    }
+
+    /// The length of a buffer that is long enough, in half of the cases just so.
+    fn long_enough(&mut self, ask: Ask) -> usize {
+        let least = ask.least_buffer();
+        match self.chance.below(32) {
+            0 => least.max(longest(ask)),
+            1..=15 => least + self.chance.below(40),
+            _ => least,
+        }
+    }
+
+    /// The length of any buffer, too short in one of eight cases.
+    fn any_length(&mut self, ask: Ask) -> usize {
+        match self.chance.below(16) {
+            0 => ask.least_buffer() - 1,
+            1 => self.chance.below(ask.least_buffer()),
+            _ => self.long_enough(ask),
+        }
+    }
+}
+
+/// The longest buffer that the protocol allows for a question.
+fn longest(ask: Ask) -> usize {
+    match ask {
+        Ask::Page { .. } => LONGEST_PAGE,
+        _ => LONGEST_BUFFER,
+    }
+}

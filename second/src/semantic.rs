@@ -1,0 +1,195 @@
+//! A check that uses no algorithm of the solver, only what a unifier is (source 000): for small pairs, every
+//! replacement of the variables by small non-empty sums that makes the sides equal must come from a listed
+//! substitution, every listed one must make the sides equal, and none may come from another.
+
+use crate::block::Sides;
+use crate::names::{name, sum, told};
+use crate::pair::FIRST_CONSTANT;
+use crate::question::{Answer, Ask, Question};
+use crate::refusal::Refusal;
+use crate::sides::{all_pairs, multisets};
+use crate::substitution::{atoms_of, comes_from, sum_of, total, Sum, CONSTANTS};
+use std::collections::BTreeSet;
+
+/// How many atoms the sums have at most that replace 0, 1, 2, 3 and 4 variables.
+const LARGEST_SUM: [usize; 5] = [0, 10, 6, 4, 2];
+/// The longest page, longer than the list of any small pair.
+const PAGE: u16 = 1024;
+/// The shortest buffer for values.
+const VALUES: u16 = 1212;
+
+/// What the check did.
+#[derive(Default)]
+pub struct Checked {
+    pub pairs: usize,
+    pub listed: usize,
+    pub replacements: usize,
+    pub unifiers: usize,
+}
+
+/// A small pair with the substitutions that are listed for it: a value for each variable ascending.
+struct Listed {
+    sides: Sides,
+    variables: Vec<u8>,
+    substitutions: Vec<Vec<Sum>>,
+}
+
+/// Checks all small pairs with the answers that the given means gives; the first objection ends it.
+pub fn check(ask: impl Fn(&[Question]) -> Result<Vec<Answer>, String>) -> Result<Checked, String> {
+    let mut checked = Checked::default();
+    for listed in listed_substitutions(small_pairs(), ask)? {
+        checked.pairs += 1;
+        checked.listed += listed.substitutions.len();
+        let outcome = listed.check_listed().and_then(|()| listed.check_complete(&mut checked));
+        outcome.map_err(|objection| format!("{}: {objection}", told(&listed.sides)))?;
+    }
+    Ok(checked)
+}
+
+/// All pairs of non-empty sides of up to 3 and 3 atoms over three variables and two constants, and over four
+/// variables and one constant, and of up to 5 and 5 over two variables and one constant.
+fn small_pairs() -> Vec<Sides> {
+    let three_variables = all_pairs(&[0, 1, 2, FIRST_CONSTANT, FIRST_CONSTANT + 1], 3, 3);
+    let four_variables = all_pairs(&[0, 1, 2, 3, FIRST_CONSTANT], 3, 3);
+    let two_variables = all_pairs(&[0, 1, FIRST_CONSTANT], 5, 5);
+    let all: BTreeSet<Sides> =
+        [three_variables, four_variables, two_variables].into_iter().flatten().collect();
+    all.into_iter().filter(|sides| !sides.left.is_empty() && !sides.right.is_empty()).collect()
+}
+
+/// Asks for the whole list of each pair and for the values of each key.
+fn listed_substitutions(
+    pairs: Vec<Sides>,
+    ask: impl Fn(&[Question]) -> Result<Vec<Answer>, String>,
+) -> Result<Vec<Listed>, String> {
+    let page = Ask::Page { after: None, wanted: u32::from(PAGE) };
+    let page_questions: Vec<Question> = pairs.iter().map(|sides| question(page, sides, PAGE)).collect();
+    let pages = ask(&page_questions)?.iter().map(keys).collect::<Result<Vec<_>, _>>()?;
+    let value_questions: Vec<Question> = pairs
+        .iter()
+        .zip(&pages)
+        .flat_map(|(sides, keys)| keys.iter().map(move |&key| question(Ask::Values { key }, sides, VALUES)))
+        .collect();
+    let mut values = ask(&value_questions)?.into_iter();
+    pairs
+        .into_iter()
+        .zip(pages)
+        .map(|(sides, keys)| listed(sides, values.by_ref().take(keys.len())))
+        .collect()
+}
+
+/// A question with a buffer of this length.
+fn question(ask: Ask, sides: &Sides, first_buffer: u16) -> Question {
+    Question { ask, sides: sides.clone(), fill: 0, first_buffer, second_buffer: 0 }
+}
+
+/// The keys of a whole list from a page; none for a pair without unifier.
+fn keys(page: &Answer) -> Result<Vec<u32>, String> {
+    match (page.number, page.figures) {
+        (0, [count, 0, ..]) => {
+            let numbers = page.first.chunks_exact(4).take(count as usize);
+            Ok(numbers.map(|bytes| u32::from_be_bytes([bytes[0], bytes[1], bytes[2], bytes[3]])).collect())
+        }
+        (number, _) if number == Refusal::NoUnifier.number() => Ok(Vec::new()),
+        (number, _) => Err(format!("a page that is neither the whole list nor refusal 13: number {number}")),
+    }
+}
+
+/// A pair with the substitutions that answers to Values hold.
+fn listed(sides: Sides, answers: impl Iterator<Item = Answer>) -> Result<Listed, String> {
+    let atoms: BTreeSet<u8> = sides.left.iter().chain(&sides.right).copied().collect();
+    let variables: Vec<u8> = atoms.into_iter().filter(|&atom| atom < FIRST_CONSTANT).collect();
+    let substitutions = answers
+        .map(|answer| {
+            substitution(&answer, &variables).ok_or(format!("{}: values that cannot be read", told(&sides)))
+        })
+        .collect::<Result<_, _>>()?;
+    Ok(Listed { sides, variables, substitutions })
+}
+
+/// The values of all variables ascending from an answer, if it holds just those and none is empty.
+fn substitution(answer: &Answer, variables: &[u8]) -> Option<Vec<Sum>> {
+    let mut rest = answer.first.get(..answer.figures[0] as usize)?;
+    let mut values = Vec::new();
+    for &variable in variables {
+        let (head, after) = rest.split_at_checked(2)?;
+        let (atoms, after) = after.split_at_checked(usize::from(head[1]))?;
+        if head[0] != variable || atoms.is_empty() {
+            return None;
+        }
+        values.push(sum_of(atoms)?);
+        rest = after;
+    }
+    (answer.number == 0 && rest.is_empty()).then_some(values)
+}
+
+impl Listed {
+    /// Each listed substitution makes the sides equal, and none comes from another.
+    fn check_listed(&self) -> Result<(), String> {
+        for (place, values) in self.substitutions.iter().enumerate() {
+            if !self.makes_equal(values) {
+                return Err(format!("{} does not make the sides equal", self.told_values(values)));
+            }
+            for (other_place, other) in self.substitutions.iter().enumerate() {
+                if place != other_place && comes_from(values, other) {
+                    return Err(format!(
+                        "{} comes from {}",
+                        self.told_values(values),
+                        self.told_values(other)
+                    ));
+                }
+            }
+        }
+        Ok(())
+    }
+
+    /// Each replacement by small sums that makes the sides equal comes from a listed substitution.
+    fn check_complete(&self, checked: &mut Checked) -> Result<(), String> {
+        let constants: Vec<u8> = (FIRST_CONSTANT..).take(CONSTANTS).collect();
+        let sums: Vec<Sum> = multisets(&constants, LARGEST_SUM[self.variables.len()])
+            .iter()
+            .filter(|atoms| !atoms.is_empty())
+            .filter_map(|atoms| sum_of(atoms))
+            .collect();
+        self.check_replacements(&sums, &mut Vec::new(), checked)
+    }
+
+    /// The same for all replacements that begin with the given values.
+    fn check_replacements(
+        &self,
+        sums: &[Sum],
+        values: &mut Vec<Sum>,
+        checked: &mut Checked,
+    ) -> Result<(), String> {
+        if values.len() < self.variables.len() {
+            for sum in sums {
+                values.push(*sum);
+                self.check_replacements(sums, values, checked)?;
+                values.pop();
+            }
+            return Ok(());
+        }
+        checked.replacements += 1;
+        if self.makes_equal(values) {
+            checked.unifiers += 1;
+            if !self.substitutions.iter().any(|listed| comes_from(values, listed)) {
+                return Err(format!(
+                    "{} makes the sides equal and comes from no key",
+                    self.told_values(values)
+                ));
+            }
+        }
+        Ok(())
+    }
+
+    /// Whether the two sides become the same sum.
+    fn makes_equal(&self, values: &[Sum]) -> bool {
+        total(&self.sides.left, &self.variables, values) == total(&self.sides.right, &self.variables, values)
+    }
+
+    /// A substitution in words.
+    fn told_values(&self, values: &[Sum]) -> String {
+        let told = |(&variable, value): (&u8, &Sum)| format!("{}={}", name(variable), sum(&atoms_of(value)));
+        format!("[{}]", self.variables.iter().zip(values).map(told).collect::<Vec<_>>().join(" "))
+    }
+}

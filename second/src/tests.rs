@@ -1,0 +1,283 @@
+//! Document 01's pairs 1 to 17 and its nightly example, the published counts, Fages' rows, and the list
+//! against itself.
+
+use crate::block::{read, seal, BLOCK};
+use crate::chance::Chance;
+use crate::examples::{
+    AROUND_A_PAGE, AT_LIMITS, HIGHEST, LONGEST_LIST, LONGEST_VALUE, MOST_ROW_BYTES, PUBLISHED,
+};
+use crate::library::Library;
+use crate::names::{name, sides, sum};
+use crate::pair::{NetCount, Pair};
+use crate::refusal::Refusal;
+use crate::rows::{at_or_below, weight, Groups, Row, MOST_ROWS};
+use crate::sides::{all_pairs, random_sides};
+use crate::solved::Solved;
+use crate::text::nightly;
+
+/// A pair that must not be refused before its list.
+fn solved(left: &str, right: &str) -> Solved {
+    Solved::of(&sides(left, right)).unwrap_or_else(|refusal| panic!("{left} and {right}: {refusal:?}"))
+}
+
+/// The whole list of a pair.
+fn keys(left: &str, right: &str) -> Vec<u32> {
+    solved(left, right).list.keys(None, usize::MAX)
+}
+
+/// The values of a key as the nightly text writes them.
+fn values(left: &str, right: &str, key: u32) -> String {
+    let values = solved(left, right).values(key).expect("the key is listed");
+    let parts: Vec<String> =
+        values.iter().map(|value| format!("{}={}", name(value.variable), sum(&value.atoms))).collect();
+    parts.join(" ")
+}
+
+/// The number that a whole first page is refused with, or 0.
+fn refusal(left: &str, right: &str) -> u8 {
+    let page = Solved::of(&sides(left, right)).and_then(|solved| solved.page(None, 200));
+    page.map_or_else(Refusal::number, |_| 0)
+}
+
+/// Rows written as digits.
+fn digits(rows: &[Vec<u8>]) -> Vec<String> {
+    rows.iter().map(|row| row.iter().map(u8::to_string).collect()).collect()
+}
+
+#[test]
+fn pairs_1_to_8_have_their_values() {
+    assert_eq!(keys("v0", "v1+c0"), [1]);
+    assert_eq!(values("v0", "v1+c0", 1), "v0=c0+n0 v1=n0");
+    assert_eq!(digits(&solved("v0+v1", "v2+v3").groups.balanced), ["0101", "0110", "1001", "1010"]);
+    assert_eq!(keys("v0+v1", "v2+v3"), [6, 7, 9, 11, 13, 14, 15]);
+    assert_eq!(digits(&solved("2v0", "v1+v2").groups.balanced), ["102", "111", "120"]);
+    assert_eq!(keys("2v0", "v1+v2"), [2, 3, 5, 6, 7]);
+    assert_eq!(keys("v0+c0", "v1+c1"), [0, 1]);
+    assert_eq!(values("v0+c0", "v1+c1", 0), "v0=c1 v1=c0");
+    assert_eq!(values("v0+c0", "v1+c1", 1), "v0=c1+n0 v1=c0+n0");
+    assert_eq!(keys("2v0", "v1+c0"), [0, 1]);
+    assert_eq!(values("2v0", "v1+c0", 0), "v0=c0 v1=c0");
+    assert_eq!(values("2v0", "v1+c0", 1), "v0=c0+n0 v1=c0+n0+n0");
+    assert_eq!(keys("3v0", "2v1"), [1]);
+    assert_eq!(values("3v0", "2v1", 1), "v0=n0+n0 v1=n0+n0+n0");
+    assert_eq!(keys("v0", "v0"), [1]);
+    assert_eq!(values("v0", "v0", 1), "v0=n0");
+    assert_eq!(keys("c0", "c0"), [0]);
+    assert_eq!(values("c0", "c0", 0), "");
+}
+
+#[test]
+fn pairs_9_to_17_have_their_lists_or_refusals() {
+    assert_eq!((refusal("v0", "v0+v1"), solved("v0", "v0+v1").groups.balanced.len()), (13, 1));
+    assert_eq!((refusal("v0+v1", "c0"), solved("v0+v1", "c0").groups.constants[0].len()), (13, 2));
+    assert_eq!(refusal("2v0", "c0"), 13);
+    assert_eq!(keys("v0+v1", "c0+c1"), [16_777_216, 268_435_456]);
+    assert_eq!(solved("4v0+v4", "v1+v2+v3+v4").groups.balanced.len(), 16);
+    assert_eq!(refusal("4v0+v4+v5", "v1+v2+v3+v4+v5"), 12);
+    assert_eq!(solved("v0+v1+v2", "4c0").groups.constants[0].len(), 15);
+    assert_eq!(refusal("v0+v1+v2", "5c0"), 12);
+    assert_eq!((refusal("8v0", "v1"), refusal("9v0", "v1")), (0, 10));
+    assert_eq!(keys("v0", "c0+c1+c2+c3"), [0]);
+    assert_eq!(refusal("v0", "c0+c1+c2+c3+c4"), 11);
+    assert_eq!(solved("v0+v1+v2", "v3+v4+v5").groups.balanced.len(), 9);
+    assert_eq!(refusal("v0+v1+v2", "v3+v4+v5+v6"), 9);
+}
+
+#[test]
+fn published_counts_hold() {
+    for (left, right, number) in PUBLISHED {
+        assert_eq!(solved(left, right).list.number(), number);
+        assert_eq!(keys(left, right).len() as u64, number);
+    }
+}
+
+#[test]
+fn fages_rows_are_found() {
+    let mut matrix = ["01110", "00210", "02010", "10010", "00101", "01001", "10002"];
+    matrix.sort();
+    assert_eq!(digits(&solved("2v0+v1+v2", "2v3+v4").groups.balanced), matrix);
+}
+
+/// The rows of three net counts by their definition, tried over all vectors with numbers up to 8; the
+/// constant's net count is 0 for the balanced rows.
+fn rows_by_definition(nets: &[i32], constant: i32) -> Vec<Row> {
+    let numbers = 0..=8u8;
+    let pairs = numbers.clone().flat_map(|a| numbers.clone().map(move |b| (a, b)));
+    let vectors = pairs.flat_map(|(a, b)| numbers.clone().map(move |c| vec![a, b, c]));
+    let of_weight: Vec<Row> = vectors
+        .filter(|vector| weight(nets, vector) == -constant && (constant != 0 || vector != &[0, 0, 0]))
+        .collect();
+    let is_lower = |row: &Row, other: &Row| other != row && at_or_below(other, row);
+    of_weight.iter().filter(|row| !of_weight.iter().any(|other| is_lower(row, other))).cloned().collect()
+}
+
+/// The groups of three net counts and one constant, found and by definition, are the same or too large.
+fn groups_are_by_definition(nets: &[i32], constant: i32) {
+    let variables = (0..).zip(nets).map(|(atom, &net)| NetCount { atom, net }).collect();
+    let pair = Pair { variables, constants: vec![NetCount { atom: 64, net: constant }] };
+    let balanced = rows_by_definition(nets, 0);
+    let constants = vec![rows_by_definition(nets, constant)];
+    let too_large = balanced.len() > MOST_ROWS || constants[0].len() > MOST_ROWS;
+    let expected = if too_large { Err(Refusal::Rows) } else { Ok(Groups { balanced, constants }) };
+    assert_eq!(Groups::of(&pair), expected, "{nets:?} and {constant}");
+}
+
+#[test]
+fn rows_are_by_definition() {
+    for (first, second, third) in
+        (-8..=8).flat_map(|a| (a..=8).flat_map(move |b| (b..=8).map(move |c| (a, b, c))))
+    {
+        for constant in [-8, -5, -1, 3, 7] {
+            groups_are_by_definition(&[second, first, third], constant);
+        }
+    }
+}
+
+#[test]
+fn extreme_pairs_are_as_named() {
+    let highest = solved(HIGHEST.0, HIGHEST.1);
+    assert_eq!(highest.list.last(), Some(u32::MAX));
+    assert!(highest.list.holds(u32::MAX));
+    assert_eq!(highest.page(Some(u32::MAX), 1).err(), Some(Refusal::LastKey));
+    assert_eq!(solved(LONGEST_LIST.0, LONGEST_LIST.1).list.number(), 4_294_651_782);
+    let rows = solved(MOST_ROW_BYTES.0, MOST_ROW_BYTES.1).groups;
+    assert_eq!(rows.balanced.len() + rows.constants.iter().map(Vec::len).sum::<usize>(), 480 / 6);
+    let long = solved(LONGEST_VALUE.0, LONGEST_VALUE.1);
+    let values = long.values(long.list.last().expect("a last key")).expect("a listed key");
+    assert_eq!(values.iter().map(|value| value.atoms.len()).max(), Some(135));
+    for ((left, right), number) in AROUND_A_PAGE.iter().zip([199, 200, 201]) {
+        assert_eq!(solved(left, right).list.number(), number);
+    }
+}
+
+#[test]
+fn limits_are_refused_by_the_lowest_number() {
+    let numbers = [
+        7, 7, 7, 0, 7, 7, 7, 7, 7, 8, 8, 8, 13, 9, 9, 0, 10, 0, 10, 10, 11, 11, 12, 12, 0, 13, 0, 0, 0, 13,
+        13, 0, 13, 0, 0, 0, 0, 0,
+    ];
+    for ((left, right), number) in AT_LIMITS.iter().zip(numbers) {
+        assert_eq!(refusal(left, right), number, "{left} and {right}");
+    }
+}
+
+/// The list of a pair is ascending, as long as inclusion and exclusion count, and goes on after each of its
+/// keys.
+fn list_agrees_with_itself(pair: &Solved) {
+    let number = pair.list.number();
+    if number > 2000 {
+        return;
+    }
+    let keys = pair.list.keys(None, usize::MAX);
+    assert_eq!(keys.len() as u64, number);
+    assert!(keys.windows(2).all(|two| two[0] < two[1]));
+    assert_eq!(pair.list.last(), keys.last().copied());
+    assert_eq!(pair.list.is_empty(), keys.is_empty());
+    for (place, &key) in keys.iter().enumerate() {
+        assert!(pair.list.holds(key));
+        assert_eq!(pair.list.keys(Some(key), 5), keys[place + 1..keys.len().min(place + 6)]);
+    }
+}
+
+#[test]
+fn lists_agree_with_their_count() {
+    all_pairs(&[0, 1, 2, 64, 65], 3, 3)
+        .iter()
+        .flat_map(Solved::of)
+        .for_each(|pair| list_agrees_with_itself(&pair));
+    let mut chance = Chance::new(1);
+    for _ in 0..2000 {
+        Solved::of(&random_sides(&mut chance)).iter().for_each(list_agrees_with_itself);
+    }
+}
+
+#[test]
+fn keys_not_listed_are_refused() {
+    let pair = solved("v0+v1", "c0+c1");
+    for key in [0, 1, 0x0100_0001, 0x0110_0000, 0x0101_0000, 0x0200_0000, 0x1100_0000, u32::MAX] {
+        assert_eq!(pair.page(Some(key), 1).err(), Some(Refusal::NotListed), "{key}");
+        assert_eq!(pair.values(key).err(), Some(Refusal::NotListed), "{key}");
+    }
+    assert_eq!(pair.page(Some(268_435_456), 1).err(), Some(Refusal::LastKey));
+}
+
+/// A block that begins and ends with some bytes.
+fn block(beginning: &[u8], check: [u8; 2]) -> Vec<u8> {
+    let mut block = vec![0; BLOCK];
+    block[..beginning.len()].copy_from_slice(beginning);
+    block[510..].copy_from_slice(&check);
+    block
+}
+
+/// The nightly text of a library.
+fn text(library: &[u8]) -> String {
+    let mut text = Vec::new();
+    nightly(library, &mut text).expect("memory can be read and written");
+    String::from_utf8(text).expect("the text is in plain letters")
+}
+
+/// Document 01's two blocks.
+fn example_library() -> Vec<u8> {
+    let first = block(&[0, 0, 3, 3, 0x80, 0, 1, 0x80, 0x40, 0x41], [0xFE, 0x77]);
+    let second = block(&[0, 1, 3, 1, 0x80, 0, 0, 0x40], [0xFF, 0x3A]);
+    [first, second].concat()
+}
+
+#[test]
+fn nightly_example_is_byte_for_byte() {
+    let expected = "block 0 rows 0 4\nv0=c1 v1=c0\nv0=c0 v1=c1\nend 2\nblock 1 none\n\
+                    blocks 2 listed 1 none 1 refused 0\n";
+    assert_eq!(text(&example_library()), expected);
+}
+
+#[test]
+fn nightly_text_of_odd_inputs() {
+    assert_eq!(text(&[]), "nothing read\n");
+    assert_eq!(text(&[0]), "block 0 refused 1\nblocks 1 listed 0 none 0 refused 1\n");
+    assert_eq!(text(&[0; BLOCK]), "block 0 refused 2\nblocks 1 listed 0 none 0 refused 1\n");
+    let short = [&example_library()[512..], &[0; 511]].concat();
+    let expected = "block 0 refused 3\nblock 1 refused 1\nblocks 2 listed 0 none 0 refused 2\n";
+    assert_eq!(text(&short), expected);
+    let mut constants = block(&[0, 0, 1, 1, 64, 64], [0, 0]);
+    seal(&mut constants);
+    assert_eq!(text(&constants), "block 0 rows 0 0\n-\nend 1\nblocks 1 listed 1 none 0 refused 0\n");
+}
+
+#[test]
+fn library_has_every_kind_of_line() {
+    let mut library = Vec::new();
+    Library { seed: 1, blocks: 1000, zeros: 5 }.write(&mut library).expect("memory can be written");
+    let text = text(&library);
+    let refused = [1, 2, 3, 4, 5, 6, 9, 10, 11, 12].map(|number| format!(" refused {number}\n"));
+    let others = [" none\n", "\nmore\n", "\nend 199\n", "\nend 200\n", "\n-\n"].map(str::to_string);
+    for line in refused.iter().chain(&others) {
+        assert!(text.contains(line.as_str()), "{line}");
+    }
+}
+
+/// The number that a sealed block is refused with, or 0.
+fn read_number(change: impl Fn(&mut Vec<u8>)) -> u8 {
+    let mut changed = block(&[1, 2, 3, 1, 0x80, 0, 64, 65], [0, 0]);
+    change(&mut changed);
+    if changed.len() == BLOCK {
+        seal(&mut changed);
+    }
+    read(&changed, 0x0102).map_or_else(Refusal::number, |_| 0)
+}
+
+#[test]
+fn blocks_are_refused_by_the_lowest_number() {
+    assert_eq!(read_number(|_| ()), 0);
+    assert_eq!(read_number(|block| block.truncate(511)), 1);
+    assert_eq!(read_number(|block| block.push(0)), 1);
+    assert_eq!(read_number(|block| block[1] = 1), 3);
+    assert_eq!(read_number(|block| block[2] = 0), 4);
+    assert_eq!(read_number(|block| block[3] = 128), 4);
+    assert_eq!(read_number(|block| block[2] = 2), 5);
+    assert_eq!(read_number(|block| block[3] = 2), 5);
+    assert_eq!(read_number(|block| block[4] = 129), 5);
+    assert_eq!(read_number(|block| block[5] = 128), 5);
+    assert_eq!(read_number(|block| block[8] = 1), 6);
+    assert_eq!(read_number(|block| block[509] = 255), 6);
+    assert_eq!(read(&[0; BLOCK], 0).err(), Some(Refusal::Check));
+}

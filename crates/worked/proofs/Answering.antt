@@ -18,9 +18,12 @@ use Rattle.ac.proofs.Members.{members-map}
 use Rattle.ac.proofs.Listed.{selections-are}
 use Rattle.ac.proofs.Keys.{taken-apart}
 use Rattle.ac.proofs.Pages.{remaining-members}
-use Rattle.numbers.specs.First.{NoneOf, here}
+use Rattle.numbers.specs.First.{NoneOf, here, end, also}
 use Rattle.sides.specs.Limits.{limits}
 use Rattle.sides.specs.Given.{PairGiven}
+use Rattle.solve.specs.Given.{RowsGiven, of-the-sides, short-buffer, rowsNumbers}
+use Rattle.solve.specs.Rows.{sizesOf, allRows, is-answered}
+use Rattle.solve.proofs.Determined.{rows-determined}
 use Rattle.solver.specs.Given.{ListGiven, none-admissible, not-listed, last-listed}
 use Rattle.solver.specs.Page.{page, PagePromise, is-refused, is-page}
 use Rattle.solver.proofs.Given.{first-of-list, none-of-list}
@@ -32,8 +35,12 @@ use Rattle.values.specs.Values.{is-written, valuesOf}
 use Rattle.values.proofs.Given.{none-at-all}
 use Rattle.values.proofs.Determined.{values-determined}
 use Rattle.worked.specs.Questions.{pageQuestion}
-use Rattle.worked.specs.Answers.{Answers, receives, PageGives, ValuesGives, ValuesGiveInTurn, none, next}
-use Rattle.worked.proofs.Within.{none-of}
+use Rattle.worked.specs.Answers.{Answers, receives, RowsGives, PageGives, ValuesGives, ValuesGiveInTurn, none, next}
+
+-- where no number at all is given, none of a list is
+none-of : {Given : ℕ → Type 0} → ((n : ℕ) → Given n → ⊥) → (ns : List ℕ) → NoneOf Given ns
+none-of never [] = end
+none-of never (n ∷ ns) = also (never n) (none-of never ns)
 
 -- a list gives no number where the key after which a page begins, if any, is on it and another remains
 module _ {listed : List ℕ} {begin : Begin} {key : ℕ} {others : List ℕ} (some : remaining begin listed ≡ key ∷ others)
@@ -46,7 +53,20 @@ module _ {listed : List ℕ} {begin : Begin} {key : ℕ} {others : List ℕ} (so
   list-gives-none (last-listed {key = k} same m nothing) = nil≢cons (sym nothing ∙ subst (λ b. remaining b listed ≡ key ∷ others) same some)
 
 module _ {L R : List ℕ} {G : Groups}
-    (groups : GroupsOf unifying L R G) (nothing : NoneOf (PairGiven limits unifying L R) (7 ∷ 8 ∷ 9 ∷ 10 ∷ 11 ∷ 12 ∷ [])) where
+    (groups : GroupsOf unifying L R G) (never : (n : ℕ) → PairGiven limits unifying L R n → ⊥) where
+  nothing : NoneOf (PairGiven limits unifying L R) (7 ∷ 8 ∷ 9 ∷ 10 ∷ 11 ∷ 12 ∷ [])
+  nothing = none-of never (7 ∷ 8 ∷ 9 ∷ 10 ∷ 11 ∷ 12 ∷ [])
+
+  -- the rows of the groups
+  rows-give-none : {out : List ℕ} → 480 ≤ length out → (n : ℕ) → RowsGiven unifying L R out n → ⊥
+  rows-give-none enough n (of-the-sides given) = never n given
+  rows-give-none enough n (short-buffer short) = omega arith
+
+  pub rows-give : RowsGives L R (sizesOf G) (allRows G)
+  rows-give out enough =
+      let met = is-answered (none-of (rows-give-none enough) rowsNumbers) groups in
+      record { meets = met; alone = λ other exit p. rows-determined p met }
+
   -- where keys remain after the beginning, at most 200 of them, they are the page
   pub page-from : (begin : Begin) → ((k : ℕ) → begin ≡ after k → List·Memᴰ k (keys unifying layout L R G))
       → (key : ℕ) (others : List ℕ) → remaining begin (keys unifying layout L R G) ≡ key ∷ others → length (key ∷ others) ≤ 200

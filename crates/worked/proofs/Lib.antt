@@ -4,5 +4,6 @@ pub mod Worked
 pub mod Reading
 pub mod Wrong
 pub mod WrongReads
+pub mod WrongRows
 pub mod WrongPages
 pub mod WrongValues

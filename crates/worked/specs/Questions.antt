@@ -5,6 +5,8 @@ use Rattle.ac.specs.Pair.{unifying}
 use Rattle.ac.specs.Keys.{Begin}
 use Rattle.block.specs.Read.{ReadOutcome, ReadPromise}
 use Rattle.block.specs.Read as read
+use Rattle.solve.specs.Rows.{RowsOutcome, RowsPromise}
+use Rattle.solve.specs.Rows as rows
 use Rattle.solver.specs.Page.{PageOutcome, PagePromise}
 use Rattle.solver.specs.Page as page
 use Rattle.values.specs.Values.{ValuesOutcome, ValuesPromise}
@@ -38,6 +40,21 @@ readQuestion =
       refused = read.refused;
       Promise = λ asked lent outcome exit.
           ReadPromise (asked .block) (asked .number) (lent .left) (lent .right) outcome (exit .left) (exit .right);
+    }
+
+-- Rows: two sides; a lent buffer
+pub record RowsAsked : Type 0 where
+  pub left : List ℕ
+  pub right : List ℕ
+
+abbrev pub rowsQuestion : Question
+rowsQuestion =
+    record {
+      Asked = RowsAsked;
+      Lent = List ℕ;
+      Outcome = RowsOutcome;
+      refused = rows.refused;
+      Promise = λ asked. RowsPromise unifying (asked .left) (asked .right);
     }
 
 -- Page: two sides and a request made of where to begin and how many are wanted; a lent buffer

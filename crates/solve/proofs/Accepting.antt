@@ -1,21 +1,20 @@
 -- The groups of a pair put at their places one after the other, and the table that then is that of the pair.
-use Prim.Native.Nat.{ℕ, zero, suc, _+_, _≤_, _<_}
+use Prim.Native.Nat.{ℕ, suc, _+_, _≤_, _<_}
 use native.Mathlib.Omega.{arith}
-use native.Mathlib.Decide.{decLt, ℕ-discrete}
-use mathlib.Core.Path.{_≡_, refl, sym, ap, ap₂, subst, _∙_}
-use mathlib.Core.Bool.{Bool, true, false, false≢true}
-use mathlib.Core.List.{List, [], _∷_, map, List·Memᴰ}
+use native.Mathlib.Decide.{ℕ-discrete}
+use mathlib.Core.Path.{_≡_, refl, sym, ap, subst, _∙_}
+use mathlib.Core.Bool.{true, false, false≢true}
+use mathlib.Core.List.{List, List·Memᴰ}
 use lib.ListN.{length, getD, take, set}
 use lib.Seq.{getD-set-same, getD-set-other}
 use Rattle.ac.specs.Pair.{Mode, variables, unbalanced}
-use Rattle.ac.specs.Rows.{Exactly, Group, Groups, GroupsOf, RowOf}
+use Rattle.ac.specs.Rows.{Exactly, Group, RowOf}
 use Rattle.sides.specs.Limits.{limits}
 use Rattle.sides.specs.Parted.{PairOf}
 use Rattle.sides.specs.declared.Pair.{Pair}
-use Rattle.table.specs.Table.{groupAt, groupsIn, Within, TableOf}
+use Rattle.table.specs.Table.{groupAt, groupsIn, TableOf}
 use Rattle.table.specs.declared.Table.{Table}
 use Rattle.table.proofs.Groups.{constants-groupsFrom, groupsFrom-stands, Stands}
-use Rattle.rows.specs.Flat.{rowsOf}
 use Rattle.solve.specs.Spread.{groupIn, Spreads}
 use Rattle.solve.specs.Steps.{RowIn, More, FoundOf, GroupsUpto, GroupsFound, Roomy}
 use Rattle.solve.proofs.Finding.{take-padded}

@@ -1,11 +1,11 @@
 -- When number 12 is given: a group that has more rows than the limit, of any pair's groups.
 use Prim.Native.Nat.{ℕ, zero, suc, _+_, _≤_, _<_}
 use native.Mathlib.Omega.{arith}
-use mathlib.Core.Path.{_≡_, refl, sym, ap, subst, _∙_}
-use mathlib.Core.List.{List, [], _∷_, map, List·Memᴰ, Memᴰ·map}
+use mathlib.Core.Path.{ap, subst}
+use mathlib.Core.List.{List, map, List·Memᴰ, Memᴰ·map}
 use lib.ListN.{length, getD, take}
 use Rattle.ac.specs.Pair.{Mode, unbalanced}
-use Rattle.ac.specs.Rows.{Group, Groups, GroupsOf}
+use Rattle.ac.specs.Rows.{GroupsOf}
 use Rattle.ac.specs.Search.{groupOf, groups}
 use Rattle.ac.proofs.Order.{exactly-unique}
 use Rattle.ac.proofs.Groups.{groups-exist, groups-unique}

@@ -1,25 +1,25 @@
 -- What is found by the net parts of a pair's atoms are the rows of its groups.
-use Prim.Native.Nat.{ℕ, zero, suc, _+_, _-_, _≤_, _<_}
+use Prim.Native.Nat.{ℕ, zero, suc, _-_, _<_}
 use native.Mathlib.Omega.{arith}
 use mathlib.Core.Path.{_≡_, refl, sym, ap, ap₂, subst, _∙_}
 use mathlib.Core.Logic.{_↔_, Iff·trans, Iff·symm}
 use mathlib.Core.Bool.{Bool, true, false}
-use mathlib.Core.List.{List, [], _∷_, _++_, map}
+use mathlib.Core.List.{List, [], _∷_, map}
 use lib.ListN.{length, getD, take, replicate, length-map, List·getD-append}
 use lib.Seq.{take-at}
 use Rattle.ac.specs.Pair.{Mode, count, variables, unbalanced}
-use Rattle.ac.specs.Rows.{Exactly, BalancedRow, RowOf}
-use Rattle.ac.specs.Equation.{Equation, Minimal, balancedEquation, equationOf}
+use Rattle.ac.specs.Rows.{Exactly}
+use Rattle.ac.specs.Equation.{Equation, Minimal}
 use Rattle.ac.specs.Search.{beyond, netted}
 use Rattle.ac.proofs.Vectors.{exactly-same}
 use Rattle.ac.proofs.Bridge.{balanced-row-is-minimal, row-of-constant-is-minimal}
 use Rattle.ac.proofs.Nets.{netted-minimal, length-beyond}
-use Rattle.sides.specs.Limits.{Limits, limits}
+use Rattle.sides.specs.Limits.{limits}
 use Rattle.sides.specs.Parted.{padded, excess, PairOf}
 use Rattle.sides.specs.declared.Pair.{Pair}
 use Rattle.rows.specs.Flat.{rowsOf}
 use Rattle.rows.specs.Found.{equation, Finds, Finds.few, Finds.more}
-use Rattle.solve.specs.Steps.{RowIn, More, FoundOf}
+use Rattle.solve.specs.Steps.{RowIn, FoundOf}
 
 -- what stands at a place of a list that is padded, or made of another
 pub take-padded : (size : ℕ) (xs : List ℕ) {n : ℕ} → n ≡ length xs → take n (padded size xs) ≡ xs

@@ -6,3 +6,5 @@ pub mod Accepting
 pub mod Solving
 pub mod Putting
 pub mod Answering
+pub mod Determined
+pub mod Exact

@@ -1,9 +1,12 @@
 -- Lists made of the numbers from one on, and lists for each member, one after the other.
-use Prim.Native.Nat.{ℕ, zero, suc, _+_, _≤_, _<_}
+use Prim.Native.Nat.{ℕ, zero, suc, _+_, _*_, _≤_, _<_}
 use native.Mathlib.Omega.{arith}
+use native.Mathlib.Nat.{suc-mul, zero-mul}
 use mathlib.Core.Path.{_≡_, refl, sym, ap, ap₂, _∙_}
-use mathlib.Core.List.{List, [], _∷_, _++_, map, append-assoc, append-nil}
+use mathlib.Core.List.{List, [], _∷_, _++_, map, append-assoc, append-nil, List·Memᴰ, List·Memᴰ·head, List·Memᴰ·tail}
+use lib.ListN.{length, length-append}
 use Rattle.ac.specs.Lists.{from, below, flatMap}
+use Rattle.solve.specs.Rows.{bytesOf}
 
 from-same {ℓ} : {A : Type ℓ} (f g : ℕ → A) (a n : ℕ) → ((i : ℕ) → a ≤ i → i < a + n → f i ≡ g i) → map f (from a n) ≡ map g (from a n)
 from-same f g a zero same = refl
@@ -27,3 +30,19 @@ flatMap-from-snoc f a zero = append-nil (f a) ∙ ap f (omega arith)
 flatMap-from-snoc f a (suc n) =
     ap (λ l. f a ++ l) (flatMap-from-snoc f (suc a) n ∙ ap (λ k. flatMap f (from (suc a) n) ++ f k) (omega arith))
     ∙ sym (append-assoc (f a) (flatMap f (from (suc a) n)) (f (a + suc n)))
+
+-- Rows of so many places each, as bytes.
+
+abbrev pub AllOf : ℕ → List (List ℕ) → Type 0
+AllOf places rows = (row : List ℕ) → List·Memᴰ row rows → length row ≡ places
+
+pub length-bytes : (places : ℕ) (rows : List (List ℕ)) → AllOf places rows → length (bytesOf rows) ≡ length rows * places
+length-bytes places [] long = sym (zero-mul places)
+length-bytes places (row ∷ rows) long =
+    omega (
+      arith,
+      length-append row (bytesOf rows),
+      long row (List·Memᴰ·head refl),
+      length-bytes places rows (λ r m. long r (List·Memᴰ·tail m)),
+      suc-mul (length rows) places,
+    )

@@ -1,14 +1,14 @@
 -- The rows of a table put into a buffer one after the other.
 use Prim.Native.Nat.{ℕ, zero, suc, _+_, _*_, _-_, _≤_, _<_}
 use native.Mathlib.Omega.{arith}
-use native.Mathlib.Nat.{suc-mul, zero-mul, mul-le-mul, mul-le-mul-right}
+use native.Mathlib.Nat.{suc-mul, mul-le-mul, mul-le-mul-right}
 use native.Mathlib.Numerals.{add-one}
-use mathlib.Core.Path.{_≡_, refl, sym, ap, ap₂, _∙_}
-use mathlib.Core.List.{List, [], _∷_, _++_, map, append-nil}
-use lib.ListN.{length, getD, take, drop, length-append, length-drop, length-map, List·getD-eq-default}
+use mathlib.Core.Path.{_≡_, refl, sym, ap, _∙_}
+use mathlib.Core.List.{List, [], _∷_, _++_, map, append-nil, Memᴰ·of-map}
+use lib.ListN.{length, getD, take, drop, length-drop, length-map, List·getD-eq-default}
 use lib.Seq.{length-take-le}
 use Rattle.ac.specs.Lists.{from, below, flatMap}
-use Rattle.ac.specs.Rows.{Group, Groups}
+use Rattle.ac.specs.Rows.{Group}
 use Rattle.buffer.specs.Put.{Put}
 use Rattle.buffer.proofs.Puts.{put-then, put-as, put-length}
 use Rattle.table.specs.Table.{groupAt, groupsFrom, groupsIn, Within}
@@ -16,7 +16,9 @@ use Rattle.table.specs.declared.Table.{Table}
 use Rattle.table.proofs.Groups.{length-groupAt, length-groupsFrom}
 use Rattle.solve.specs.Spread.{rowIn, groupIn}
 use Rattle.solve.specs.Rows.{size, allRows, bytesOf}
-use Rattle.solve.proofs.Lists.{from-snoc, flatMap-append, flatMap-from-snoc}
+use Rattle.solve.proofs.Lists.{from-snoc, flatMap-append, flatMap-from-snoc, AllOf, length-bytes}
+use Rattle.ac.proofs.Keys.{length-from}
+use Rattle.ac.proofs.Members.{below-members}
 
 -- Rows at their places in an array.
 
@@ -34,12 +36,14 @@ module _ (rows : List ℕ) {places group : ℕ} (size : length rows ≡ 480) (na
   row-length i h = length-take-le places (drop (96 * group + 6 * i) rows) (omega (arith, length-drop (96 * group + 6 * i) rows))
 
   pub bytes-length : (count : ℕ) → count ≤ 16 → length (bytesOf (groupIn places rows group count)) ≡ count * places
-  bytes-length zero few = sym (zero-mul places)
-  bytes-length (suc i) few =
-      ap length (bytes-next places group rows i)
-      ∙ length-append (bytesOf (groupIn places rows group i)) (rowIn places rows group i)
-      ∙ ap₂ (λ m n. m + n) (bytes-length i (omega arith)) (row-length i (omega arith))
-      ∙ sym (suc-mul i places)
+  bytes-length count few =
+      length-bytes places (groupIn places rows group count) each
+      ∙ ap (λ n. n * places) (length-map (below count) (rowIn places rows group) ∙ length-from 0 count)
+    where
+      each : AllOf places (groupIn places rows group count)
+      each row member =
+          let origin = Memᴰ·of-map (rowIn places rows group) (below count) member in
+          ap length (sym (origin .2)) ∙ row-length (origin .0) (omega (arith, below-members count (origin .1)))
 
   -- a row behind those before it
   pub row-fits : {i count at next : ℕ} {out mid : List ℕ} → i < count → count ≤ 16 → Put out at (bytesOf (groupIn places rows group i)) next mid

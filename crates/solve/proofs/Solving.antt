@@ -2,22 +2,21 @@
 use Prim.Native.Nat.{ℕ, zero, suc, _≤_, _<_}
 use native.Mathlib.Omega.{arith}
 use native.Mathlib.Decide.{decLt}
-use mathlib.Core.Path.{_≡_, refl, sym, subst, _∙_}
-use mathlib.Core.Bool.{Bool, true, false, not}
+use mathlib.Core.Path.{_≡_, refl, subst}
 use mathlib.Core.List.{List, [], _∷_, _++_}
 use lib.ListN.{length, getD, replicate}
 use Rattle.ac.specs.Pair.{Mode, variables, unbalanced}
 use Rattle.numbers.specs.Numbers.{numberOf}
 use Rattle.numbers.specs.First.{First, NoneOf, also, end}
 use Rattle.numbers.specs.declared.Refusal.{Refusal}
-use Rattle.numbers.proofs.Carried.{first-before, first-after, none-after}
+use Rattle.numbers.proofs.Carried.{first-after, none-after}
 use Rattle.sides.specs.Limits.{limits}
 use Rattle.sides.specs.Given.{PairGiven, many-variables, many-constants}
 use Rattle.sides.specs.Parted.{PairOf}
 use Rattle.sides.specs.declared.Pair.{Pair}
 use Rattle.sides.specs.declared.Verdict.the-variants.{Refused, Accepted}
 use Rattle.table.specs.Table.{TableOf}
-use Rattle.solve.specs.Solved.{pairNumbers, SolvedOf}
+use Rattle.solve.specs.Solved.{SolvedOf}
 use Rattle.solve.specs.Steps.{Roomy}
 use Rattle.solve.specs.declared.Solved.{Solved}
 

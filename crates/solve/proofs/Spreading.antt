@@ -1,7 +1,7 @@
 -- Rows put at their fixed places leave every other row as it was.
 use Prim.Native.Nat.{ℕ, zero, suc, _+_, _*_, _-_, _≤_, _<_}
 use native.Mathlib.Omega.{arith}
-use native.Mathlib.Decide.{decLt, decLe}
+use native.Mathlib.Decide.{decLt}
 use native.Mathlib.Nat.{mul-le-mul-right, suc-mul}
 use mathlib.Core.Path.{_≡_, refl, sym, ap, ap₂, _∙_}
 use mathlib.Core.Logic.{_⊎_, inl, inr}
@@ -12,7 +12,7 @@ use Rattle.ac.specs.Lists.{below}
 use Rattle.buffer.specs.Put.{Put}
 use Rattle.rows.specs.Flat.{rowsOf}
 use Rattle.rows.proofs.Flat.{rowAt, rows-snoc}
-use Rattle.solve.specs.Spread.{rowIn, groupIn, Spreads}
+use Rattle.solve.specs.Spread.{rowIn, Spreads}
 use Rattle.solve.proofs.Lists.{below-same, from-snoc}
 
 -- What stands at one place of a list is not touched by what is put at another.

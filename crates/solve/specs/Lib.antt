@@ -3,4 +3,5 @@ pub mod Solved
 pub mod Steps
 pub mod Given
 pub mod Rows
+pub mod Cut
 pub mod Putting

@@ -1,5 +1,5 @@
 -- `solve::find_group` meets its contract: the two parts of a net count say what is found. Assumes nothing.
-use Prim.Native.Nat.{ℕ, suc, _-_, _<_}
+use Prim.Native.Nat.{suc, _-_, _<_}
 use mathlib.Core.Path.{_≡_, sym, subst}
 use native.Mathlib.Omega.{arith}
 use Rattle.solve.specs.Steps.{RowIn, FoundOf}
@@ -7,40 +7,30 @@ use Rattle.solve.proofs.Finding.{found-balanced, found-constant}
 use borrow.Author.Needs.{needs}
 use Rattle.solve.proofs.find_group.Statement.{statement}
 use Rattle.solve.proofs.find_group.Tie as tie
-use Rattle.solve.proofs.find_group.Reads as reads
-use Rattle.solve.proofs.find_group.Lts as lts
 
--- src/lib.rt:77:9
 find-rows-requires : tie.Need-find-rows-requires
 find-rows-requires c κs = search needs
 
--- src/lib.rt:77:9
 returns : tie.Need-returns
 returns c = λ M L R of.
     let r = c .find-rows .result in
     subst (λ g. FoundOf 16 (RowIn M L R g) (c .before .before .before .before .before .before .args .pair .variables .count) (r .rows) (r .number)) (sym (c .before .if1 .taken)) (found-balanced of (c .find-rows .ensures))
 
--- src/lib.rt:79:31
 sub-left : tie.Need-sub-left
 sub-left c = search needs
 
--- src/lib.rt:79:16
 element-copy-out-left : tie.Need-element-copy-out-left
 element-copy-out-left c = search needs
 
--- src/lib.rt:80:33
 sub-right : tie.Need-sub-right
 sub-right c = search needs
 
--- src/lib.rt:80:17
 element-copy-out-right : tie.Need-element-copy-out-right
 element-copy-out-right c = search needs
 
--- src/lib.rt:81:5
 find-rows-requires-2 : tie.Need-find-rows-requires-2
 find-rows-requires-2 c κs = search needs
 
--- src/lib.rt:67:1
 returns-2 : tie.Need-returns-2
 returns-2 c = λ M L R of.
     let a = c .before .before .before .before .before .before .before .before .args in

@@ -1,6 +1,6 @@
 -- `solve::put_group` meets its contract: before each turn the rows before i have been put. Assumes nothing.
 use Prim.Native.Nat.{ℕ, _≤_, _-_}
-use mathlib.Core.Path.{_≡_, sym, ap, subst, _∙_}
+use mathlib.Core.Path.{_≡_, ap}
 use native.Mathlib.Omega.{arith}
 use lib.ListN.{length}
 use Rattle.buffer.specs.Put.{Put}
@@ -10,9 +10,6 @@ use Rattle.solve.specs.Rows.{bytesOf}
 use Rattle.solve.proofs.Putting.{row-fits, row-part, put-row}
 use Rattle.solve.proofs.put_group.Statement.{statement}
 use Rattle.solve.proofs.put_group.Tie as tie
-use Rattle.solve.proofs.put_group.Reads as reads
-use Rattle.solve.proofs.put_group.Lts as lts
-use Rattle.buffer.proofs.put_bytes.Reads as put-bytes-reads
 
 abbrev Inv-loop : tie.InvT-loop
 Inv-loop rows group count places out₀ at next₀ i₀ out next i = (i ≤ count) × Put out₀ at (bytesOf (groupIn places rows group i)) next out
@@ -20,39 +17,30 @@ Inv-loop rows group count places out₀ at next₀ i₀ out next i = (i ≤ coun
 abbrev μ-loop : tie.MeasureT-loop
 μ-loop rows group count places out₀ at next₀ i₀ out next i = count - i
 
--- src/lib.rt:181:5
 loop-holds : tie.Need-loop-holds Inv-loop μ-loop
 loop-holds c = (omega arith, put-nothing _ _)
 
--- src/lib.rt:182:21
 mul-start : tie.Need-mul-start Inv-loop μ-loop
 mul-start c = omega arith
 
--- src/lib.rt:182:37
 mul-start-2 : tie.Need-mul-start-2 Inv-loop μ-loop
 mul-start-2 c = omega arith
 
--- src/lib.rt:182:21
 add-start : tie.Need-add-start Inv-loop μ-loop
 add-start c = omega arith
 
--- src/lib.rt:183:19
 add-end : tie.Need-add-end Inv-loop μ-loop
 add-end c = omega arith
 
--- src/lib.rt:184:37
 sub-put-bytes : tie.Need-sub-put-bytes Inv-loop μ-loop
 sub-put-bytes c = omega arith
 
--- src/lib.rt:184:37
 part-put-bytes-start : tie.Need-part-put-bytes-start Inv-loop μ-loop
 part-put-bytes-start c = omega arith
 
--- src/lib.rt:184:37
 part-put-bytes-end : tie.Need-part-put-bytes-end Inv-loop μ-loop
 part-put-bytes-end c = omega (arith, c .before .before .before .before .before .pre .0 .3)
 
--- src/lib.rt:184:9
 put-bytes-requires : tie.Need-put-bytes-requires Inv-loop μ-loop
 put-bytes-requires c κs = let a = c .before .before .before .before .before .before .args in
     let l = c .before .before .before .loop in
@@ -63,15 +51,12 @@ put-bytes-requires c κs = let a = c .before .before .before .before .before .be
       row-fits (a .rows .now) (p .3) (p .0) (p .2) (c .before .before .loop-test .taken) (p .1) (l .inv .1) (c .before .before .before .before .before .before .pre .1),
     )
 
--- src/lib.rt:185:9
 add-i : tie.Need-add-i Inv-loop μ-loop
 add-i c = omega arith
 
--- src/lib.rt:181:5
 loop-less : tie.Need-loop-less Inv-loop μ-loop
 loop-less c = omega arith
 
--- src/lib.rt:181:5
 loop-again : tie.Need-loop-again Inv-loop μ-loop
 loop-again c = let a = c .before .before .before .before .before .before .before .before .before .args in
     let l = c .before .before .before .before .before .before .loop in
@@ -80,11 +65,9 @@ loop-again c = let a = c .before .before .before .before .before .before .before
       put-row (a .places) (a .group) (a .rows .now) (l .i) (l .inv .1) (row-part (a .rows .now) (p .3) (p .0) (p .2) (l .i)) (c .before .before .put-bytes .ensures),
     )
 
--- src/lib.rt:167:1
 same-length : tie.Need-same-length Inv-loop μ-loop
 same-length c = put-length (c .before .loop .inv .1)
 
--- src/lib.rt:167:1
 returns : tie.Need-returns Inv-loop μ-loop
 returns c = let a = c .before .before .before .before .args in
     let same : c .before .loop .i ≡ a .count = omega arith in

@@ -1,5 +1,5 @@
 -- `solve::put_groups` meets its contract: before each turn the groups before that one have been put. Assumes nothing.
-use Prim.Native.Nat.{ℕ, _+_, _*_, _≤_, _<_, _-_}
+use Prim.Native.Nat.{_+_, _*_, _≤_, _<_, _-_}
 use mathlib.Core.Path.{_≡_, sym, ap, _∙_}
 use native.Mathlib.Omega.{arith}
 use borrow.Author.Needs.{needs}
@@ -10,9 +10,6 @@ use Rattle.solve.specs.Rows.{bytesOf}
 use Rattle.solve.proofs.Putting.{rowsBefore, bytes-length, group-room, put-group, all-rows}
 use Rattle.solve.proofs.put_groups.Statement.{statement}
 use Rattle.solve.proofs.put_groups.Tie as tie
-use Rattle.solve.proofs.put_groups.Reads as reads
-use Rattle.solve.proofs.put_groups.Lts as lts
-use Rattle.solve.proofs.put_group.Reads as put-group-reads
 
 abbrev Inv-loop : tie.InvT-loop
 Inv-loop table out₀ rows sizes next₀ group₀ out next group =
@@ -21,23 +18,18 @@ Inv-loop table out₀ rows sizes next₀ group₀ out next group =
 abbrev μ-loop : tie.MeasureT-loop
 μ-loop table out₀ rows sizes next₀ group₀ out next group = table .unbalanced + 1 - group
 
--- src/lib.rt:199:5
 loop-holds : tie.Need-loop-holds Inv-loop μ-loop
 loop-holds c = (omega arith, omega arith, put-nothing _ _)
 
--- src/lib.rt:200:21
 mul-count : tie.Need-mul-count Inv-loop μ-loop
 mul-count c = omega (arith, c .before .before .before .before .before .before .pre .0 .constants-fit)
 
--- src/lib.rt:200:21
 array-read-count : tie.Need-array-read-count Inv-loop μ-loop
 array-read-count c = omega (arith, c .before .before .before .before .before .before .pre .0 .constants-fit)
 
--- src/lib.rt:201:26
 slice-aggregate-put-group : tie.Need-slice-aggregate-put-group Inv-loop μ-loop
 slice-aggregate-put-group c = search needs
 
--- src/lib.rt:201:9
 put-group-requires : tie.Need-put-group-requires Inv-loop μ-loop
 put-group-requires c κs = let t = c .before .before .before .before .before .before .before .before .args .table in
     let w = c .before .before .before .before .before .before .before .before .pre .0 in
@@ -48,15 +40,12 @@ put-group-requires c κs = let t = c .before .before .before .before .before .be
       omega (arith, group-room (t .rows) size (w .places-fit) few (getD (t .sizes) (l .group) 0) (w .sizes-fit (l .group)), l .inv .1, put-length (l .inv .2), c .before .before .before .before .before .before .before .before .pre .1),
     )
 
--- src/lib.rt:202:9
 add-group : tie.Need-add-group Inv-loop μ-loop
 add-group c = omega (arith, c .before .before .before .before .before .before .before .before .before .before .before .pre .0 .constants-fit)
 
--- src/lib.rt:199:5
 loop-less : tie.Need-loop-less Inv-loop μ-loop
 loop-less c = omega arith
 
--- src/lib.rt:199:5
 loop-again : tie.Need-loop-again Inv-loop μ-loop
 loop-again c = let t = c .before .before .before .before .before .before .before .before .before .before .before .args .table in
     let w = c .before .before .before .before .before .before .before .before .before .before .before .pre .0 in
@@ -74,11 +63,9 @@ loop-again c = let t = c .before .before .before .before .before .before .before
       put-group t (l .group) (l .inv .2) (c .before .before .put-group .ensures),
     )
 
--- src/lib.rt:191:1
 same-length : tie.Need-same-length Inv-loop μ-loop
 same-length c = put-length (c .before .before .loop .inv .2)
 
--- src/lib.rt:191:1
 returns : tie.Need-returns Inv-loop μ-loop
 returns c = let t = c .before .before .before .before .before .before .args .table in
     let same : c .before .before .loop .group ≡ t .unbalanced + 1 = omega arith in (

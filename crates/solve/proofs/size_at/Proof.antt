@@ -3,26 +3,19 @@ use Rattle.solve.proofs.Putting.{size-there, size-beyond}
 use borrow.Author.Needs.{needs}
 use Rattle.solve.proofs.size_at.Statement.{statement}
 use Rattle.solve.proofs.size_at.Tie as tie
-use Rattle.solve.proofs.size_at.Reads as reads
-use Rattle.solve.proofs.size_at.Lts as lts
 
--- src/lib.rt:213:41
 add-result : tie.Need-add-result
 add-result c = search needs
 
--- src/lib.rt:213:35
 mul-result : tie.Need-mul-result
 mul-result c = search needs
 
--- src/lib.rt:213:35
 array-read-result : tie.Need-array-read-result
 array-read-result c = search needs
 
--- src/lib.rt:208:1
 returns : tie.Need-returns
 returns c = size-there (c .before .before .before .pre .0) (search needs) (c .before .before .before .args .place) (c .if1 .taken)
 
--- src/lib.rt:208:1
 returns-2 : tie.Need-returns-2
 returns-2 c = size-beyond (c .before .before .before .pre .0) (search needs) (c .before .before .before .args .place) (c .if1 .left)
 

@@ -5,38 +5,26 @@ use Rattle.solve.proofs.Solving.{solved-refused, solved-after, pair-roo
 use borrow.Author.Needs.{needs}
 use Rattle.solve.proofs.solve.Statement.{statement}
 use Rattle.solve.proofs.solve.Tie as tie
-use Rattle.solve.proofs.solve.Reads as reads
-use Rattle.solve.proofs.solve.Lts as lts
-use Rattle.sides.proofs.take_apart.Reads as take-apart-reads
-use Rattle.solve.proofs.refused.Reads as refused-reads
-use Rattle.solve.proofs.solve_pair.Reads as solve-pair-reads
 
--- src/lib.rt:157:9
 take-apart-requires : tie.Need-take-apart-requires
 take-apart-requires c κs = search needs
 
--- src/lib.rt:161:26
 enum-known-verdict : tie.Need-enum-known-verdict
 enum-known-verdict c = search needs
 
--- src/lib.rt:161:38
 refused-requires : tie.Need-refused-requires
 refused-requires c κs = search needs
 
--- src/lib.rt:162:30
 enum-told : tie.Need-enum-told
 enum-told c = search needs
 
--- src/lib.rt:162:30
 solve-pair-requires : tie.Need-solve-pair-requires
 solve-pair-requires c κs = let parted = c .before .before .before .take-apart .ensures in
     pair-roomy (parted .none-given (c .enum-told .given .1)) (parted .the-pair (c .enum-told .given .1))
 
--- src/lib.rt:154:1
 returns : tie.Need-returns
 returns c = solved-refused (c .refused .ensures) (first-before (12 ∷ []) (c .before .before .before .before .before .take-apart .ensures .refused _ (c .before .before .verdict .given .1)))
 
--- src/lib.rt:154:1
 returns-2 : tie.Need-returns-2
 returns-2 c = let parted = c .before .before .before .before .take-apart .ensures in
     solved-after (parted .none-given (c .before .enum-told .given .1)) (c .solve-pair .ensures _ _ _ (parted .the-pair (c .before .enum-told .given .1)))

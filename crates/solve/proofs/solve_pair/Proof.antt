@@ -8,32 +8,22 @@ use Rattle.solve.proofs.Solving.{getD-zeros, solved-refused, solved-acc
 use borrow.Author.Needs.{needs}
 use Rattle.solve.proofs.solve_pair.Statement.{statement}
 use Rattle.solve.proofs.solve_pair.Tie as tie
-use Rattle.solve.proofs.solve_pair.Reads as reads
-use Rattle.solve.proofs.solve_pair.Lts as lts
-use Rattle.solve.proofs.find_groups.Reads as find-groups-reads
-use Rattle.solve.proofs.refused.Reads as refused-reads
 
--- src/lib.rt:132:26
 slice-aggregate-find-groups : tie.Need-slice-aggregate-find-groups
 slice-aggregate-find-groups c = search needs
 
--- src/lib.rt:132:37
 slice-aggregate-find-groups-2 : tie.Need-slice-aggregate-find-groups-2
 slice-aggregate-find-groups-2 c = search needs
 
--- src/lib.rt:132:9
 find-groups-requires : tie.Need-find-groups-requires
 find-groups-requires c κs = (c .before .before .pre, refl, refl, getD-zeros 5)
 
--- src/lib.rt:133:9
 refused-requires : tie.Need-refused-requires
 refused-requires c κs = search needs
 
--- src/lib.rt:133:9
 returns : tie.Need-returns
 returns c = λ M L R of. solved-refused (c .refused .ensures) (here (c .before .before .before .before .find-groups .ensures M L R of .if-false (not-true _ (c .before .if1 .taken))))
 
--- src/lib.rt:126:1
 returns-2 : tie.Need-returns-2
 returns-2 c = λ M L R of.
     let table = table-of of (c .before .before .before .before .before .before .before .before .before .before .pre) (c .before .before .before .before .before .before .before .find-groups .ensures M L R of .if-true (not-false _ (c .before .before .before .before .if1 .left))) in

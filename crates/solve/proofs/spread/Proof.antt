@@ -1,19 +1,15 @@
+-- `solve::spread` meets its contract: before each turn the rows before i stand at their places. Assumes nothing.
 use Prim.Native.Nat.{ℕ, _≤_, _-_}
 use mathlib.Core.Path.{_≡_, sym, ap, subst, _∙_}
 use lib.ListN.{length}
 use Rattle.solve.proofs.Spreading.{SpreadTo, spread-none, spread-next, spread-all, row-within, row-long, row-part}
--- `solve::spread` meets its contract: before each turn the rows before i stand at their places. Assumes nothing.
 use Prim.Native.Nat.{_≤_, _-_}
-use mathlib.Core.Path.{refl, ap, _∙_}
+use mathlib.Core.Path.{ap, _∙_}
 use native.Mathlib.Omega.{arith}
-use borrow.Author.Needs.{needs}
-use lib.ListN.{length, take, drop}
+use lib.ListN.{length}
 use Rattle.solve.proofs.Spreading.{SpreadTo, spread-none, spread-next, spread-all, row-within}
 use Rattle.solve.proofs.spread.Statement.{statement}
 use Rattle.solve.proofs.spread.Tie as tie
-use Rattle.solve.proofs.spread.Reads as reads
-use Rattle.solve.proofs.spread.Lts as lts
-use Rattle.buffer.proofs.put_bytes.Reads as put-bytes-reads
 
 abbrev Inv-loop : tie.InvT-loop
 Inv-loop found count places group rows₀ i₀ rows i = (i ≤ count) × SpreadTo places group found rows₀ i rows
@@ -21,58 +17,45 @@ Inv-loop found count places group rows₀ i₀ rows i = (i ≤ count) × SpreadT
 abbrev μ-loop : tie.MeasureT-loop
 μ-loop found count places group rows₀ i₀ rows i = count - i
 
--- src/lib.rt:24:5
 loop-holds : tie.Need-loop-holds Inv-loop μ-loop
 loop-holds c = (omega arith, spread-none (c .before .before .pre .1 .1))
 
--- src/lib.rt:25:21
 mul-start : tie.Need-mul-start Inv-loop μ-loop
 mul-start c = omega (arith, row-within (c .before .before .before .before .args .places) (c .before .before .before .before .args .found .now) (c .loop-test .taken) (c .before .before .before .before .pre .1 .0))
 
--- src/lib.rt:26:19
 add-end : tie.Need-add-end Inv-loop μ-loop
 add-end c = omega (arith, row-within (c .before .before .before .before .args .places) (c .before .before .before .before .args .found .now) (c .loop-test .taken) (c .before .before .before .before .pre .1 .0))
 
--- src/lib.rt:27:25
 mul-put-bytes : tie.Need-mul-put-bytes Inv-loop μ-loop
 mul-put-bytes c = omega arith
 
--- src/lib.rt:27:41
 mul-put-bytes-2 : tie.Need-mul-put-bytes-2 Inv-loop μ-loop
 mul-put-bytes-2 c = omega arith
 
--- src/lib.rt:27:25
 add-put-bytes : tie.Need-add-put-bytes Inv-loop μ-loop
 add-put-bytes c = omega arith
 
--- src/lib.rt:27:56
 sub-put-bytes : tie.Need-sub-put-bytes Inv-loop μ-loop
 sub-put-bytes c = omega arith
 
--- src/lib.rt:27:56
 part-put-bytes-start : tie.Need-part-put-bytes-start Inv-loop μ-loop
 part-put-bytes-start c = omega arith
 
--- src/lib.rt:27:56
 part-put-bytes-end : tie.Need-part-put-bytes-end Inv-loop μ-loop
 part-put-bytes-end c = omega (arith, row-within (c .before .before .before .before .before .args .places) (c .before .before .before .before .before .args .found .now) (c .before .loop-test .taken) (c .before .before .before .before .before .pre .1 .0))
 
--- src/lib.rt:27:9
 put-bytes-requires : tie.Need-put-bytes-requires Inv-loop μ-loop
 put-bytes-requires c κs = let a = c .before .before .before .before .before .before .args in
     let test = c .before .before .loop-test .taken in
     let room = c .before .before .before .before .before .before .pre .1 .0 in
     omega (arith, ap length (row-part (a .places) (a .found .now) test room), row-long (a .places) (a .found .now) test room, c .before .before .before .loop .inv .1 .size)
 
--- src/lib.rt:28:9
 add-i : tie.Need-add-i Inv-loop μ-loop
 add-i c = omega arith
 
--- src/lib.rt:24:5
 loop-less : tie.Need-loop-less Inv-loop μ-loop
 loop-less c = omega arith
 
--- src/lib.rt:24:5
 loop-again : tie.Need-loop-again Inv-loop μ-loop
 loop-again c = let a = c .before .before .before .before .before .before .before .before .before .args in
     let test = c .before .before .before .before .before .loop-test .taken in
@@ -80,11 +63,9 @@ loop-again c = let a = c .before .before .before .before .before .before .before
     let bytes = row-part (a .places) (a .found .now) test room in
     (omega arith, spread-next (c .before .before .before .before .before .before .before .before .before .pre .0 .0) (c .before .before .before .before .before .before .before .before .before .pre .0 .2) (omega arith) (ap length bytes ∙ row-long (a .places) (a .found .now) test room) bytes (c .before .before .before .before .before .before .loop .inv .1) (c .before .before .put-bytes .ensures))
 
--- src/lib.rt:18:1
 same-length : tie.Need-same-length Inv-loop μ-loop
 same-length c = c .before .loop .inv .1 .size ∙ sym (c .before .before .before .before .pre .1 .1)
 
--- src/lib.rt:18:1
 returns : tie.Need-returns Inv-loop μ-loop
 returns c = let a = c .before .before .before .before .args in
     let same : c .before .loop .i ≡ a .count = omega arith in

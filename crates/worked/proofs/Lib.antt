@@ -7,3 +7,4 @@ pub mod WrongReads
 pub mod WrongRows
 pub mod WrongPages
 pub mod WrongValues
+pub mod WrongTallies

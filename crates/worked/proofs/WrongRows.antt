@@ -7,7 +7,6 @@ use lib.ListN.{length, getD, replicate}
 use Rattle.ac.specs.Pair.{unifying}
 use Rattle.ac.specs.Search.{groups}
 use Rattle.ac.proofs.Groups.{groups-exist}
-use Rattle.solve.specs.Rows.{RowsOutcome}
 use Rattle.solve.specs.Rows.{groups as sizes}
 use Rattle.worked.specs.Questions.{RowsAsked, rowsQuestion}
 use Rattle.worked.specs.Answers.{RowsGives, numbered}
@@ -43,10 +42,12 @@ module _ (program : Program rowsQuestion) where
     constant-fails =
         wrong.constant-fails program (four-rows out enough) (two-rows out enough) (λ e. let z : _≡_ {A = ℕ} 4 0 = cc e in omega arith)
 
-    -- It invents row counts: at pair 10 any other sizes than no balanced row and, for one constant, two.
-    pub invented-sizes-fail : (sizes′ : RowsOutcome) → program (asked 10) out .outcome ≡ sizes′ → (sizes′ ≡ sizes 0 1 2 0 0 0 → ⊥)
-        → MeetsAt program (asked 10) out → ⊥
-    invented-sizes-fail sizes′ returns others = wrong.other-outcome-fails program (two-rows out enough) (λ e. others (cc (e, returns)))
+    -- It invents row counts: pair 10 has no balanced row and one unbalanced constant, which has two.
+    pub invented-sizes-fail : (balanced constants first second third fourth : ℕ)
+        → program (asked 10) out .outcome ≡ sizes balanced constants first second third fourth
+        → (sizes balanced constants first second third fourth ≡ sizes 0 1 2 0 0 0 → ⊥) → MeetsAt program (asked 10) out → ⊥
+    invented-sizes-fail balanced constants first second third fourth returns others =
+        wrong.other-outcome-fails program (two-rows out enough) (λ e. others (cc (e, returns)))
 
   -- It writes nothing: where zeros are lent, the 1 of row 0101 of pair 2 is missing.
   pub writing-nothing-fails : WritesNothing program → MeetsAt program (asked 2) (replicate 480 0) → ⊥

@@ -38,8 +38,8 @@ ReadGives block number left right = (lent : TwoBuffers) → 64 ≤ length (lent 
 module _ (L R : List ℕ) where
   -- Rows gives these sizes of the groups, and these rows.
   abbrev pub RowsGives : RowsOutcome → List (List ℕ) → Type 0
-  RowsGives sizes rows = (out : List ℕ) → 480 ≤ length out
-      → Answers rowsQuestion (record { left = L; right = R }) out sizes (receives out (bytesOf rows))
+  RowsGives sizes vectors = (out : List ℕ) → 480 ≤ length out
+      → Answers rowsQuestion (record { left = L; right = R }) out sizes (receives out (bytesOf vectors))
 
   -- Rows gives the sizes and rows of the groups of the pair, which are such.
   abbrev pub RowsGiveSuch : (Groups → Type 0) → Type 0

@@ -93,7 +93,8 @@ module _ {L R : List ℕ} {G : Groups}
   page-gives (key ∷ others) e few out enough = page-from start (λ k same. absurd (start-not-after same)) key others e few out enough
 
   -- a listed key without a long value has its values
-  pub values-give : (key : ℕ) → List·Memᴰ key (keys unifying layout L R G) → (LongValue unifying L R G key → ⊥) → ValuesGives L R key (valuesOf unifying L R G key)
+  pub values-give : (key : ℕ) → List·Memᴰ key (keys unifying layout L R G) → (LongValue unifying L R G key → ⊥)
+      → ValuesGives L R key (valuesOf unifying L R G key)
   values-give key listed-key short out enough =
       let met = is-written (none-at-all enough groups nothing listed-key short) groups in
       record { meets = met; alone = λ other exit p. values-determined p met }

@@ -26,9 +26,13 @@ module _ (L R : List ℕ) where
   abbrev list : List ℕ
   list = keys unifying layout L R (groups unifying L R)
 
+  -- how many atoms a key's value of a variable has
+  abbrev atomsOf : ℕ → ℕ → ℕ
+  atomsOf key x = length (value unifying (layout .new) L R (groups unifying L R) (selectionAt layout (groups unifying L R) key) x)
+
   -- no value of the key has more than 200 atoms
   abbrev shortValues : ℕ → Bool
-  shortValues key = every (λ x. leb (length (value unifying (layout .new) L R (groups unifying L R) (selectionAt layout (groups unifying L R) key) x)) 200) (variables unifying L R)
+  shortValues key = every (λ x. leb (atomsOf key x) 200) (variables unifying L R)
 
   -- the limits are kept, and there are at most 200 keys, none of them with a long value
   abbrev tests : List Bool
@@ -47,13 +51,8 @@ module _ (L R : List ℕ) (passes : all (tests L R) ≡ true) where
 
   no-long-value : {key : ℕ} → List·Memᴰ key (list L R) → LongValue unifying L R (groups unifying L R) key → ⊥
   no-long-value {key} m l =
-      let short : every (shortValues L R) (list L R) ≡ true = each (tests L R) passes 2 in
-      let size : ℕ → ℕ = λ x. length (value unifying (layout .new) L R (groups unifying L R) (selectionAt layout (groups unifying L R) key) x) in
-      omega (
-        arith,
-        l .long,
-        leb-true (size (l .variable)) 200 (every-member (λ x. leb (size x) 200) (every-member (shortValues L R) short m) (l .of-the-pair)),
-      )
+      let short : shortValues L R key ≡ true = every-member (shortValues L R) (each (tests L R) passes 2) m in
+      omega (arith, l .long, leb-true (atomsOf L R key (l .variable)) 200 (every-member (λ x. leb (atomsOf L R key x) 200) short (l .of-the-pair)))
 
   computed : AnswersBy L R (groups unifying L R)
   computed =

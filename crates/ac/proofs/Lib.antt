@@ -36,4 +36,5 @@ pub mod Listed
 pub mod Pages
 pub mod Fages
 pub mod MinimalSet
+pub mod Tests
 pub mod Worked

@@ -1,7 +1,7 @@
 -- Pairs 1 to 12 of document 01: one test, computed over the table, and the law that turns it into what the document prints of each pair.
 use Prim.Native.Nat.{ℕ}
-use mathlib.Core.Path.{_≡_, refl, ap, ap₂, subst, _∙_}
-use mathlib.Core.Bool.{Bool, true, false, _&&_, _||_, and-eq-true-iff, false≢true}
+use mathlib.Core.Path.{_≡_, refl, subst}
+use mathlib.Core.Bool.{Bool, true, false, _&&_, _||_, false≢true}
 use mathlib.Core.List.{List, [], _∷_, List·Memᴰ, List·Memᴰ·head, List·Memᴰ·tail}
 use borrow.Author.Tests.{eqb-true}
 use lib.Dec.{eqb}
@@ -10,48 +10,19 @@ use Rattle.ac.specs.Pair.{unifying}
 use Rattle.ac.specs.Rows.{Group, Groups}
 use Rattle.ac.specs.Keys.{layout, keys}
 use Rattle.ac.specs.Search.{groups}
+use Rattle.ac.specs.Values.{Binding}
 use Rattle.ac.proofs.Groups.{groups-exist, groups-unique}
-use Rattle.ac.specs.Worked.{Valued, Printed, rows, balanced-rows, rows-of, the-keys, substitutions, Pair, pairs, valuesOf, Holds, AsPrinted}
+use Rattle.ac.proofs.Tests.{both, every, every-member, Tests, equalLists, lists-equal}
+use Rattle.ac.specs.Worked.{Printed, rows, balanced-rows, rows-of, the-keys, substitutions, Pair, pairs, valuesOf, Holds, AsPrinted}
 
--- both tests pass
-both : (s t : Bool) → s && t ≡ true → (s ≡ true) × (t ≡ true)
-both s t e = and-eq-true-iff s t .0 e
+abbrev equalBindings : Binding → Binding → Bool
+equalBindings a b = eqb (a .variable) (b .variable) && equalLists eqb (a .value) (b .value)
 
--- every member passes
-abbrev every : {A : Type 0} → (A → Bool) → List A → Bool
-every passes [] = true
-every passes (a ∷ xs) = passes a && every passes xs
-
-every-member : {A : Type 0} (passes : A → Bool) {a : A} {xs : List A} → every passes xs ≡ true → List·Memᴰ a xs → passes a ≡ true
-every-member passes {xs = x ∷ xs} e (List·Memᴰ·head q) = ap passes q ∙ both (passes x) (every passes xs) e .0
-every-member passes {xs = x ∷ xs} e (List·Memᴰ·tail m) = every-member passes (both (passes x) (every passes xs) e .1) m
-
--- a test of equality for members, and what it is for lists
-abbrev Tests : {A : Type 0} → (A → A → Bool) → Type 0
-Tests {A} same = (a b : A) → same a b ≡ true → a ≡ b
-
-abbrev equalLists : {A : Type 0} → (A → A → Bool) → List A → List A → Bool
-equalLists same [] [] = true
-equalLists same [] (b ∷ ys) = false
-equalLists same (a ∷ xs) [] = false
-equalLists same (a ∷ xs) (b ∷ ys) = same a b && equalLists same xs ys
-
-lists-equal : {A : Type 0} {same : A → A → Bool} → Tests same → Tests (equalLists same)
-lists-equal tests [] [] e = refl
-lists-equal tests [] (b ∷ ys) e = absurd (false≢true e)
-lists-equal tests (a ∷ xs) [] e = absurd (false≢true e)
-lists-equal {A} {same} tests (a ∷ xs) (b ∷ ys) e =
-    let t = both (same a b) (equalLists same xs ys) e in
-    ap₂ {C = List A} (λ x l. x ∷ l) (tests a b (t .0)) (lists-equal tests xs ys (t .1))
-
-abbrev equalValued : Valued → Valued → Bool
-equalValued a b = eqb (a .variable) (b .variable) && equalLists eqb (a .atoms) (b .atoms)
-
-valued-equal : Tests equalValued
-valued-equal a b e = λ i. record { variable = eqb-true (a .variable) (b .variable) (t .0) i; atoms = lists-equal eqb-true (a .atoms) (b .atoms) (t .1) i }
+bindings-equal : Tests equalBindings
+bindings-equal a b e = λ i. record { variable = eqb-true (a .variable) (b .variable) (t .0) i; value = lists-equal eqb-true (a .value) (b .value) (t .1) i }
   where
-    t : (eqb (a .variable) (b .variable) ≡ true) × (equalLists eqb (a .atoms) (b .atoms) ≡ true)
-    t = both (eqb (a .variable) (b .variable)) (equalLists eqb (a .atoms) (b .atoms)) e
+    t : (eqb (a .variable) (b .variable) ≡ true) × (equalLists eqb (a .value) (b .value) ≡ true)
+    t = both (eqb (a .variable) (b .variable)) (equalLists eqb (a .value) (b .value)) e
 
 -- some group belongs to the constant and has that many rows
 abbrev hasRows : ℕ → ℕ → List Group → Bool
@@ -64,7 +35,7 @@ test L R G (rows rs) = equalLists (equalLists eqb) (G .balanced) rs
 test L R G (balanced-rows k) = eqb (length (G .balanced)) k
 test L R G (rows-of a k) = hasRows a k (G .constants)
 test L R G (the-keys ks) = equalLists eqb (keys unifying layout L R G) ks
-test L R G (substitutions vs) = equalLists (equalLists equalValued) (valuesOf L R G) vs
+test L R G (substitutions vs) = equalLists (equalLists equalBindings) (valuesOf L R G) vs
 
 abbrev testPair : Pair → Bool
 testPair pair = every (test (pair .left) (pair .right) (groups unifying (pair .left) (pair .right))) (pair .printed)
@@ -91,7 +62,7 @@ test-holds L R G (rows rs) e = lists-equal (lists-equal eqb-true) (G .balanced) 
 test-holds L R G (balanced-rows k) e = eqb-true (length (G .balanced)) k e
 test-holds L R G (rows-of a k) e = has-rows a k (G .constants) e
 test-holds L R G (the-keys ks) e = lists-equal eqb-true (keys unifying layout L R G) ks e
-test-holds L R G (substitutions vs) e = lists-equal (lists-equal valued-equal) (valuesOf L R G) vs e
+test-holds L R G (substitutions vs) e = lists-equal (lists-equal bindings-equal) (valuesOf L R G) vs e
 
 -- Pairs 1 to 12: all that document 01 prints of them holds.
 pub worked-pairs : (pair : Pair) → List·Memᴰ pair pairs → AsPrinted pair

@@ -7,6 +7,7 @@ use Rattle.ac.specs.Pair.{unifying, variables}
 use Rattle.ac.specs.Rows.{Group, Groups, GroupsOf}
 use Rattle.ac.specs.Selection.{value}
 use Rattle.ac.specs.Keys.{layout, listed, keys}
+use Rattle.ac.specs.Values.{Binding, bindings}
 
 -- 0 to 63 are variables v0 to v63, 64 to 127 are constants c0 to c63; in answers 192 to 207 are new variables n0 to n15
 abbrev v : ℕ → ℕ
@@ -19,13 +20,9 @@ abbrev n : ℕ → ℕ
 n i = 192 + i
 
 -- a variable and its value
-pub record Valued : Type 0 where
-  pub variable : ℕ
-  pub atoms : List ℕ
-
 infix 60 _is_
-abbrev pub _is_ : ℕ → List ℕ → Valued
-x is atoms = record { variable = x; atoms = atoms }
+abbrev pub _is_ : ℕ → List ℕ → Binding
+x is atoms = record { variable = x; value = atoms }
 
 -- What the document prints of a pair.
 pub data Printed : Type 0 where
@@ -33,7 +30,7 @@ pub data Printed : Type 0 where
   balanced-rows : ℕ → Printed  -- how many balanced rows there are
   rows-of : ℕ → ℕ → Printed  -- a constant, and how many rows it has
   the-keys : List ℕ → Printed  -- the keys of the list
-  substitutions : List (List Valued) → Printed  -- what the selections of the list give the variables
+  substitutions : List (List Binding) → Printed  -- what the selections of the list give the variables
 
 -- number 13: no selection is admissible
 abbrev thirteen : Printed
@@ -99,9 +96,8 @@ pairs =
     ∷ record { left = v 0 ∷ v 1 ∷ []; right = c 0 ∷ c 1 ∷ []; printed = the-keys (16_777_216 ∷ 268_435_456 ∷ []) ∷ [] } ∷ []
 
 -- what the selections of the list give the variables, ascending
-abbrev pub valuesOf : List ℕ → List ℕ → Groups → List (List Valued)
-valuesOf L R G =
-    map (λ s. map (λ x. x is value unifying (layout .new) L R G s x) (variables unifying L R)) (listed unifying layout L R G)
+abbrev pub valuesOf : List ℕ → List ℕ → Groups → List (List Binding)
+valuesOf L R G = map (λ s. bindings (value unifying (layout .new) L R G s) (variables unifying L R)) (listed unifying layout L R G)
 
 -- What is printed holds of the sides and their groups.
 abbrev pub Holds : List ℕ → List ℕ → Groups → Printed → Type 0

@@ -56,6 +56,14 @@ part-small values from n small i = take-small (drop from values) n i (subst (λ 
     take-small (a ∷ s) (suc n) zero h = h
     take-small (a ∷ s) (suc n) (suc i) h = take-small s n i h
 
+-- the first of several bindings: its text is at most five bytes for each byte before its end
+pub first-short : (values : List ℕ) (end : ℕ) → 0 < end → end ≤ length values → ((i : ℕ) → getD values i 0 < 256) →
+    length (bound (bindingOf (take end values))) ≤ 5 * end
+first-short values end some within small =
+    let long : length (take end values) ≡ end = length-take-le end values within in
+    let short = bound-short (take end values) (part-small values 0 end small) (omega arith) in
+    omega (arith, short)
+
 -- the bytes of one binding
 abbrev bytesOf : Binding → List ℕ
 bytesOf b = b .variable ∷ length (b .value) ∷ b .value

@@ -2,9 +2,10 @@
 //
 // Every function answers the place after what it put, and leaves every other byte of the buffer as it was.
 ghost use mathlib.Core.Path.{_≡_};
-ghost use mathlib.Core.List.{List, _∷_};
+ghost use mathlib.Core.List.{List, _∷_, _++_};
 ghost use Prim.Native.Nat.{_+_, _*_, _≤_, _<_, min};
 ghost use lib.ListN.{length, getD};
+ghost use Rattle.text.specs.Ascii.{ascii};
 ghost use Rattle.text.specs.Decimal.{decimal};
 ghost use Rattle.ac.specs.Values.{Binding, laidOut};
 ghost use Rattle.buffer.specs.Put.{Put};
@@ -54,7 +55,7 @@ pub fn put_name(out: &mut [u8], at: usize, atom: u8) -> usize
 // A further atom of a value: the + that joins it, and its name.
 fn put_further(out: &mut [u8], at: usize, atom: u8) -> usize
     requires { ⌜ at + 25 ≤ length (now out) ⌝ }
-    ensures { λ r. ⌜ Put (now (out .entry)) at (43 ∷ name atom) r (now (out .exit)) ⌝ }
+    ensures { λ r. ⌜ Put (now (out .entry)) at (ascii "+" ++ name atom) r (now (out .exit)) ⌝ }
 {
     out[at] = b'+';
     put_name(out, at + 1, atom)
@@ -122,6 +123,7 @@ fn binding_end(values: &[u8], from: usize) -> usize
 fn put_spaced(out: &mut [u8], at: usize, values: &[u8]) -> usize
     requires { ⌜ at + 6 * length (now values) + 31 ≤ length (now out) ⌝ }
     ensures { λ r. ⌜ ((bs : List Binding) → laidOut bs ≡ now (values .entry) → Put (now (out .entry)) at (spaced bs) r (now (out .exit))) ⌝ }
+    ensures { λ r. ⌜ r ≤ at + 6 * length (now (values .entry)) ⌝ }
 {
     let mut next = at;
     let mut from = 0;
@@ -138,6 +140,7 @@ fn put_spaced(out: &mut [u8], at: usize, values: &[u8]) -> usize
 pub fn put_substitution(out: &mut [u8], at: usize, values: &[u8]) -> usize
     requires { ⌜ at + 6 * length (now values) + 31 ≤ length (now out) ⌝ }
     ensures { λ r. ⌜ ((bs : List Binding) → laidOut bs ≡ now (values .entry) → Put (now (out .entry)) at (substitution bs) r (now (out .exit))) ⌝ }
+    ensures { λ r. ⌜ r ≤ at + 6 * length (now (values .entry)) + 1 ⌝ }
 {
     if values.len() == 0 {
         out[at] = b'-';

@@ -70,7 +70,7 @@ same-length : tie.Need-same-length Inv-loop μ-loop
 same-length c = c .before .loop .inv .2
 
 returns : tie.Need-returns Inv-loop μ-loop
-returns c = λ bs e. told-all (omega arith) (c .before .loop .inv .3 bs e)
+returns c = ((λ bs e. told-all (omega arith) (c .before .loop .inv .3 bs e)), omega arith)
 
 pub put-spaced-spec : {M : Type 1} → statement M
 put-spaced-spec =

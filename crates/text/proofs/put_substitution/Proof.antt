@@ -6,7 +6,7 @@ use lib.ListN.{length, take, drop, length-take, length-drop}
 use lib.Seq.{length-take-le}
 use Rattle.text.specs.Text.{bound, bindingOf}
 use Rattle.buffer.proofs.Puts.{put-byte, put-as, put-length}
-use Rattle.text.proofs.Bindings.{substitution-none, substitution-first, bound-short, part-small}
+use Rattle.text.proofs.Bindings.{substitution-none, substitution-first, first-short}
 use borrow.Author.Needs.{needs}
 use Rattle.text.proofs.put_substitution.Statement.{statement}
 use Rattle.text.proofs.put_substitution.Tie as tie
@@ -21,7 +21,7 @@ same-length : tie.Need-same-length
 same-length c = search needs
 
 returns : tie.Need-returns
-returns c = λ bs e. put-as (substitution-none bs _ (c .if1 .taken) e) (put-byte _ _ 45)
+returns c = ((λ bs e. put-as (substitution-none bs _ (c .if1 .taken) e) (put-byte _ _ 45)), omega arith)
 
 binding-end-requires : tie.Need-binding-end-requires
 binding-end-requires c κs = search needs
@@ -51,15 +51,14 @@ put-spaced-requires : tie.Need-put-spaced-requires
 put-spaced-requires c κs =
     let v = c .before .before .before .before .before .before .before .before .before .before .before .args .values .now in
     let end = c .before .before .before .before .before .before .before .binding-end in
+    let first = c .before .before .before .before .put-bound in
+    let some : 0 < end .result = omega (arith, end .ensures) in
     let within : end .result ≤ length v = omega (arith, end .ensures) in
-    let some : 0 < length (take (end .result) v) = omega (arith, length-take-le (end .result) v within, end .ensures) in
-    let short : length (bound (bindingOf (take (end .result) v))) ≤ 5 * length (take (end .result) v) =
-    bound-short (take (end .result) v) (part-small v 0 (end .result) (λ i. c .before .before .before .before .before .before .before .before .before .shared-slice-known .given i .fits)) some in
     omega (
       arith,
-      length-take-le (end .result) v within,
-      c .before .before .before .before .put-bound .ensures .place,
-      put-length (c .before .before .before .before .put-bound .ensures),
+      first .ensures .place,
+      put-length (first .ensures),
+      first-short v (end .result) some within (λ i. c .before .before .before .before .before .before .before .before .before .shared-slice-known .given i .fits),
       length-take (length v - end .result) (drop (end .result) v),
       length-drop (end .result) v,
     )
@@ -68,7 +67,23 @@ same-length-2 : tie.Need-same-length-2
 same-length-2 c = search needs
 
 returns-2 : tie.Need-returns-2
-returns-2 c = λ bs e. substitution-first bs (omega arith) (c .before .before .before .before .before .before .before .before .before .before .binding-end .ensures) e (c .before .before .before .before .before .before .before .put-bound .ensures) (c .before .before .put-spaced .ensures)
+returns-2 c =
+    let v = c .before .before .before .before .before .before .before .before .before .before .before .before .before .before .args .values .now in
+    let end = c .before .before .before .before .before .before .before .before .before .before .binding-end in
+    let first = c .before .before .before .before .before .before .before .put-bound in
+    let others = c .before .before .put-spaced in
+    let some : 0 < end .result = omega (arith, end .ensures) in
+    let within : end .result ≤ length v = omega (arith, end .ensures) in (
+      λ bs e. substitution-first bs (omega arith) (end .ensures) e (first .ensures) (others .ensures .0),
+      omega (
+        arith,
+        others .ensures .1,
+        first .ensures .place,
+        first-short v (end .result) some within (λ i. c .before .before .before .before .before .before .before .before .before .before .before .before .shared-slice-known .given i .fits),
+        length-take (length v - end .result) (drop (end .result) v),
+        length-drop (end .result) v,
+      ),
+    )
 
 pub put-substitution-spec : {M : Type 1} → statement M
 put-substitution-spec =

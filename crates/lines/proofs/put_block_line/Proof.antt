@@ -1,0 +1,60 @@
+-- `lines::put_block_line` meets its contract: each kind of line has its own arm. Assumes nothing.
+use mathlib.Core.Path.{sym, ap}
+use Rattle.lines.specs.Lines.{blockLine}
+use Rattle.buffer.proofs.Puts.{put-as}
+use borrow.Author.Needs.{needs}
+use Rattle.lines.proofs.put_block_line.Statement.{statement}
+use Rattle.lines.proofs.put_block_line.Tie as tie
+
+enum-known-line : tie.Need-enum-known-line
+enum-known-line c = search needs
+
+put-rows-requires : tie.Need-put-rows-requires
+put-rows-requires c κs = search needs
+
+enum-told : tie.Need-enum-told
+enum-told c = search needs
+
+put-none-requires : tie.Need-put-none-requires
+put-none-requires c κs = search needs
+
+enum-known-line-2 : tie.Need-enum-known-line-2
+enum-known-line-2 c = search needs
+
+put-refused-requires : tie.Need-put-refused-requires
+put-refused-requires c κs = search needs
+
+same-length : tie.Need-same-length
+same-length c = search needs
+
+returns : tie.Need-returns
+returns c = (put-as (sym (ap (blockLine (c .before .before .before .before .before .before .before .before .args .place)) (c .before .before .before .before .before .line .given .1))) (c .before .before .put-rows .ensures .0), c .before .before .put-rows .ensures .1)
+
+same-length-2 : tie.Need-same-length-2
+same-length-2 c = search needs
+
+returns-2 : tie.Need-returns-2
+returns-2 c = (put-as (sym (ap (blockLine (c .before .before .before .before .before .before .before .args .place)) (c .before .before .before .before .enum-told .given .1))) (c .before .before .put-none .ensures .0), c .before .before .put-none .ensures .1)
+
+same-length-3 : tie.Need-same-length-3
+same-length-3 c = search needs
+
+returns-3 : tie.Need-returns-3
+returns-3 c = (put-as (sym (ap (blockLine (c .before .before .before .before .before .before .before .before .args .place)) (c .before .before .before .before .before .line2 .given .1))) (c .before .before .put-refused .ensures .0), c .before .before .put-refused .ensures .1)
+
+pub put-block-line-spec : {M : Type 1} → statement M
+put-block-line-spec =
+    tie.close
+    (tie.spec
+    enum-known-line
+    put-rows-requires
+    enum-told
+    put-none-requires
+    enum-known-line-2
+    put-refused-requires
+    same-length
+    returns
+    same-length-2
+    returns-2
+    same-length-3
+    returns-3)

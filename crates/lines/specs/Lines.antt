@@ -1,0 +1,63 @@
+-- The nightly program's lines (document 01, "The nightly program"). Numbers are decimal; every line ends in a line feed.
+use Prim.Native.Nat.{ℕ}
+use mathlib.Core.Bool.{Bool, cond}
+use mathlib.Core.List.{List, [], _++_}
+use Rattle.ac.specs.Values.{Binding}
+use Rattle.text.specs.Ascii.{ascii}
+use Rattle.text.specs.Decimal.{decimal}
+use Rattle.text.specs.Text.{substitution}
+use Rattle.tally.specs.declared.Line.{Line}
+use Rattle.tally.specs.declared.Line.the-variants.{Listed, NoUnifier, Refused}
+use Rattle.tally.specs.declared.Counts.{Counts}
+use Rattle.tally.specs.declared.Closing.{Closing}
+use Rattle.tally.specs.declared.Closing.the-variants.{NothingRead, Counted, TooLong}
+
+-- a word and a number behind it
+abbrev pub labelled : List ℕ → ℕ → List ℕ
+labelled word number = word ++ decimal number
+
+-- `block P rows H K` (place in the file from 0, balanced rows, rows of all constants)
+abbrev pub rowsLine : ℕ → ℕ → ℕ → List ℕ
+rowsLine P H K = labelled (ascii "block ") P ++ labelled (ascii " rows ") H ++ labelled (ascii " ") K ++ ascii "\n"
+
+-- No unifier gives `block P none`; ..
+abbrev pub noneLine : ℕ → List ℕ
+noneLine P = labelled (ascii "block ") P ++ ascii " none\n"
+
+-- .. any other number `block P refused X`.
+abbrev pub refusedLine : ℕ → ℕ → List ℕ
+refusedLine P X = labelled (ascii "block ") P ++ labelled (ascii " refused ") X ++ ascii "\n"
+
+abbrev pub blockLine : ℕ → Line → List ℕ
+blockLine P (Listed H K N more) = rowsLine P H K
+blockLine P NoUnifier = noneLine P
+blockLine P (Refused X) = refusedLine P X
+
+-- then the first page, one substitution a line
+abbrev pub substitutionLine : List Binding → List ℕ
+substitutionLine bs = substitution bs ++ ascii "\n"
+
+-- then `end N` (lines printed) or `more`
+abbrev pub pageEnd : ℕ → Bool → List ℕ
+pageEnd N more = cond more (ascii "more\n") (labelled (ascii "end ") N ++ ascii "\n")
+
+-- where there is no page, nothing
+abbrev pub endLine : Line → List ℕ
+endLine (Listed H K N more) = pageEnd N more
+endLine NoUnifier = []
+endLine (Refused X) = []
+
+-- `blocks B listed L none U refused F`
+abbrev pub countsLine : Counts → List ℕ
+countsLine c =
+    labelled (ascii "blocks ") (c .blocks)
+    ++ labelled (ascii " listed ") (c .listed)
+    ++ labelled (ascii " none ") (c .none)
+    ++ labelled (ascii " refused ") (c .refused)
+    ++ ascii "\n"
+
+-- If input remains, the line `too long` stands before the last line; for an empty input only `nothing read`.
+abbrev pub closingLines : Closing → List ℕ
+closingLines NothingRead = ascii "nothing read\n"
+closingLines (Counted c) = countsLine c
+closingLines (TooLong c) = ascii "too long\n" ++ countsLine c

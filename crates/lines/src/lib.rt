@@ -1,0 +1,147 @@
+// The nightly program's lines, put into a lent buffer from a place on (document 01, "The nightly program").
+//
+// Every function answers the place after what it put, and leaves every other byte of the buffer as it was.
+ghost use Prim.Native.Nat.{_+_, _*_, _≤_};
+ghost use mathlib.Core.Path.{_≡_};
+ghost use mathlib.Core.List.{List};
+ghost use lib.ListN.{length};
+ghost use Rattle.ac.specs.Values.{Binding, laidOut};
+ghost use Rattle.buffer.specs.Put.{Put};
+ghost use Rattle.lines.specs.Lines.{labelled, rowsLine, noneLine, refusedLine, blockLine, pageEnd, endLine, substitutionLine, countsLine, closingLines};
+use buffer::put_bytes;
+use tally::Closing;
+use tally::Counts;
+use tally::Line;
+use text::put_number;
+use text::put_substitution;
+
+// A word and a number behind it, which has at most 20 digits.
+fn put_labelled(out: &mut [u8], at: usize, word: &[u8], number: u64) -> usize
+    requires { ⌜ at + (length (now word) + 20) ≤ length (now out) ⌝ }
+    ensures { λ r. ⌜ Put (now (out .entry)) at (labelled (now (word .entry)) number) r (now (out .exit)) ⌝ }
+    ensures { λ r. ⌜ r ≤ at + (length (now (word .entry)) + 20) ⌝ }
+{
+    let next = put_bytes(out, at, word);
+    put_number(out, next, number)
+}
+
+// `block P rows H K`.
+fn put_rows(out: &mut [u8], at: usize, place: u64, balanced: u64, of_constants: u64) -> usize
+    requires { ⌜ at + 128 ≤ length (now out) ⌝ }
+    ensures { λ r. ⌜ Put (now (out .entry)) at (rowsLine place balanced «of_constants») r (now (out .exit)) ⌝ }
+    ensures { λ r. ⌜ r ≤ at + 128 ⌝ }
+{
+    let next = put_labelled(out, at, b"block ", place);
+    let next = put_labelled(out, next, b" rows ", balanced);
+    let next = put_labelled(out, next, b" ", of_constants);
+    put_bytes(out, next, b"\n")
+}
+
+// `block P none`.
+fn put_none(out: &mut [u8], at: usize, place: u64) -> usize
+    requires { ⌜ at + 128 ≤ length (now out) ⌝ }
+    ensures { λ r. ⌜ Put (now (out .entry)) at (noneLine place) r (now (out .exit)) ⌝ }
+    ensures { λ r. ⌜ r ≤ at + 128 ⌝ }
+{
+    let next = put_labelled(out, at, b"block ", place);
+    put_bytes(out, next, b" none\n")
+}
+
+// `block P refused X`.
+fn put_refused(out: &mut [u8], at: usize, place: u64, number: u8) -> usize
+    requires { ⌜ at + 128 ≤ length (now out) ⌝ }
+    ensures { λ r. ⌜ Put (now (out .entry)) at (refusedLine place number) r (now (out .exit)) ⌝ }
+    ensures { λ r. ⌜ r ≤ at + 128 ⌝ }
+{
+    let next = put_labelled(out, at, b"block ", place);
+    let next = put_labelled(out, next, b" refused ", number as u64);
+    put_bytes(out, next, b"\n")
+}
+
+// The line that a block has, whatever was found.
+pub fn put_block_line(out: &mut [u8], at: usize, place: u64, line: Line) -> usize
+    requires { ⌜ at + 128 ≤ length (now out) ⌝ }
+    ensures { λ r. ⌜ Put (now (out .entry)) at (blockLine place line) r (now (out .exit)) ⌝ }
+    ensures { λ r. ⌜ r ≤ at + 128 ⌝ }
+{
+    match line {
+        Line::Listed {
+            balanced,
+            of_constants,
+            lines: _,
+            more: _,
+        } => put_rows(out, at, place, balanced, of_constants),
+        Line::NoUnifier => put_none(out, at, place),
+        Line::Refused(number) => put_refused(out, at, place, number),
+    }
+}
+
+// `more`, or `end N`.
+fn put_page_end(out: &mut [u8], at: usize, lines: u64, more: bool) -> usize
+    requires { ⌜ at + 128 ≤ length (now out) ⌝ }
+    ensures { λ r. ⌜ Put (now (out .entry)) at (pageEnd lines more) r (now (out .exit)) ⌝ }
+    ensures { λ r. ⌜ r ≤ at + 128 ⌝ }
+{
+    if more {
+        return put_bytes(out, at, b"more\n");
+    }
+    let next = put_labelled(out, at, b"end ", lines);
+    put_bytes(out, next, b"\n")
+}
+
+// What stands after the page of a block that has one.
+pub fn put_end_line(out: &mut [u8], at: usize, line: Line) -> usize
+    requires { ⌜ at + 128 ≤ length (now out) ⌝ }
+    ensures { λ r. ⌜ Put (now (out .entry)) at (endLine line) r (now (out .exit)) ⌝ }
+    ensures { λ r. ⌜ r ≤ at + 128 ⌝ }
+{
+    match line {
+        Line::Listed {
+            balanced: _,
+            of_constants: _,
+            lines,
+            more,
+        } => put_page_end(out, at, lines, more),
+        Line::NoUnifier => at,
+        Line::Refused(_) => at,
+    }
+}
+
+// `blocks B listed L none U refused F`.
+fn put_counts(out: &mut [u8], at: usize, counts: Counts) -> usize
+    requires { ⌜ at + 112 ≤ length (now out) ⌝ }
+    ensures { λ r. ⌜ Put (now (out .entry)) at (countsLine counts) r (now (out .exit)) ⌝ }
+    ensures { λ r. ⌜ r ≤ at + 112 ⌝ }
+{
+    let next = put_labelled(out, at, b"blocks ", counts.blocks);
+    let next = put_labelled(out, next, b" listed ", counts.listed);
+    let next = put_labelled(out, next, b" none ", counts.none);
+    let next = put_labelled(out, next, b" refused ", counts.refused);
+    put_bytes(out, next, b"\n")
+}
+
+// The lines at the end.
+pub fn put_closing(out: &mut [u8], at: usize, closing: Closing) -> usize
+    requires { ⌜ at + 128 ≤ length (now out) ⌝ }
+    ensures { λ r. ⌜ Put (now (out .entry)) at (closingLines closing) r (now (out .exit)) ⌝ }
+    ensures { λ r. ⌜ r ≤ at + 128 ⌝ }
+{
+    match closing {
+        Closing::NothingRead => put_bytes(out, at, b"nothing read\n"),
+        Closing::Counted(counts) => put_counts(out, at, counts),
+        Closing::TooLong(counts) => {
+            let next = put_bytes(out, at, b"too long\n");
+            put_counts(out, next, counts)
+        }
+    }
+}
+
+// The line of a substitution, from the bytes of Values.
+pub fn put_substitution_line(out: &mut [u8], at: usize, values: &[u8]) -> usize
+    requires { ⌜ at + 6 * length (now values) + 32 ≤ length (now out) ⌝ }
+    ensures { λ r. ⌜ ((bs : List Binding) → laidOut bs ≡ now (values .entry) → Put (now (out .entry)) at (substitutionLine bs) r (now (out .exit))) ⌝ }
+    ensures { λ r. ⌜ r ≤ at + 6 * length (now (values .entry)) + 32 ⌝ }
+{
+    let next = put_substitution(out, at, values);
+    put_bytes(out, next, b"\n")
+}

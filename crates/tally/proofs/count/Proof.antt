@@ -1,0 +1,49 @@
+-- `tally::count` meets its contract: each arm raises B and the count of its own kind of line. Assumes nothing.
+use borrow.Author.Needs.{needs}
+use Rattle.tally.proofs.count.Statement.{statement}
+use Rattle.tally.proofs.count.Tie as tie
+
+one-more-requires : tie.Need-one-more-requires
+one-more-requires c κs = search needs
+
+enum-told : tie.Need-enum-told
+enum-told c = search needs
+
+one-more-requires-2 : tie.Need-one-more-requires-2
+one-more-requires-2 c κs = search needs
+
+enum-told-2 : tie.Need-enum-told-2
+enum-told-2 c = search needs
+
+one-more-requires-3 : tie.Need-one-more-requires-3
+one-more-requires-3 c κs = search needs
+
+enum-told-3 : tie.Need-enum-told-3
+enum-told-3 c = search needs
+
+one-more-requires-4 : tie.Need-one-more-requires-4
+one-more-requires-4 c κs = search needs
+
+returns : tie.Need-returns
+returns c = simp (c .before .enum-told .given .1, c .before .before .before .one-more .ensures, c .one-more2 .ensures)
+
+returns-2 : tie.Need-returns-2
+returns-2 c = simp (c .before .enum-told2 .given .1, c .before .before .before .one-more .ensures, c .one-more3 .ensures)
+
+returns-3 : tie.Need-returns-3
+returns-3 c = simp (c .before .enum-told3 .given .1, c .before .before .before .one-more .ensures, c .one-more4 .ensures)
+
+pub count-spec : {M : Type 1} → statement M
+count-spec =
+    tie.close
+    (tie.spec
+    one-more-requires
+    enum-told
+    one-more-requires-2
+    enum-told-2
+    one-more-requires-3
+    enum-told-3
+    one-more-requires-4
+    returns
+    returns-2
+    returns-3)

@@ -1,0 +1,65 @@
+-- `tally::line_of` meets its contract: each way out is the case of the first answer that refuses, or that none does. Assumes nothing.
+use borrow.Author.Needs.{needs}
+use Rattle.tally.proofs.line_of.Statement.{statement}
+use Rattle.tally.proofs.line_of.Tie as tie
+
+enum-known-read : tie.Need-enum-known-read
+enum-known-read c = search needs
+
+refused-line-requires : tie.Need-refused-line-requires
+refused-line-requires c κs = search needs
+
+returns : tie.Need-returns
+returns c = simp (c .before .before .read .given .1) (c .refused-line .ensures)
+
+enum-told : tie.Need-enum-told
+enum-told c = search needs
+
+enum-known-rows : tie.Need-enum-known-rows
+enum-known-rows c = search needs
+
+refused-line-requires-2 : tie.Need-refused-line-requires-2
+refused-line-requires-2 c κs = search needs
+
+enum-known-rows-2 : tie.Need-enum-known-rows-2
+enum-known-rows-2 c = search needs
+
+enum-known-page : tie.Need-enum-known-page
+enum-known-page c = search needs
+
+refused-line-requires-3 : tie.Need-refused-line-requires-3
+refused-line-requires-3 c κs = search needs
+
+enum-known-page-2 : tie.Need-enum-known-page-2
+enum-known-page-2 c = search needs
+
+all-constants-requires : tie.Need-all-constants-requires
+all-constants-requires c κs = search needs
+
+returns-2 : tie.Need-returns-2
+returns-2 c = simp (c .before .before .before .before .enum-told .given .1, c .before .before .rows .given .1) (c .refused-line2 .ensures)
+
+returns-3 : tie.Need-returns-3
+returns-3 c = simp (c .before .before .before .before .before .before .before .enum-told .given .1, c .before .before .before .before .before .rows2 .given .1, c .before .before .page .given .1) (c .refused-line3 .ensures)
+
+returns-4 : tie.Need-returns-4
+returns-4 c = simp (c .before .before .before .before .before .before .before .enum-told .given .1, c .before .before .before .before .before .rows2 .given .1, c .before .before .page2 .given .1, c .all-constants .ensures)
+
+pub line-of-spec : {M : Type 1} → statement M
+line-of-spec =
+    tie.close
+    (tie.spec
+    enum-known-read
+    refused-line-requires
+    returns
+    enum-told
+    enum-known-rows
+    refused-line-requires-2
+    enum-known-rows-2
+    enum-known-page
+    refused-line-requires-3
+    enum-known-page-2
+    all-constants-requires
+    returns-2
+    returns-3
+    returns-4)

@@ -1,0 +1,178 @@
+// What the nightly program says of a block and at the end, and its counts (document 01, "The nightly program").
+//
+// Every function here is for all inputs: none has a premise, and each contract determines what is given.
+ghost use mathlib.Core.Path.{_≡_};
+ghost use Prim.Native.Nat.{_+_, _%_, min};
+ghost use Rattle.numbers.specs.Numbers.{numberOf};
+ghost use Rattle.tally.specs.Line.{told, lineOf, lineOfNumber, constantsRows};
+ghost use Rattle.tally.specs.Counts.{oneMore, counted, Tallies, closingOf};
+use block::ReadAnswer;
+use numbers::Refusal;
+use solve::RowsAnswer;
+use solver::PageAnswer;
+
+// At most so many blocks are read.
+pub const MOST_BLOCKS: u64 = 1048576;
+
+// The number that says that there is no unifier.
+const NO_UNIFIER: u8 = 13;
+
+// What a block's line says beside its place, and what stands after its page: `end` and the number of lines printed, or `more`.
+pub enum Line {
+    Listed {
+        balanced: u64,
+        of_constants: u64,
+        lines: u64,
+        more: bool,
+    },
+    NoUnifier,
+    Refused(u8),
+}
+
+// How many blocks were read, and how many lines of each kind they have.
+pub struct Counts {
+    pub blocks: u64,
+    pub listed: u64,
+    pub none: u64,
+    pub refused: u64,
+}
+
+// The block's place in the file, its line, and the counts after it.
+pub struct Tallied {
+    pub place: u64,
+    pub line: Line,
+    pub counts: Counts,
+}
+
+// The lines that stand at the end: `nothing read`, the counts, or `too long` before the counts.
+pub enum Closing {
+    NothingRead,
+    Counted(Counts),
+    TooLong(Counts),
+}
+
+// What is said of a block, from the counts so far and what Read, Rows and Page returned for it.
+pub fn tally(counts: Counts, read: ReadAnswer, rows: RowsAnswer, page: PageAnswer) -> Tallied
+    ensures { λ r. ⌜ Tallies counts (told read rows page) r ⌝ }
+{
+    let line = line_of(read, rows, page);
+    let after = count(counts, line);
+    Tallied {
+        place: counts.blocks,
+        line,
+        counts: after,
+    }
+}
+
+// The block's line: the first refusal of Read, Rows and Page decides, in this order.
+fn line_of(read: ReadAnswer, rows: RowsAnswer, page: PageAnswer) -> Line
+    ensures { λ r. ⌜ r ≡ lineOf (told read rows page) ⌝ }
+{
+    if let ReadAnswer::Refused(refusal) = read {
+        return refused_line(refusal);
+    }
+    match rows {
+        RowsAnswer::Refused(refusal) => refused_line(refusal),
+        RowsAnswer::Groups {
+            balanced,
+            constants: _,
+            first,
+            second,
+            third,
+            fourth,
+        } => match page {
+            PageAnswer::Refused(refusal) => refused_line(refusal),
+            PageAnswer::Page { written, more } => Line::Listed {
+                balanced: balanced as u64,
+                of_constants: all_constants(first, second, third, fourth),
+                lines: written as u64,
+                more,
+            },
+        },
+    }
+}
+
+// The line of a refused block: 13 says that there is no unifier.
+fn refused_line(refusal: Refusal) -> Line
+    ensures { λ r. ⌜ r ≡ lineOfNumber (numberOf refusal) ⌝ }
+{
+    let number = numbers::number(refusal);
+    if number == NO_UNIFIER {
+        Line::NoUnifier
+    } else {
+        Line::Refused(number)
+    }
+}
+
+// The rows of all constants.
+fn all_constants(first: usize, second: usize, third: usize, fourth: usize) -> u64
+    ensures { λ r. ⌜ r ≡ constantsRows first second third fourth ⌝ }
+{
+    let two = sum_within(first as u64, second as u64, u64::MAX);
+    let three = sum_within(two, third as u64, u64::MAX);
+    sum_within(three, fourth as u64, u64::MAX)
+}
+
+// The sum of two numbers, or `most` where it would be more.
+fn sum_within(a: u64, b: u64, most: u64) -> u64
+    ensures { λ r. ⌜ r ≡ min (a + b) most ⌝ }
+{
+    if a < most {
+        if b < most - a {
+            return a + b;
+        }
+    }
+    most
+}
+
+// The counts after a block with this line: each is counted by its own kind of line.
+fn count(counts: Counts, line: Line) -> Counts
+    ensures { λ r. ⌜ r ≡ counted counts line ⌝ }
+{
+    let mut after = counts;
+    after.blocks = one_more(counts.blocks);
+    match line {
+        Line::Listed {
+            balanced: _,
+            of_constants: _,
+            lines: _,
+            more: _,
+        } => {
+            after.listed = one_more(counts.listed);
+        }
+        Line::NoUnifier => {
+            after.none = one_more(counts.none);
+        }
+        Line::Refused(_) => {
+            after.refused = one_more(counts.refused);
+        }
+    }
+    after
+}
+
+// One more, as far as blocks are read.
+fn one_more(count: u64) -> u64
+    ensures { λ r. ⌜ r ≡ oneMore count ⌝ }
+{
+    sum_within(count, 1, MOST_BLOCKS)
+}
+
+// The lines at the end, from the counts and whether input remains after the last block that was read.
+pub fn closing_lines(counts: Counts, remains: bool) -> Closing
+    ensures { λ r. ⌜ r ≡ closingOf counts remains ⌝ }
+{
+    if remains {
+        return Closing::TooLong(counts);
+    }
+    if counts.blocks == 0 {
+        return Closing::NothingRead;
+    }
+    Closing::Counted(counts)
+}
+
+// The number that the block at this place in the file is to have: counted from 0 in the file, modulo 65,536.
+pub fn expected_number(place: u64) -> u16
+    ensures { λ r. ⌜ r ≡ place % 65536 ⌝ }
+{
+    (place % 65536) as u16
+}

@@ -1,0 +1,118 @@
+-- The one answer of each question, for sides that keep the limits and for their groups.
+use Prim.Native.Nat.{ℕ, _≤_}
+use native.Mathlib.Omega.{arith}
+use mathlib.Core.Path.{_≡_, refl, sym, ap, subst, subst₂, _∙_}
+use mathlib.Core.Bool.{false}
+use mathlib.Core.List.{List, [], _∷_, map, List·Memᴰ, List·Memᴰ·head, List·Memᴰ·tail, List·Memᴰ·not-nil, nil≢cons}
+use borrow.Author.Tests.{le-ltb}
+use lib.Dec.{ltb}
+use lib.Seq.{take-all}
+use lib.ListN.{length, take}
+use Rattle.ac.specs.Pair.{unifying, variables}
+use Rattle.ac.specs.Rows.{Groups, GroupsOf}
+use Rattle.ac.specs.Selection.{Selection, SelectionOf, value, admissible}
+use Rattle.ac.specs.Keys.{layout, keyOf, selections, listed, keys, Begin, start, after, remaining, Fits}
+use Rattle.ac.specs.Values.{laidOut, bindings}
+use Rattle.ac.proofs.Order.{filter-member}
+use Rattle.ac.proofs.Members.{members-map}
+use Rattle.ac.proofs.Listed.{selections-are}
+use Rattle.ac.proofs.Keys.{taken-apart}
+use Rattle.ac.proofs.Pages.{remaining-members}
+use Rattle.numbers.specs.First.{NoneOf, here, end, also}
+use Rattle.sides.specs.Limits.{limits}
+use Rattle.sides.specs.Given.{PairGiven}
+use Rattle.solve.specs.Given.{RowsGiven, of-the-sides, short-buffer, rowsNumbers}
+use Rattle.solve.specs.Rows.{sizesOf, allRows, is-answered}
+use Rattle.solve.proofs.Determined.{rows-determined}
+use Rattle.solver.specs.Given.{ListGiven, none-admissible, not-listed, last-listed}
+use Rattle.solver.specs.Page.{page, PagePromise, is-refused, is-page}
+use Rattle.solver.proofs.Given.{first-of-list, none-of-list}
+use Rattle.solver.proofs.Determined.{page-determined}
+use Rattle.solver.proofs.Limits.{within-limits}
+use Rattle.solver.proofs.Beginning.{start-not-after}
+use Rattle.values.specs.Given.{LongValue}
+use Rattle.values.specs.Values.{is-written, valuesOf}
+use Rattle.values.proofs.Given.{none-at-all}
+use Rattle.values.proofs.Determined.{values-determined}
+use Rattle.worked.specs.Questions.{pageQuestion}
+use Rattle.worked.specs.Answers.{Answers, receives, RowsGives, PageGives, ValuesGives, ValuesGiveInTurn, none, next}
+
+-- where no number at all is given, none of a list is
+none-of : {Given : ℕ → Type 0} → ((n : ℕ) → Given n → ⊥) → (ns : List ℕ) → NoneOf Given ns
+none-of never [] = end
+none-of never (n ∷ ns) = also (never n) (none-of never ns)
+
+-- a list gives no number where the key after which a page begins, if any, is on it and another remains
+module _ {listed : List ℕ} {begin : Begin} {key : ℕ} {others : List ℕ} (some : remaining begin listed ≡ key ∷ others)
+    (on-list : (k : ℕ) → begin ≡ after k → List·Memᴰ k listed) where
+  list-gives-none : {n : ℕ} → ListGiven listed begin n → ⊥
+  list-gives-none (none-admissible empty) =
+      List·Memᴰ·not-nil
+      (subst (List·Memᴰ key) empty (remaining-members begin (subst (List·Memᴰ key) (sym some) (List·Memᴰ·head refl)) .0))
+  list-gives-none (not-listed {key = k} same unlisted) = unlisted (on-list k same)
+  list-gives-none (last-listed {key = k} same m nothing) = nil≢cons (sym nothing ∙ subst (λ b. remaining b listed ≡ key ∷ others) same some)
+
+module _ {L R : List ℕ} {G : Groups}
+    (groups : GroupsOf unifying L R G) (never : (n : ℕ) → PairGiven limits unifying L R n → ⊥) where
+  nothing : NoneOf (PairGiven limits unifying L R) (7 ∷ 8 ∷ 9 ∷ 10 ∷ 11 ∷ 12 ∷ [])
+  nothing = none-of never (7 ∷ 8 ∷ 9 ∷ 10 ∷ 11 ∷ 12 ∷ [])
+
+  -- the rows of the groups
+  rows-give-none : {out : List ℕ} → 480 ≤ length out → (n : ℕ) → RowsGiven unifying L R out n → ⊥
+  rows-give-none enough n (of-the-sides given) = never n given
+  rows-give-none enough n (short-buffer short) = omega arith
+
+  pub rows-give : RowsGives L R (sizesOf G) (allRows G)
+  rows-give out enough =
+      let met = is-answered (none-of (rows-give-none enough) rowsNumbers) groups in
+      record { meets = met; alone = λ other exit p. rows-determined p met }
+
+  -- where keys remain after the beginning, at most 200 of them, they are the page
+  pub page-from : (begin : Begin) → ((k : ℕ) → begin ≡ after k → List·Memᴰ k (keys unifying layout L R G))
+      → (key : ℕ) (others : List ℕ) → remaining begin (keys unifying layout L R G) ≡ key ∷ others → length (key ∷ others) ≤ 200
+      → (out : List ℕ) → 200 ≤ length out
+      → Answers pageQuestion (record { left = L; right = R; begin = begin; wanted = 0 }) out (page (length (key ∷ others)) false) (receives out (key ∷ others))
+  page-from begin on-list key others e few out enough = record { meets = met; alone = λ other exit p. page-determined p met }
+    where
+      whole : take 200 (remaining begin (keys unifying layout L R G)) ≡ key ∷ others
+      whole = ap (take 200) e ∙ take-all 200 (key ∷ others) few
+
+      no-more : ltb 200 (length (remaining begin (keys unifying layout L R G))) ≡ false
+      no-more = le-ltb 200 (length (remaining begin (keys unifying layout L R G))) (omega (arith, ap length e))
+
+      met : PagePromise unifying L R begin 0 out (page (length (key ∷ others)) false) (receives out (key ∷ others))
+      met =
+          subst₂ (λ ks more. PagePromise unifying L R begin 0 out (page (length ks) more) (receives out ks)) whole no-more
+          (is-page (none-of-list enough groups nothing (none-of (λ n. list-gives-none e on-list) (13 ∷ 14 ∷ 15 ∷ []))) groups)
+
+  -- a list of at most 200 keys is one page; an empty one is 13
+  pub page-gives : (ks : List ℕ) → keys unifying layout L R G ≡ ks → length ks ≤ 200 → PageGives L R ks
+  page-gives [] e few out enough =
+      let met = is-refused (first-of-list enough groups nothing (here (none-admissible e))) in
+      record { meets = met; alone = λ other exit p. page-determined p met }
+  page-gives (key ∷ others) e few out enough = page-from start (λ k same. absurd (start-not-after same)) key others e few out enough
+
+  -- a listed key without a long value has its values
+  pub values-give : (key : ℕ) → List·Memᴰ key (keys unifying layout L R G) → (LongValue unifying L R G key → ⊥)
+      → ValuesGives L R key (valuesOf unifying L R G key)
+  values-give key listed-key short out enough =
+      let met = is-written (none-at-all enough groups nothing listed-key short) groups in
+      record { meets = met; alone = λ other exit p. values-determined p met }
+
+  fits : Fits layout G
+  fits = within-limits nothing .groups-fit G groups
+
+  -- of the keys of listed selections in turn, the values of those selections
+  pub in-turn : ((key : ℕ) → List·Memᴰ key (keys unifying layout L R G) → ValuesGives L R key (valuesOf unifying L R G key))
+      → (ss : List Selection) → ((s : Selection) → List·Memᴰ s ss → List·Memᴰ s (listed unifying layout L R G))
+      → ValuesGiveInTurn L R (map (keyOf layout) ss) (map (λ s. bindings (value unifying (layout .new) L R G s) (variables unifying L R)) ss)
+  in-turn gives [] from = none
+  in-turn gives (s ∷ ss) from = next first (in-turn gives ss (λ t m. from t (List·Memᴰ·tail m)))
+    where
+      of-groups : SelectionOf G s
+      of-groups = selections-are G .0 (filter-member (admissible unifying (layout .new) L R G) (selections G) (from s (List·Memᴰ·head refl)) .0)
+
+      first : ValuesGives L R (keyOf layout s) (laidOut (bindings (value unifying (layout .new) L R G s) (variables unifying L R)))
+      first =
+          subst (λ t. ValuesGives L R (keyOf layout s) (laidOut (bindings (value unifying (layout .new) L R G t) (variables unifying L R))))
+          (taken-apart fits of-groups) (gives (keyOf layout s) (members-map (keyOf layout) (from s (List·Memᴰ·head refl))))

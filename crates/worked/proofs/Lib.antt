@@ -1,0 +1,10 @@
+pub mod Within
+pub mod Answering
+pub mod Worked
+pub mod Reading
+pub mod Wrong
+pub mod WrongReads
+pub mod WrongRows
+pub mod WrongPages
+pub mod WrongValues
+pub mod WrongTallies

@@ -1,0 +1,56 @@
+-- Document 01's wrong programs, as programs for Rows: at a pair worked by hand none of them meets the promise. Rows never gives 15.
+use Prim.Native.Nat.{ℕ, _≤_}
+use native.Mathlib.Omega.{arith}
+use mathlib.Core.Path.{_≡_, ap}
+use mathlib.Core.List.{List, [], _∷_}
+use lib.ListN.{length, getD, replicate}
+use Rattle.ac.specs.Pair.{unifying}
+use Rattle.ac.specs.Search.{groups}
+use Rattle.ac.proofs.Groups.{groups-exist}
+use Rattle.solve.specs.Rows.{groups as sizes}
+use Rattle.worked.specs.Questions.{RowsAsked, rowsQuestion}
+use Rattle.worked.specs.Answers.{RowsGives, numbered}
+use Rattle.worked.specs.Programs.{Program, MeetsAt, RefusesEverything, ConstantResult, WritesNothing}
+use Rattle.worked.proofs.Worked.{worked-number}
+use Rattle.worked.proofs.Wrong as wrong
+
+-- the pair of that number
+abbrev asked : ℕ → RowsAsked
+asked n = record { left = numbered n .left; right = numbered n .right }
+
+-- pair 2: rows 0101, 0110, 1001, 1010
+four-rows : RowsGives (numbered 2 .left) (numbered 2 .right)
+    (sizes 4 0 0 0 0 0) ((0 ∷ 1 ∷ 0 ∷ 1 ∷ []) ∷ (0 ∷ 1 ∷ 1 ∷ 0 ∷ []) ∷ (1 ∷ 0 ∷ 0 ∷ 1 ∷ []) ∷ (1 ∷ 0 ∷ 1 ∷ 0 ∷ []) ∷ [])
+four-rows =
+    worked-number 2 (omega arith) (omega arith)
+    .by-groups (groups unifying (numbered 2 .left) (numbered 2 .right)) (groups-exist unifying (numbered 2 .left) (numbered 2 .right)) .the-rows
+
+-- pair 10: c0 has two rows
+two-rows : RowsGives (numbered 10 .left) (numbered 10 .right) (sizes 0 1 2 0 0 0) ((0 ∷ 1 ∷ []) ∷ (1 ∷ 0 ∷ []) ∷ [])
+two-rows =
+    worked-number 10 (omega arith) (omega arith)
+    .by-groups (groups unifying (numbered 10 .left) (numbered 10 .right)) (groups-exist unifying (numbered 10 .left) (numbered 10 .right)) .the-rows
+
+module _ (program : Program rowsQuestion) where
+  module _ {out : List ℕ} (enough : 480 ≤ length out) where
+    -- It refuses everything: pair 2 has four rows.
+    pub refusing-fails : RefusesEverything program → MeetsAt program (asked 2) out → ⊥
+    refusing-fails = wrong.refusing-fails program (four-rows out enough) (λ n e. let z : _≡_ {A = ℕ} 0 1 = cc e in omega arith)
+
+    -- It has a constant result: pair 2 has four balanced rows, pair 10 has none.
+    pub constant-fails : ConstantResult program → MeetsAt program (asked 2) out → MeetsAt program (asked 10) out → ⊥
+    constant-fails =
+        wrong.constant-fails program (four-rows out enough) (two-rows out enough) (λ e. let z : _≡_ {A = ℕ} 4 0 = cc e in omega arith)
+
+    -- It invents row counts: pair 10 has no balanced row and one unbalanced constant, which has two.
+    pub invented-sizes-fail : (balanced constants first second third fourth : ℕ)
+        → program (asked 10) out .outcome ≡ sizes balanced constants first second third fourth
+        → (sizes balanced constants first second third fourth ≡ sizes 0 1 2 0 0 0 → ⊥) → MeetsAt program (asked 10) out → ⊥
+    invented-sizes-fail balanced constants first second third fourth returns others =
+        wrong.other-outcome-fails program (two-rows out enough) (λ e. others (cc (e, returns)))
+
+  -- It writes nothing: where zeros are lent, the 1 of row 0101 of pair 2 is missing.
+  pub writing-nothing-fails : WritesNothing program → MeetsAt program (asked 2) (replicate 480 0) → ⊥
+  writing-nothing-fails =
+      wrong.writing-nothing-fails program (four-rows (replicate 480 0) (omega arith))
+      (λ e. let z : _≡_ {A = ℕ} 0 1 = ap (λ (b : List ℕ). getD b 1 0) e in omega arith)

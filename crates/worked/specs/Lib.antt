@@ -1,0 +1,4 @@
+pub mod Questions
+pub mod Answers
+pub mod Programs
+pub mod Example

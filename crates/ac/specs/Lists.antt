@@ -1,7 +1,8 @@
 -- Words on lists that the definitions share.
-use Prim.Native.Nat.{ℕ, zero, suc, _+_, _<_}
+use Prim.Native.Nat.{ℕ, zero, suc, _+_}
 use mathlib.Core.Bool.{Bool, true, false}
 use mathlib.Core.List.{List, [], _∷_, _++_, List·Memᴰ}
+use lib.ListN.{length, drop}
 
 -- the n numbers from a on, ascending
 abbrev pub from : ℕ → ℕ → List ℕ
@@ -31,6 +32,10 @@ flatMap f (a ∷ rest) = f a ++ flatMap f rest
 abbrev pub sum : List ℕ → ℕ
 sum [] = 0
 sum (n ∷ v) = n + sum v
+
+-- A lent buffer that receives what is written; what comes after the written part stays unchanged.
+abbrev pub receives : List ℕ → List ℕ → List ℕ
+receives buffer written = written ++ drop (length written) buffer
 
 -- every member stands before all that follow it
 pub data Ascending {A : Type 0} (_before_ : A → A → Type 0) : List A → Type 0 where

@@ -1,7 +1,7 @@
 -- Replacements, which unify, and which come from a selection (demand 3; source document 000, in flattened form).
 use Prim.Native.Nat.{ℕ, _<_, _≤_}
 use mathlib.Core.Path.{_≡_}
-use mathlib.Core.Bool.{Bool, true, false, cond}
+use mathlib.Core.Bool.{Bool, false, cond}
 use mathlib.Core.List.{List, [], _∷_, _++_, map, List·Memᴰ}
 use lib.ListN.{length}
 use lib.Dec.{leb}

@@ -1,5 +1,5 @@
 -- Vectors, weights and rows (document 01, "From sides to equations"). Rows are minimal among all vectors; nothing here is bounded.
-use Prim.Native.Nat.{ℕ, _+_, _≤_, _<_}
+use Prim.Native.Nat.{ℕ, _≤_, _<_}
 use mathlib.Core.Path.{_≡_}
 use mathlib.Core.List.{List, [], _∷_, map, List·Memᴰ}
 use lib.ListN.{length}

@@ -1,11 +1,10 @@
 -- Selections, which are admissible, and the values they give (document 01, "From sides to equations").
-use Prim.Native.Nat.{ℕ, zero, suc, _+_, _<_}
+use Prim.Native.Nat.{ℕ, zero, suc, _<_}
 use mathlib.Core.Path.{_≡_}
 use mathlib.Core.Bool.{Bool, true, false, _&&_, _||_}
 use mathlib.Core.List.{List, [], _∷_, _++_}
 use lib.ListN.{length, getD, replicate}
 use lib.Dec.{ltb, eqb}
-use Rattle.ac.specs.Lists.{flatMap, below, sum}
 use Rattle.ac.specs.Pair.{Mode, variables}
 use Rattle.ac.specs.Rows.{Group, Groups}
 

@@ -2,7 +2,6 @@
 use Prim.Native.Nat.{ℕ}
 use mathlib.Core.Path.{_≡_, refl, ap}
 use mathlib.Core.List.{List}
-use Rattle.numbers.specs.Numbers.{numberOf}
 use Rattle.numbers.proofs.Laws.{numberOf-one-to-one, first-unique, first-not-none}
 use Rattle.block.specs.Read.{ReadOutcome, refused, told, ReadPromise, is-refused, is-read}
 use Rattle.block.specs.declared.ReadAnswer.{ReadAnswer}

@@ -5,7 +5,7 @@ use mathlib.Core.List.{List, [], _∷_, _++_}
 use native.Mathlib.Omega.{arith}
 use lib.Dec.{lit<, lit≤}
 use lib.ListN.{getD, replicate}
-use Rattle.ac.specs.Term.{Term, atom, plus}
+use Rattle.ac.specs.Term.{atom, plus}
 use Rattle.block.specs.Front.{Writes, Writable, one, two}
 use Rattle.block.specs.Block.{leftTerm, rightTerm}
 use Rattle.block.specs.Read.{ReadOutcome, refused, lengths, ReadPromise}

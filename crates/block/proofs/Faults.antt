@@ -7,7 +7,7 @@ use mathlib.Core.Logic.{⊎-elim}
 use native.Mathlib.Decide.{decLt, ℕ-discrete}
 use native.Mathlib.Omega.{arith}
 use lib.ListN.{length, replicate}
-use Rattle.ac.specs.Term.{Term, atom, plus}
+use Rattle.ac.specs.Term.{Term}
 use Rattle.block.specs.Front.{encode, MayBeWritten, Writable, one, two, Writes}
 use Rattle.block.specs.Table.{NoTerm}
 use Rattle.block.proofs.Terms.{one-reading}

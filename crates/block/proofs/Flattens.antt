@@ -7,10 +7,10 @@ use borrow.Rule.Slice.PartAt.{part-to-end}
 use borrow.Rule.Slice.PartMut.{putMid, post-is}
 use lib.ListN.{length, getD, take, drop, set, length-append, length-drop}
 use lib.Seq.{take-at, drop-at, drop-drop, drop-length, drop-cons}
+use Rattle.ac.specs.Lists.{receives}
 use Rattle.ac.specs.Term.{Term, atom, plus, flatten}
 use Rattle.block.specs.Front.{encode, MayBeWritten, Writes}
 use Rattle.block.specs.Table.{NoTerm}
-use Rattle.block.specs.Read.{receives}
 use Rattle.block.specs.Inner.{Classified, variable, constant, refused, Begins, Flattens, found, nothing, TakesApart, atoms}
 use Rattle.block.specs.declared.term.Kind.the-variants.{Variable, Constant, Plus, Refused}
 use Rattle.block.specs.declared.term.Flattened.{Flattened}

@@ -9,6 +9,7 @@ use native.Mathlib.Omega.{arith}
 use borrow.Author.Tests.{eqb-true, eqb-false}
 use lib.Dec.{eqb}
 use lib.ListN.{length}
+use Rattle.ac.specs.Lists.{receives}
 use Rattle.ac.specs.Term.{Term}
 use Rattle.numbers.specs.Numbers.{numberOf}
 use Rattle.numbers.specs.declared.Refusal.{Refusal}
@@ -17,7 +18,7 @@ use Rattle.numbers.specs.declared.Refusal.the-variants as refusal
 use Rattle.block.specs.Front.{Writes, leftSide, rightSide}
 use Rattle.block.specs.Block.{blockNumber, leftLength, rightLength, leftTerm, rightTerm, filler, check, checkOfBytes}
 use Rattle.block.specs.Table.{ReadGiven, block-length, check-differs, block-number, term-length, no-term, filler-byte, short-buffer, NoLength, NoTerm}
-use Rattle.block.specs.Read.{refused, lengths, receives, ReadPromise, is-refused, is-read}
+use Rattle.block.specs.Read.{refused, lengths, ReadPromise, is-refused, is-read}
 use Rattle.block.specs.Inner.{IsLength, TermLengths, within, outside, allZero, blockNumbers, Refuses, GoodHeader}
 use Rattle.block.proofs.Apart.{apart}
 

@@ -1,5 +1,5 @@
 -- Reading a block after its header: the parts of it that are looked at, and a law for each way in which that ends.
-use Prim.Native.Nat.{ℕ, zero, suc, _+_, _-_, _*_, _≤_, _<_}
+use Prim.Native.Nat.{ℕ, zero, suc, _+_, _-_, _≤_}
 use mathlib.Core.Path.{_≡_, refl, ap, sym, _∙_}
 use mathlib.Core.Bool.{Bool, true, false, not}
 use mathlib.Core.Logic.{inl, inr}
@@ -9,13 +9,14 @@ use native.Mathlib.Omega.{arith}
 use borrow.Author.Tests.{not-true, not-false}
 use lib.ListN.{length, take, drop, length-append, length-take}
 use lib.Seq.{slice, take-nil, take-at, take-length}
+use Rattle.ac.specs.Lists.{receives}
 use Rattle.ac.specs.Term.{Term, flatten}
 use Rattle.numbers.specs.declared.Refusal.{Refusal}
 use Rattle.numbers.specs.declared.Refusal.the-variants as refusal
 use Rattle.block.specs.Front.{Writes, rightSide}
 use Rattle.block.specs.Block.{leftLength, rightLength, leftTerm, rightTerm, filler}
 use Rattle.block.specs.Table.{NoTerm}
-use Rattle.block.specs.Read.{lengths, receives, ReadPromise}
+use Rattle.block.specs.Read.{lengths, ReadPromise}
 use Rattle.block.specs.Inner.{TakesApart, atoms, no-term, allZero, Refuses, GoodHeader, SettlesHeader, is-refused, is-good}
 use Rattle.block.specs.declared.header.Header.{Header}
 use Rattle.block.specs.declared.header.Header.the-variants.{Lengths}

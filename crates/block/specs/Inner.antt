@@ -6,6 +6,7 @@ use mathlib.Core.Logic.{_⊎_}
 use mathlib.Core.List.{List, [], _∷_, _++_}
 use lib.Dec.{eqb}
 use lib.ListN.{length}
+use Rattle.ac.specs.Lists.{receives}
 use Rattle.ac.specs.Term.{Term, flatten}
 use Rattle.numbers.specs.Numbers.{numberOf}
 use Rattle.numbers.specs.First.{First}
@@ -13,7 +14,6 @@ use Rattle.numbers.specs.declared.Refusal.{Refusal}
 use Rattle.block.specs.Front.{encode, Writable, Writes}
 use Rattle.block.specs.Block.{blockNumber, leftLength, rightLength, check, checkOfBytes}
 use Rattle.block.specs.Table.{ReadGiven, NoLength, NoTerm}
-use Rattle.block.specs.Read.{receives}
 use Rattle.block.specs.declared.header.Header.{Header}
 use Rattle.block.specs.declared.header.Header.the-variants.{Lengths}
 use Rattle.block.specs.declared.term.Kind.{Kind}

@@ -1,7 +1,8 @@
 -- The question Read (document 01, "The questions"): what it promises.
 use Prim.Native.Nat.{ℕ}
-use mathlib.Core.List.{List, _++_}
-use lib.ListN.{length, drop}
+use mathlib.Core.List.{List}
+use lib.ListN.{length}
+use Rattle.ac.specs.Lists.{receives}
 use Rattle.ac.specs.Term.{Term}
 use Rattle.numbers.specs.Numbers.{numberOf}
 use Rattle.numbers.specs.First.{First, NoneOf}
@@ -20,10 +21,6 @@ pub data ReadOutcome : Type 0 where
 abbrev pub told : ReadAnswer → ReadOutcome
 told (Sides left right) = lengths left right
 told (Refused refusal) = refused (numberOf refusal)
-
--- The buffer receives the side; bytes after the written part stay unchanged.
-abbrev pub receives : List ℕ → List ℕ → List ℕ
-receives buffer side = side ++ drop (length side) buffer
 
 -- What Read promises of its outcome and of the two lent buffers at exit.
 pub data ReadPromise (block : List ℕ) (number : ℕ) (left right : List ℕ) : ReadOutcome → List ℕ → List ℕ → Type 0 where

@@ -5,6 +5,7 @@ use mathlib.Core.Path.{_≡_, refl, sym, ap, subst, _∙_}
 use mathlib.Core.List.{List, _++_, List·Memᴰ}
 use lib.ListN.{length, getD, drop}
 use lib.Seq.{sets-eq}
+use Rattle.ac.specs.Lists.{receives}
 use Rattle.ac.specs.Pair.{Mode}
 use Rattle.buffer.specs.Put.{Put}
 use Rattle.numbers.specs.First.{First, NoneOf, here, later, also}
@@ -16,7 +17,7 @@ use Rattle.table.specs.declared.Table.{Table}
 use Rattle.table.proofs.Groups.{length-groupAt}
 use Rattle.solve.specs.Solved.{pairNumbers}
 use Rattle.solve.specs.Given.{rowsBuffer, RowsGiven, of-the-sides, short-buffer}
-use Rattle.solve.specs.Rows.{refused, groups, size, sizesOf, allRows, bytesOf, receives, RowsPromise, is-refused, is-answered}
+use Rattle.solve.specs.Rows.{refused, groups, size, sizesOf, allRows, bytesOf, RowsPromise, is-refused, is-answered}
 use Rattle.solve.proofs.Putting.{how-many-constants}
 
 -- what is put from the front of a buffer is received by it

@@ -2,11 +2,12 @@
 use Prim.Native.Nat.{ℕ}
 use mathlib.Core.Path.{_≡_, refl, ap}
 use mathlib.Core.List.{List}
+use Rattle.ac.specs.Lists.{receives}
 use Rattle.ac.specs.Pair.{Mode}
 use Rattle.ac.specs.Rows.{Groups}
 use Rattle.ac.proofs.Groups.{groups-unique}
 use Rattle.numbers.proofs.Laws.{numberOf-one-to-one, first-unique, first-not-none}
-use Rattle.solve.specs.Rows.{RowsOutcome, refused, told, sizesOf, allRows, bytesOf, receives, RowsPromise, is-refused, is-answered}
+use Rattle.solve.specs.Rows.{RowsOutcome, refused, told, sizesOf, allRows, bytesOf, RowsPromise, is-refused, is-answered}
 use Rattle.solve.specs.declared.RowsAnswer.{RowsAnswer}
 use Rattle.solve.specs.declared.RowsAnswer.the-variants.{Groups as Sizes, Refused}
 

@@ -6,14 +6,14 @@ use mathlib.Core.Path.{_≡_, refl, sym, ap, ap₂, subst, _∙_}
 use mathlib.Core.List.{List, [], _∷_, _++_, map, append-assoc, List·Memᴰ, List·Memᴰ·head, List·Memᴰ·tail, Memᴰ·of-map, head-eq-of-cons-eq, tail-eq-of-cons-eq, nil≢cons}
 use lib.ListN.{length, getD, take, drop, length-map}
 use lib.Seq.{take-at, drop-at}
-use Rattle.ac.specs.Lists.{flatMap}
+use Rattle.ac.specs.Lists.{flatMap, receives}
 use Rattle.ac.specs.Pair.{Mode, variables, unbalanced}
 use Rattle.ac.specs.Rows.{Exactly, RowOf, Group, Groups, GroupsOf}
 use Rattle.numbers.specs.First.{NoneOf, also}
 use Rattle.sides.specs.Given.{many-constants}
 use Rattle.rows.specs.Flat.{rowsOf}
 use Rattle.solve.specs.Given.{RowsGiven, of-the-sides, rowsNumbers}
-use Rattle.solve.specs.Rows.{groups, size, sizesOf, allRows, bytesOf, receives, RowsPromise, is-answered}
+use Rattle.solve.specs.Rows.{groups, size, sizesOf, allRows, bytesOf, RowsPromise, is-answered}
 use Rattle.solve.specs.Cut.{groupSizes, cut}
 use Rattle.solve.specs.Steps.{RowIn}
 use Rattle.solve.proofs.Lists.{flatMap-append, AllOf, length-bytes}

@@ -1,8 +1,8 @@
 -- The question Rows (document 01, "The questions"): what it promises.
 use Prim.Native.Nat.{ℕ}
 use mathlib.Core.List.{List, _++_, map}
-use lib.ListN.{length, getD, drop}
-use Rattle.ac.specs.Lists.{flatMap}
+use lib.ListN.{length, getD}
+use Rattle.ac.specs.Lists.{flatMap, receives}
 use Rattle.ac.specs.Pair.{Mode}
 use Rattle.ac.specs.Rows.{Group, Groups, GroupsOf}
 use Rattle.numbers.specs.Numbers.{numberOf}
@@ -37,10 +37,6 @@ allRows G = G .balanced ++ flatMap (λ (g : Group). g .rows) (G .constants)
 -- one byte for each variable
 abbrev pub bytesOf : List (List ℕ) → List ℕ
 bytesOf rows = flatMap (λ row. row) rows
-
--- The buffer receives the bytes; those after the written part stay unchanged.
-abbrev pub receives : List ℕ → List ℕ → List ℕ
-receives buffer written = written ++ drop (length written) buffer
 
 -- What Rows promises of its outcome and of the lent buffer at exit.
 pub data RowsPromise (M : Mode) (L R out : List ℕ) : RowsOutcome → List ℕ → Type 0 where

@@ -9,6 +9,7 @@ use borrow.Author.Tests.{ltb-false}
 use lib.Dec.{lit≤}
 use lib.ListN.{length, getD, take, List·getD-append}
 use lib.Seq.{take-all}
+use Rattle.ac.specs.Lists.{receives}
 use Rattle.ac.specs.Pair.{Mode}
 use Rattle.ac.specs.Rows.{Groups, GroupsOf}
 use Rattle.ac.specs.Search.{groups}
@@ -26,7 +27,7 @@ use Rattle.numbers.proofs.Laws.{first-unique, first-not-none}
 use Rattle.numbers.proofs.Carried.{none-carried, first-after, none-front, first-given, elsewhere, first-past}
 use Rattle.solver.specs.Request.{wantedCount}
 use Rattle.solver.specs.Given.{ListGiven, none-admissible, not-listed, last-listed, PageGiven, of-the-sides, of-the-list, pageNumbers}
-use Rattle.solver.specs.Page.{nextKeys, moreFollow, PageOutcome, refused, page, receives, PagePromise, is-refused, is-page}
+use Rattle.solver.specs.Page.{nextKeys, moreFollow, PageOutcome, refused, page, PagePromise, is-refused, is-page}
 use Rattle.solver.specs.Existence.{SomeUnifies, NoneUnifies, replacementOf, PageExistence}
 use Rattle.solver.proofs.Given.{given-list}
 use Rattle.solver.proofs.Limits.{WithinLimits, within-limits}

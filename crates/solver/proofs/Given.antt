@@ -12,19 +12,12 @@ use Rattle.ac.proofs.Groups.{groups-unique}
 use Rattle.numbers.specs.First.{First, NoneOf, here, later, also}
 use Rattle.numbers.proofs.Carried.{numbers-between, first-carried, none-carried, first-before, first-after, none-after}
 use Rattle.sides.specs.Limits.{limits}
-use Rattle.sides.specs.Given.{PairGiven, side-length, no-atom, many-variables, far-net-count, many-constants, many-rows}
+use Rattle.sides.specs.Given.{PairGiven}
+use Rattle.sides.proofs.Laws.{sides-number}
 use Rattle.solver.specs.Request.{wantedCount}
 use Rattle.solver.specs.Given.{ListGiven, none-admissible, not-listed, last-listed, PageGiven, of-the-sides, of-the-list, short-buffer, pageNumbers}
 
--- the sides' numbers are 7 to 12, the list's 13 to 15
-sides-number : {M : Mode} {L R : List ℕ} {n : ℕ} → PairGiven limits M L R n → (7 ≤ n) × (n ≤ 12)
-sides-number (side-length side wrong) = omega arith
-sides-number (no-atom side wrong) = omega arith
-sides-number (many-variables many) = omega arith
-sides-number (far-net-count atom far) = omega arith
-sides-number (many-constants many) = omega arith
-sides-number (many-rows groups many) = omega arith
-
+-- the list's numbers are 13 to 15
 list-number : {listed : List ℕ} {begin : Begin} {n : ℕ} → ListGiven listed begin n → (13 ≤ n) × (n ≤ 15)
 list-number (none-admissible e) = omega arith
 list-number (not-listed e h) = omega arith

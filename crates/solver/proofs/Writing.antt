@@ -9,6 +9,7 @@ use borrow.Author.Tests.{lt-ltb, le-ltb}
 use lib.Dec.{ltb}
 use lib.ListN.{length, getD, take, drop, set, length-append, length-drop}
 use lib.Seq.{drop-cons, drop-set-lt, set-at, take-all, take-at}
+use Rattle.ac.specs.Lists.{receives}
 use Rattle.ac.specs.Keys.{layout, keys, after, remaining}
 use Rattle.ac.specs.Pages.{LeastFrom, NoneFrom}
 use Rattle.ac.proofs.Pages.{least-first, none-remains}
@@ -16,7 +17,7 @@ use Rattle.table.specs.Table.{groupsIn}
 use Rattle.table.specs.declared.Table.{Table}
 use Rattle.keys.specs.List.{OfItsList}
 use Rattle.keys.proofs.Table.{table-ascending}
-use Rattle.solver.specs.Page.{page, receives}
+use Rattle.solver.specs.Page.{page}
 use Rattle.solver.specs.Steps.{WrittenOf}
 
 -- so many keys are written, up to the last; `out` is the buffer after the first was written, and `now` as it is

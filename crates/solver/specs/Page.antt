@@ -1,8 +1,9 @@
 -- The question Page (document 01, "The questions"): what it promises.
 use Prim.Native.Nat.{ℕ}
 use mathlib.Core.Bool.{Bool}
-use mathlib.Core.List.{List, _++_}
-use lib.ListN.{length, drop}
+use mathlib.Core.List.{List}
+use lib.ListN.{length}
+use Rattle.ac.specs.Lists.{receives}
 use Rattle.ac.specs.Pair.{Mode}
 use Rattle.ac.specs.Rows.{Groups, GroupsOf}
 use Rattle.ac.specs.Keys.{layout, keys, Begin}
@@ -23,10 +24,6 @@ pub data PageOutcome : Type 0 where
 abbrev pub told : PageAnswer → PageOutcome
 told (Page written more) = page written more
 told (Refused refusal) = refused (numberOf refusal)
-
--- The buffer receives the keys; what comes after the written part stays unchanged.
-abbrev pub receives : List ℕ → List ℕ → List ℕ
-receives buffer written = written ++ drop (length written) buffer
 
 module _ (M : Mode) (L R : List ℕ) (G : Groups) (begin : Begin) (wanted : ℕ) where
   -- the next keys, as many as are wanted or, if fewer remain, all that remain

@@ -5,6 +5,7 @@ use mathlib.Core.Bool.{false}
 use mathlib.Core.List.{List, [], _∷_}
 use lib.Dec.{ltb}
 use lib.ListN.{length, take}
+use Rattle.ac.specs.Lists.{receives}
 use Rattle.ac.specs.Pair.{Mode}
 use Rattle.ac.specs.Keys.{Begin, after, remaining}
 use Rattle.numbers.specs.Numbers.{numberOf}
@@ -16,7 +17,7 @@ use Rattle.table.specs.Table.{TableOf}
 use Rattle.table.specs.declared.Table.{Table}
 use Rattle.solver.specs.Request.{beginningOf}
 use Rattle.solver.specs.Given.{ListGiven}
-use Rattle.solver.specs.Page.{PageOutcome, page, receives, PagePromise}
+use Rattle.solver.specs.Page.{PageOutcome, page, PagePromise}
 use Rattle.solver.specs.declared.PageRequest.{PageRequest}
 use Rattle.solver.specs.declared.Settled.{Settled}
 use Rattle.solver.specs.declared.Settled.the-variants.{FirstKey, Refused}

@@ -8,6 +8,7 @@ use borrow.Author.Tests.{ltb-true, lt-ltb}
 use lib.Dec.{ltb}
 use lib.ListN.{length, getD, take, drop}
 use lib.Seq.{sets-eq, getD-take}
+use Rattle.ac.specs.Lists.{receives}
 use Rattle.ac.specs.Pair.{Mode, variables}
 use Rattle.ac.specs.Selection.{taken, valueAt, placeOf}
 use Rattle.ac.specs.Keys.{layout, keys, selectionAt, Candidate}
@@ -23,7 +24,7 @@ use Rattle.table.specs.Table.{TableOf, groupsIn, groupsFrom}
 use Rattle.table.specs.declared.Table.{Table}
 use Rattle.values.specs.Runs.{lengthAt, atomsAt, bindingsBelow}
 use Rattle.values.specs.Given.{LongValue}
-use Rattle.values.specs.Values.{refused, written, valuesOf, receives}
+use Rattle.values.specs.Values.{refused, written, valuesOf}
 use Rattle.values.specs.Steps.{Writes, too-long, fits}
 use Rattle.values.proofs.Laid.{length-atoms}
 use Rattle.values.proofs.Atoms.{atomOf, atoms-value, pair-bindings}

@@ -4,6 +4,7 @@ use mathlib.Core.Path.{_≡_}
 use mathlib.Core.Bool.{false}
 use mathlib.Core.List.{List, [], _∷_, List·Memᴰ}
 use lib.ListN.{length}
+use Rattle.ac.specs.Lists.{receives}
 use Rattle.ac.specs.Pair.{Mode}
 use Rattle.ac.specs.Rows.{Groups}
 use Rattle.ac.specs.Keys.{layout, keys}
@@ -15,7 +16,7 @@ use Rattle.sides.specs.Given.{PairGiven}
 use Rattle.table.specs.Table.{TableOf, groupsIn}
 use Rattle.table.specs.declared.Table.{Table}
 use Rattle.values.specs.Given.{ListGiven, LongValue}
-use Rattle.values.specs.Values.{ValuesOutcome, refused, written, valuesOf, receives, ValuesPromise}
+use Rattle.values.specs.Values.{ValuesOutcome, refused, written, valuesOf, ValuesPromise}
 use Rattle.values.specs.declared.Settled.{Settled}
 use Rattle.values.specs.declared.Settled.the-variants.{Listed, Refused}
 

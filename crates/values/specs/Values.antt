@@ -1,7 +1,8 @@
 -- The question Values (document 01, "The questions"): what it promises.
 use Prim.Native.Nat.{ℕ}
-use mathlib.Core.List.{List, _++_}
-use lib.ListN.{length, drop}
+use mathlib.Core.List.{List}
+use lib.ListN.{length}
+use Rattle.ac.specs.Lists.{receives}
 use Rattle.ac.specs.Pair.{Mode, variables}
 use Rattle.ac.specs.Rows.{Groups, GroupsOf}
 use Rattle.ac.specs.Selection.{value}
@@ -26,10 +27,6 @@ told (Refused refusal) = refused (numberOf refusal)
 -- For each variable ascending, its byte, a byte count and the atoms.
 abbrev pub valuesOf : Mode → List ℕ → List ℕ → Groups → ℕ → List ℕ
 valuesOf M L R G key = laidOut (bindings (value M (layout .new) L R G (selectionAt layout G key)) (variables M L R))
-
--- The buffer receives them; bytes after the written part stay unchanged.
-abbrev pub receives : List ℕ → List ℕ → List ℕ
-receives buffer bytes = bytes ++ drop (length bytes) buffer
 
 -- What Values promises of its outcome and of the lent buffer at exit.
 pub data ValuesPromise (M : Mode) (L R : List ℕ) (key : ℕ) (out : List ℕ) : ValuesOutcome → List ℕ → Type 0 where

@@ -8,6 +8,7 @@ use borrow.Author.Tests.{le-ltb}
 use lib.Dec.{ltb}
 use lib.Seq.{take-all}
 use lib.ListN.{length, take}
+use Rattle.ac.specs.Lists.{receives}
 use Rattle.ac.specs.Pair.{unifying, variables}
 use Rattle.ac.specs.Rows.{Groups, GroupsOf}
 use Rattle.ac.specs.Selection.{Selection, SelectionOf, value, admissible}
@@ -35,7 +36,7 @@ use Rattle.values.specs.Values.{is-written, valuesOf}
 use Rattle.values.proofs.Given.{none-at-all}
 use Rattle.values.proofs.Determined.{values-determined}
 use Rattle.worked.specs.Questions.{pageQuestion}
-use Rattle.worked.specs.Answers.{Answers, receives, RowsGives, PageGives, ValuesGives, ValuesGiveInTurn, none, next}
+use Rattle.worked.specs.Answers.{Answers, RowsGives, PageGives, ValuesGives, ValuesGiveInTurn, none, next}
 
 -- where no number at all is given, none of a list is
 none-of : {Given : ℕ → Type 0} → ((n : ℕ) → Given n → ⊥) → (ns : List ℕ) → NoneOf Given ns

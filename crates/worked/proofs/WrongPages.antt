@@ -5,6 +5,7 @@ use mathlib.Core.Path.{_≡_, refl, ap, subst}
 use mathlib.Core.Bool.{Bool, false}
 use mathlib.Core.List.{List, [], _∷_, List·Memᴰ, List·Memᴰ·head, List·Memᴰ·tail}
 use lib.ListN.{length, getD, replicate}
+use Rattle.ac.specs.Lists.{receives}
 use Rattle.ac.specs.Pair.{unifying}
 use Rattle.ac.specs.Search.{groups}
 use Rattle.ac.specs.Keys.{layout, keys, Begin, start, after}
@@ -12,7 +13,7 @@ use Rattle.ac.specs.Worked.{the-keys}
 use Rattle.ac.proofs.Groups.{groups-exist}
 use Rattle.solver.specs.Page.{page}
 use Rattle.worked.specs.Questions.{PageAsked, pageQuestion}
-use Rattle.worked.specs.Answers.{Answers, receives, PageGives, numbered}
+use Rattle.worked.specs.Answers.{Answers, PageGives, numbered}
 use Rattle.worked.specs.Programs.{Program, MeetsAt, RefusesEverything, ConstantResult, WritesNothing, ThenFifteen}
 use Rattle.worked.proofs.Within.{never-given}
 use Rattle.worked.proofs.Answering.{page-from}

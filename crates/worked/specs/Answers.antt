@@ -2,8 +2,9 @@
 use Prim.Native.Nat.{ℕ, _-_, _≤_}
 use mathlib.Core.Path.{_≡_}
 use mathlib.Core.Bool.{false}
-use mathlib.Core.List.{List, [], _∷_, _++_, List·Memᴰ}
-use lib.ListN.{length, getD, drop}
+use mathlib.Core.List.{List, [], _∷_, List·Memᴰ}
+use lib.ListN.{length, getD}
+use Rattle.ac.specs.Lists.{receives}
 use Rattle.ac.specs.Pair.{unifying}
 use Rattle.ac.specs.Rows.{Group, Groups, GroupsOf}
 use Rattle.ac.specs.Keys.{layout, keys, start}
@@ -19,10 +20,6 @@ use Rattle.worked.specs.Questions.{Question, TwoBuffers, readQuestion, r
 pub record Answers (Q : Question) (asked : Q .Asked) (lent : Q .Lent) (outcome : Q .Outcome) (exit : Q .Lent) : Type 0 where
   pub meets : Q .Promise asked lent outcome exit
   pub alone : (other : Q .Outcome) (other-exit : Q .Lent) → Q .Promise asked lent other other-exit → (other ≡ outcome) × (other-exit ≡ exit)
-
--- the buffer with this written in front; what comes after it stays unchanged
-abbrev pub receives : List ℕ → List ℕ → List ℕ
-receives buffer front = front ++ drop (length front) buffer
 
 -- the first page of a list that fits it: 13 where nothing is listed, else how many keys there are, and that no more follow
 abbrev pub firstPage : List ℕ → PageOutcome

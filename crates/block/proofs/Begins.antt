@@ -1,22 +1,14 @@
--- The term that some bytes begin with, and what a buffer holds after it was flattened.
-use Prim.Native.Nat.{ℕ, _+_, _*_, _-_, _<_, _≤_}
-use mathlib.Core.Path.{_≡_, refl, ap, sym, subst, _∙_}
+-- The term that some bytes begin with: which bytes begin with one, and with which.
+use Prim.Native.Nat.{ℕ, _<_}
+use mathlib.Core.Path.{_≡_, refl, ap, sym, _∙_}
 use mathlib.Core.List.{List, [], _∷_, _++_, append-assoc, append-nil}
 use native.Mathlib.Omega.{arith}
-use lib.ListN.{length, getD, take, drop, set, length-append, length-drop, drop-of-length-le}
-use lib.Seq.{take-at, drop-at, drop-drop, drop-length, drop-cons}
-use borrow.Rule.Slice.PartAt.{part-to-end}
-use borrow.Rule.Slice.PartMut.{putMid, post-is}
-use Rattle.ac.specs.Term.{Term, atom, plus, flatten}
+use lib.ListN.{length}
+use Rattle.ac.specs.Term.{Term, atom, plus}
 use Rattle.block.specs.Front.{encode, MayBeWritten, Writable, one, two, Writes}
 use Rattle.block.specs.Table.{NoTerm}
-use Rattle.block.specs.Read.{receives}
-use Rattle.block.specs.Inner.{Classified, variable, constant, refused, Begins, Flattens, found, nothing, TakesApart, atoms}
-use Rattle.block.specs.declared.term.Kind.the-variants.{Variable, Constant, Plus, Refused}
-use Rattle.block.specs.declared.term.Flattened.{Flattened}
-use Rattle.block.specs.declared.term.Flattened.the-variants.{Found, Nothing}
-use Rattle.block.specs.declared.term.Side.the-variants.{Atoms}
-use Rattle.block.proofs.Terms.{plus-is-no-atom, one-reading, bytes-of-atoms}
+use Rattle.block.specs.Inner.{Begins}
+use Rattle.block.proofs.Terms.{plus-is-no-atom, one-reading}
 
 -- a term has at least a byte
 pub empty-begins-not : {bytes : List ℕ} → length bytes ≡ 0 → (t : Term) → Begins bytes t → ⊥
@@ -34,31 +26,6 @@ above-begins-not {a} h (atom b) i = go (i .writable) (let e : a ≡ b = cc (i .s
     go : Writable (atom b) → a ≡ b → ⊥
     go (one m) e = omega arith
 above-begins-not {a} h (plus s t) i = let e : a ≡ 128 = cc (i .splits) in omega arith
-
--- bytes that are not empty are their first byte and the others
-first-byte : (bytes : List ℕ) → 0 < length bytes → bytes ≡ getD bytes 0 0 ∷ take (length bytes - 1) (drop 1 bytes)
-first-byte bytes h = drop-cons bytes 0 0 h ∙ ap (λ (l : List ℕ). getD bytes 0 0 ∷ l) (sym (part-to-end bytes 1))
-
--- what is found where the first byte was looked at is found in the whole
-module _ {bytes buffer after : List ℕ} {r : Flattened} (some : 0 < length bytes) where
-  pub after-first-byte : Flattens (getD bytes 0 0 ∷ take (length bytes - 1) (drop 1 bytes)) buffer r after → Flattens bytes buffer r after
-  after-first-byte f = subst (λ (l : List ℕ). Flattens l buffer r after) (sym (first-byte bytes some)) f
-
-  pub after-plus-byte : getD bytes 0 0 ≡ 128 → Flattens (128 ∷ take (length bytes - 1) (drop 1 bytes)) buffer r after → Flattens bytes buffer r after
-  after-plus-byte is-plus f = after-first-byte (rw is-plus f)
-
--- which bytes are atoms, which is a plus and which is none
-pub variable-may-be-written : {b : ℕ} → Classified b Variable → MayBeWritten b
-variable-may-be-written (variable h) = omega arith
-
-pub constant-may-be-written : {b : ℕ} → Classified b Constant → MayBeWritten b
-constant-may-be-written (constant l h) = h
-
-pub plus-is-128 : {b : ℕ} → Classified b Plus → b ≡ 128
-plus-is-128 (Classified.plus e) = e
-
-pub refused-is-above : {b : ℕ} → Classified b Refused → 128 < b
-refused-is-above (refused h) = h
 
 -- after 128 stand two terms
 pub plus-begins : {bytes : List ℕ} {s t : Term} (b : Begins bytes s) → Begins (b .rest) t → Begins (128 ∷ bytes) (plus s t)
@@ -99,123 +66,19 @@ after-plus {bytes} (plus s t) b = go (b .writable) (let e : bytes ≡ (encode s 
 pub first-missing : {bytes : List ℕ} → ((t : Term) → Begins bytes t → ⊥) → (t : Term) → Begins (128 ∷ bytes) t → ⊥
 first-missing none t b = let w = after-plus t b in none (w .left) (w .first)
 
-pub second-missing : {bytes : List ℕ} {s : Term} (b : Begins bytes s) → ((t : Term) → Begins (b .rest) t → ⊥) → (t : Term) → Begins (128 ∷ bytes) t → ⊥
+pub second-missing :
+    {bytes : List ℕ} {s : Term} (b : Begins bytes s) →
+    ((t : Term) → Begins (b .rest) t → ⊥) →
+    (t : Term) →
+    Begins (128 ∷ bytes) t → ⊥
 second-missing {bytes} {s} b none t c =
     let w = after-plus t c in
     let same : b .rest ≡ w .first .rest = one-reading (b .writable) (w .first .writable) (sym (b .splits) ∙ w .first .splits) .1 in
     none (w .right) (rw same (w .second))
 
--- a buffer that is not empty, with an atom written at its start
-pub receives-atom : (buffer : List ℕ) (a : ℕ) → 0 < length buffer → set buffer 0 a ≡ receives buffer (flatten (atom a))
-receives-atom [] a h = absurd (let z : _<_ 0 0 = h in omega arith)
-receives-atom (b ∷ buffer) a h = refl
-
--- what a buffer receives of a sum: the first term's atoms, then after them the second's
-pub receives-append : (buffer xs ys : List ℕ) → receives buffer (xs ++ ys) ≡ xs ++ receives (drop (length xs) buffer) ys
-receives-append buffer xs ys = simp (append-assoc, length-append, drop-drop)
-
--- what `Found` tells: the term, its size, and the buffer with its atoms
-pub record FoundTerm (bytes buffer : List ℕ) (used filled : ℕ) (after : List ℕ) : Type 0 where
-  pub term : Term
-  pub begins : Begins bytes term
-  pub used-is : used ≡ length (encode term)
-  pub filled-is : filled ≡ length (flatten term)
-  pub after-is : after ≡ receives buffer (flatten term)
-
-pub when-found : {bytes buffer after : List ℕ} {r : Flattened} {used filled : ℕ} → Flattens bytes buffer r after → r ≡ Found used filled → FoundTerm bytes buffer used filled after
-when-found (found {t} b) e = record { term = t; begins = b; used-is = cc e; filled-is = cc e; after-is = refl }
-when-found (nothing none) e = absurd (let z : _≡_ {A = ℕ} 0 1 = cc e in omega arith)
-
-pub when-nothing : {bytes buffer after : List ℕ} {r : Flattened} → Flattens bytes buffer r after → r ≡ Nothing → (t : Term) → Begins bytes t → ⊥
-when-nothing (found b) e = absurd (let z : _≡_ {A = ℕ} 0 1 = cc e in omega arith)
-when-nothing (nothing none) e = none
-
 -- bytes that are a term begin with it
-writes-begins : {bytes : List ℕ} {t : Term} → Writes bytes t → Begins bytes t
+pub writes-begins : {bytes : List ℕ} {t : Term} → Writes bytes t → Begins bytes t
 writes-begins {bytes} {t} w = record { rest = []; splits = w .exactly ∙ sym (append-nil (encode t)); writable = w .writable }
 
 pub nothing-is-no-term : {bytes : List ℕ} → ((t : Term) → Begins bytes t → ⊥) → NoTerm bytes
 nothing-is-no-term none t w = none t (writes-begins w)
-
-length-zero : (l : List ℕ) → length l ≡ 0 → l ≡ []
-length-zero [] e = refl
-length-zero (a ∷ l) e = absurd (omega (arith, e))
-
-module _ {bytes buffer after : List ℕ} {used filled : ℕ} (f : FoundTerm bytes buffer used filled after) where
-  -- the bytes of the term are among the bytes, and n bytes are (n + 1) / 2 atoms
-  pub found-sizes : (used ≤ length bytes) × (used + 1 ≡ 2 * filled)
-  found-sizes = omega (arith, bytes-of-atoms (f .term), simp length-append at (ap length (f .begins .splits)), f .used-is, f .filled-is)
-
-  -- the bytes after the term
-  rest-is : take (length bytes - used) (drop used bytes) ≡ f .begins .rest
-  rest-is =
-      part-to-end bytes used
-      ∙ ap (drop used) (f .begins .splits)
-      ∙ drop-at (encode (f .term)) (f .begins .rest) used (sym (f .used-is))
-
-  -- the term uses exactly the bytes, or no term does
-  pub whole-is-term : length bytes ≤ used → TakesApart bytes buffer (Atoms filled) after
-  whole-is-term all =
-      let none : f .begins .rest ≡ [] = length-zero (f .begins .rest) (omega (arith, simp length-append at (ap length (f .begins .splits)), f .used-is)) in
-      let exact : Writes bytes (f .term) =
-      record {
-        exactly = f .begins .splits ∙ ap (λ (l : List ℕ). encode (f .term) ++ l) none ∙ append-nil (encode (f .term));
-        writable = f .begins .writable;
-      } in
-      rw (f .filled-is, f .after-is) (atoms exact)
-
-  pub left-over-is-no-term : used < length bytes → NoTerm bytes
-  left-over-is-no-term over t w =
-      let same : f .term ≡ t = one-reading (f .begins .writable) (w .writable) (sym (f .begins .splits) ∙ writes-begins w .splits) .0 in
-      omega (arith, ap length (w .exactly), ap (λ (u : Term). length (encode u)) same, f .used-is)
-
-  -- the buffer's atoms, and what stands after them
-  front-is : take filled after ≡ flatten (f .term)
-  front-is = ap (take filled) (f .after-is) ∙ take-at (flatten (f .term)) (drop (length (flatten (f .term))) buffer) filled (sym (f .filled-is))
-
-  back-is : take (length after - filled) (drop filled after) ≡ drop (length (flatten (f .term))) buffer
-  back-is =
-      part-to-end after filled
-      ∙ ap (drop filled) (f .after-is)
-      ∙ drop-at (flatten (f .term)) (drop (length (flatten (f .term))) buffer) filled (sym (f .filled-is))
-
-  pub filled-within : filled ≤ length after
-  filled-within = omega (arith, simp length-append at (ap length (f .after-is)), f .filled-is)
-
-  -- fewer bytes are left for the second term, and room enough for its atoms
-  pub second-sizes :
-      length bytes + 1 < 2 * length buffer →
-      length after ≡ length buffer →
-      (length (take (length bytes - used) (drop used bytes)) ≤ length bytes)
-      × (length (take (length bytes - used) (drop used bytes)) < 2 * length (take (length after - filled) (drop filled after)))
-  second-sizes fits same =
-      simp (part-to-end, length-drop) (let sizes : (used ≤ length bytes) × (used + 1 ≡ 2 * filled) = found-sizes in omega arith)
-
-  pub second-nothing : ((t : Term) → Begins (take (length bytes - used) (drop used bytes)) t → ⊥) → (t : Term) → Begins (128 ∷ bytes) t → ⊥
-  second-nothing none = second-missing (f .begins) (rw rest-is at none)
-
-  module _ {end : List ℕ} {used′ filled′ : ℕ} (g : FoundTerm (take (length bytes - used) (drop used bytes)) (take (length after - filled) (drop filled after)) used′ filled′ end) where
-    both : Begins (128 ∷ bytes) (plus (f .term) (g .term))
-    both = plus-begins (f .begins) (rw rest-is at (g .begins))
-
-    bytes-add-up : length (encode (plus (f .term) (g .term))) ≡ 1 + used + used′
-    bytes-add-up = omega (arith, length-append (encode (f .term)) (encode (g .term)), f .used-is, g .used-is)
-
-    atoms-add-up : length (flatten (plus (f .term) (g .term))) ≡ filled + filled′
-    atoms-add-up = omega (arith, length-append (flatten (f .term)) (flatten (g .term)), f .filled-is, g .filled-is)
-
-    buffer-holds-both : receives buffer (flatten (plus (f .term) (g .term))) ≡ putMid filled (length after - filled) after end
-    buffer-holds-both =
-        cc (
-          receives-append buffer (flatten (f .term)) (flatten (g .term)),
-          back-is,
-          g .after-is,
-          append-nil end,
-          post-is filled (length after) after filled-within,
-          drop-length after,
-          front-is,
-        )
-
-    -- so the two terms, with the plus before them, were found
-    pub found-both : Flattens (128 ∷ bytes) buffer (Found (1 + used + used′) (filled + filled′)) (putMid filled (length after - filled) after end)
-    found-both = rw (← bytes-add-up, ← atoms-add-up, ← buffer-holds-both) (found both)

@@ -27,4 +27,7 @@ pub read-determined :
 read-determined (is-refused f) (is-refused g) = (ap refused (first-unique f g), refl, refl)
 read-determined (is-refused f) (is-read none w v) = absurd (first-not-none f none)
 read-determined (is-read none w v) (is-refused f) = absurd (first-not-none f none)
-read-determined (is-read none w v) (is-read none′ w′ v′) = (cc (writes-unique w w′, writes-unique v v′), cc (writes-unique w w′), cc (writes-unique v v′))
+read-determined (is-read none w v) (is-read none′ w′ v′) =
+    let left-same = writes-unique w w′ in
+    let right-same = writes-unique v v′ in
+    (cc (left-same, right-same), cc left-same, cc right-same)

@@ -8,13 +8,14 @@ use Rattle.block.specs.Front.{leftSide, rightSide}
 use Rattle.block.specs.Read.{ReadOutcome, lengths, told, ReadPromise, is-refused, is-read}
 use Rattle.block.specs.declared.ReadAnswer.{ReadAnswer}
 use Rattle.block.specs.declared.ReadAnswer.the-variants.{Sides}
+use Rattle.block.proofs.Apart.{apart}
 
 lengths-within :
     {block : List ℕ} {number : ℕ} {left right l r : List ℕ} {o : ReadOutcome} {m n : ℕ} →
     ReadPromise block number left right o l r →
     o ≡ lengths m n →
     (m ≤ length l) × (n ≤ length r)
-lengths-within (is-refused f) e = absurd (let z : _≡_ {A = ℕ} 0 1 = cc e in omega arith)
+lengths-within (is-refused f) e = apart (cc e)
 lengths-within {left = left} {right = right} {m = m} {n = n} (is-read {s} {t} none v w) e =
     let left-is : m ≡ length (leftSide s) = cc e in
     let right-is : n ≡ length (rightSide t) = cc e in

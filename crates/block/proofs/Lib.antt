@@ -1,6 +1,10 @@
+mod Apart
 pub mod Terms
 pub mod Begins
+pub mod Flattens
 pub mod Settled
 pub mod Sides
+pub mod Faults
 pub mod Determined
+pub mod Examples
 pub mod Laws

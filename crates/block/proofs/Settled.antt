@@ -16,13 +16,14 @@ use Rattle.numbers.specs.First.{First, NoneOf, here, later, end, also}
 use Rattle.numbers.specs.declared.Refusal.the-variants as refusal
 use Rattle.block.specs.Front.{Writes, leftSide, rightSide}
 use Rattle.block.specs.Block.{blockNumber, leftLength, rightLength, leftTerm, rightTerm, filler, check, checkOfBytes}
-use Rattle.block.specs.Table.{ReadGiven, block-length, check-differs, block-number, term-length, no-term, filler-byte, short-buffer, NoLength, NoTerm, blockNumbers}
+use Rattle.block.specs.Table.{ReadGiven, block-length, check-differs, block-number, term-length, no-term, filler-byte, short-buffer, NoLength, NoTerm}
 use Rattle.block.specs.Read.{refused, lengths, receives, ReadPromise, is-refused, is-read}
-use Rattle.block.specs.Inner.{IsLength, TermLengths, within, outside, allZero, Refuses, GoodHeader}
+use Rattle.block.specs.Inner.{IsLength, TermLengths, within, outside, allZero, blockNumbers, Refuses, GoodHeader}
+use Rattle.block.proofs.Apart.{apart}
 
 and-true : (x y : Bool) → x && y ≡ true → (x ≡ true) × (y ≡ true)
 and-true true y e = (refl, e)
-and-true false y e = absurd (let z : _≡_ {A = ℕ} 0 1 = cc e in omega arith)
+and-true false y e = apart (cc e)
 
 -- a length from 1 to 127 is none that no term may have
 is-length : {n : ℕ} → IsLength n → NoLength n → ⊥
@@ -31,12 +32,12 @@ is-length h (inr above) = omega arith
 
 -- what the test of the lengths tells
 pub tested-outside : {m n : ℕ} {b : Bool} → TermLengths m n b → not b ≡ true → NoLength m ⊎ NoLength n
-tested-outside (within l r) e = absurd (let z : _≡_ {A = ℕ} 0 1 = cc e in omega arith)
+tested-outside (within l r) e = apart (cc e)
 tested-outside (outside h) e = h
 
 pub tested-within : {m n : ℕ} {b : Bool} → TermLengths m n b → not b ≡ false → IsLength m × IsLength n
 tested-within (within l r) e = (l, r)
-tested-within (outside h) e = absurd (let z : _≡_ {A = ℕ} 0 1 = cc e in omega arith)
+tested-within (outside h) e = apart (cc e)
 
 -- where every byte is 0, so is each
 only-zeros : (bytes : List ℕ) → allZero bytes ≡ true → {b : ℕ} → List·Memᴰ b bytes → b ≡ 0
@@ -50,7 +51,7 @@ record OtherThanZero (bytes : List ℕ) : Type 0 where
   not-zero : byte ≡ 0 → ⊥
 
 other-than-zero : (bytes : List ℕ) → allZero bytes ≡ false → OtherThanZero bytes
-other-than-zero [] e = absurd (let z : _≡_ {A = ℕ} 0 1 = cc e in omega arith)
+other-than-zero [] e = apart (cc e)
 other-than-zero (a ∷ bytes) e = go (eqb a 0) refl (other-than-zero bytes)
   where
     go : (z : Bool) → eqb a 0 ≡ z → (allZero bytes ≡ false → OtherThanZero bytes) → OtherThanZero (a ∷ bytes)
@@ -92,13 +93,19 @@ module _ {block : List ℕ} {number : ℕ} where
       pub block-number-first : (blockNumber block ≡ number → ⊥) → Refuses block number refusal.BlockNumber
       block-number-first h = record { first = λ left right. later (not-1 whole) (later (not-2 checked) (here (block-number h))) }
 
-      pub term-length-first : blockNumber block ≡ number → NoLength (leftLength block) ⊎ NoLength (rightLength block) → Refuses block number refusal.TermLength
+      pub term-length-first :
+          blockNumber block ≡ number →
+          NoLength (leftLength block) ⊎ NoLength (rightLength block) →
+          Refuses block number refusal.TermLength
       term-length-first numbered h =
           record { first = λ left right. later (not-1 whole) (later (not-2 checked) (later (not-3 numbered) (here (term-length h)))) }
 
   module _ (good : GoodHeader block number) where
     -- after a good header the first number is one of 5 and 6
-    after-header : {left right : List ℕ} {n : ℕ} → First (ReadGiven block number left right) (5 ∷ 6 ∷ []) n → First (ReadGiven block number left right) blockNumbers n
+    after-header :
+        {left right : List ℕ} {n : ℕ} →
+        First (ReadGiven block number left right) (5 ∷ 6 ∷ []) n →
+        First (ReadGiven block number left right) blockNumbers n
     after-header f =
         later (not-1 (good .whole))
         (later (not-2 (good .checked))
@@ -139,8 +146,16 @@ module _ {block : List ℕ} {number : ℕ} {left right : List ℕ} where
     not-16 (short-buffer (inl h)) = omega arith
     not-16 (short-buffer (inr h)) = omega arith
 
-    pub refused-block : {why : Refusal} → Refuses block number why → ReadPromise block number left right (refused (numberOf why)) left right
-    refused-block r = is-refused (later not-16 (r .first left right))
+    pub promised-refusal : {why : Refusal} → Refuses block number why → ReadPromise block number left right (refused (numberOf why)) left right
+    promised-refusal r = is-refused (later not-16 (r .first left right))
 
-    pub read-block : {s t : Term} → NoneOf (ReadGiven block number left right) blockNumbers → Writes (leftTerm block) s → Writes (rightTerm block) t → ReadPromise block number left right (lengths (length (leftSide s)) (length (rightSide t))) (receives left (leftSide s)) (receives right (rightSide t))
-    read-block none v w = is-read (also not-16 none) v w
+    pub promised-sides :
+        {s t : Term} →
+        NoneOf (ReadGiven block number left right) blockNumbers →
+        Writes (leftTerm block) s →
+        Writes (rightTerm block) t →
+        ReadPromise block number left right
+        (lengths (length (leftSide s)) (length (rightSide t)))
+        (receives left (leftSide s))
+        (receives right (rightSide t))
+    promised-sides none v w = is-read (also not-16 none) v w

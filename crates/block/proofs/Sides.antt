@@ -21,15 +21,18 @@ use Rattle.block.specs.declared.header.Header.{Header}
 use Rattle.block.specs.declared.header.Header.the-variants.{Lengths}
 use Rattle.block.specs.declared.term.Side.{Side}
 use Rattle.block.specs.declared.term.Side.the-variants as side
-use Rattle.block.proofs.Settled.{term-first, filler-first, none-given, read-block}
+use Rattle.block.proofs.Settled.{term-first, filler-first, none-given, promised-sides}
 use Rattle.block.proofs.Terms.{atoms-of-term}
+use Rattle.block.proofs.Apart.{apart}
 
 -- a part of a list, as it is lent, is that slice of the list
 part-is-slice : (from to : ℕ) (l : List ℕ) → from ≤ to → take (to - from) (drop from l) ≡ slice from to l
 part-is-slice zero to l h = ap (λ (n : ℕ). take n l) (sub-zero to)
 part-is-slice (suc from) zero l h = absurd (omega arith)
 part-is-slice (suc from) (suc to) [] h = take-nil (suc to - suc from)
-part-is-slice (suc from) (suc to) (a ∷ l) h = ap (λ (n : ℕ). take n (drop from l)) (let e : suc to - suc from ≡ to - from = omega arith in e) ∙ part-is-slice from to l (omega arith)
+part-is-slice (suc from) (suc to) (a ∷ l) h =
+    let e : suc to - suc from ≡ to - from = omega arith in
+    ap (λ (n : ℕ). take n (drop from l)) e ∙ part-is-slice from to l (omega arith)
 
 -- what `Lengths` tells
 pub record HeaderLengths (block : List ℕ) (number left right : ℕ) : Type 0 where
@@ -37,42 +40,57 @@ pub record HeaderLengths (block : List ℕ) (number left right : ℕ) : Type 0 w
   pub left-is : left ≡ leftLength block
   pub right-is : right ≡ rightLength block
 
-pub when-lengths : {block : List ℕ} {number left right : ℕ} {h : Header} → SettlesHeader block number h → h ≡ Lengths left right → HeaderLengths block number left right
-when-lengths (is-refused r) e = absurd (let z : _≡_ {A = ℕ} 0 1 = cc e in omega arith)
+pub when-lengths :
+    {block : List ℕ} {number left right : ℕ} {h : Header} →
+    SettlesHeader block number h →
+    h ≡ Lengths left right →
+    HeaderLengths block number left right
+when-lengths (is-refused r) e = apart (cc e)
 when-lengths (is-good g) e = record { good = g; left-is = cc e; right-is = cc e }
 
-pub when-refused : {block : List ℕ} {number : ℕ} {h : Header} {why : Refusal} → SettlesHeader block number h → h ≡ Header.Refused why → Refuses block number why
+pub when-refused :
+    {block : List ℕ} {number : ℕ} {h : Header} {why : Refusal} →
+    SettlesHeader block number h →
+    h ≡ Header.Refused why →
+    Refuses block number why
 when-refused {why = why} (is-refused {refusal = r} f) e = let same : r ≡ why = cc e in rw (← same) f
-when-refused (is-good g) e = absurd (let z : _≡_ {A = ℕ} 0 1 = cc e in omega arith)
+when-refused (is-good g) e = apart (cc e)
 
--- what `Atoms` tells
-pub record SideTerm (bytes buffer : List ℕ) (count : ℕ) (after : List ℕ) : Type 0 where
+-- what `Atoms` tells, whatever the buffer held before
+pub record SideTerm (bytes : List ℕ) (count : ℕ) (after : List ℕ) : Type 0 where
+  pub buffer : List ℕ
   pub term : Term
   pub writes : Writes bytes term
   pub count-is : count ≡ length (flatten term)
   pub after-is : after ≡ receives buffer (flatten term)
 
-pub when-atoms : {bytes buffer after : List ℕ} {count : ℕ} {s : Side} → TakesApart bytes buffer s after → s ≡ side.Atoms count → SideTerm bytes buffer count after
-when-atoms (atoms {t} w) e = record { term = t; writes = w; count-is = cc e; after-is = refl }
-when-atoms (no-term none) e = absurd (let z : _≡_ {A = ℕ} 0 1 = cc e in omega arith)
+pub when-atoms :
+    {bytes buffer after : List ℕ} {count : ℕ} {s : Side} →
+    TakesApart bytes buffer s after →
+    s ≡ side.Atoms count →
+    SideTerm bytes count after
+when-atoms {buffer = buffer} (atoms {t} w) e = record { buffer = buffer; term = t; writes = w; count-is = cc e; after-is = refl }
+when-atoms (no-term none) e = apart (cc e)
 
 pub when-no-term : {bytes buffer after : List ℕ} {s : Side} → TakesApart bytes buffer s after → s ≡ side.NoTerm → NoTerm bytes
-when-no-term (atoms w) e = absurd (let z : _≡_ {A = ℕ} 0 1 = cc e in omega arith)
+when-no-term (atoms w) e = apart (cc e)
 when-no-term (no-term none) e = none
 
-module _ {bytes buffer after : List ℕ} {count : ℕ} (f : SideTerm bytes buffer count after) where
+module _ {bytes after : List ℕ} {count : ℕ} (f : SideTerm bytes count after) where
   pub count-within : count ≤ length after
   count-within = omega (arith, simp length-append at (ap length (f .after-is)), f .count-is)
 
   side-is : take count after ≡ flatten (f .term)
-  side-is = ap (take count) (f .after-is) ∙ take-at (flatten (f .term)) (drop (length (flatten (f .term))) buffer) count (sym (f .count-is))
+  side-is = ap (take count) (f .after-is) ∙ take-at (flatten (f .term)) (drop (length (flatten (f .term))) (f .buffer)) count (sym (f .count-is))
 
   -- a term of at most 127 bytes has at most 64 atoms
   pub count-fits : length bytes ≤ 127 → count ≤ 64
   count-fits short = omega (arith, f .count-is, atoms-of-term (f .writes) short)
 
   -- a buffer into which the atoms are copied receives the side
-  pub copied : (lent : List ℕ) → take (length (take count after)) (take count after) ++ drop (length (take count after)) lent ≡ receives lent (flatten (f .term))
+  pub copied :
+      (lent : List ℕ) →
+      take (length (take count after)) (take count after) ++ drop (length (take count after)) lent ≡ receives lent (flatten (f .term))
   copied lent = rw (side-is, take-length)
 
 -- the right term's atoms are themselves
@@ -114,25 +132,32 @@ module _ {block : List ℕ} {number l r : ℕ} (h : HeaderLengths block number l
   pub right-missing : NoTerm rightPart → Refuses block number refusal.Term
   right-missing none = term-first (h .good) (inr (rw right-part-is at none))
 
-  module _ {left-buffer right-buffer left-after right-after : List ℕ} {m n : ℕ} (f : SideTerm leftPart left-buffer m left-after) (g : SideTerm rightPart right-buffer n right-after) where
-    left-writes : Writes (leftTerm block) (f .term)
-    left-writes = rw left-part-is at (f .writes)
+  module _
+      {left-after right-after : List ℕ} {m n : ℕ}
+      (f : SideTerm leftPart m left-after)
+      (g : SideTerm rightPart n right-after)
+    where
+      left-writes : Writes (leftTerm block) (f .term)
+      left-writes = rw left-part-is at (f .writes)
 
-    right-writes : Writes (rightTerm block) (g .term)
-    right-writes = rw right-part-is at (g .writes)
+      right-writes : Writes (rightTerm block) (g .term)
+      right-writes = rw right-part-is at (g .writes)
 
-    pub filler-wrong : {z : Bool} → z ≡ allZero fillerPart → not z ≡ true → Refuses block number refusal.Filler
-    filler-wrong {z} e t = filler-first (h .good) left-writes right-writes (rw filler-part-is at (sym e ∙ not-true z t))
+      pub filler-wrong : {z : Bool} → z ≡ allZero fillerPart → not z ≡ true → Refuses block number refusal.Filler
+      filler-wrong {z} e t = filler-first (h .good) left-writes right-writes (rw filler-part-is at (sym e ∙ not-true z t))
 
-    pub sides-read :
-        {z : Bool} {left right left-exit right-exit : List ℕ} →
-        64 ≤ length left →
-        64 ≤ length right →
-        z ≡ allZero fillerPart →
-        not z ≡ false →
-        left-exit ≡ receives left (flatten (f .term)) →
-        right-exit ≡ receives right (flatten (g .term)) →
-        ReadPromise block number left right (lengths m n) left-exit right-exit
-    sides-read {z} {left} {right} left-fits right-fits e t left-is right-is =
-        rw (f .count-is, g .count-is, left-is, right-is, ← right-side-is (g .term))
-        (read-block left-fits right-fits (none-given (h .good) left-writes right-writes (rw filler-part-is at (sym e ∙ not-false z t)) left right) left-writes right-writes)
+      pub sides-read :
+          {z : Bool} {left right left-exit right-exit : List ℕ} →
+          64 ≤ length left →
+          64 ≤ length right →
+          z ≡ allZero fillerPart →
+          not z ≡ false →
+          left-exit ≡ receives left (flatten (f .term)) →
+          right-exit ≡ receives right (flatten (g .term)) →
+          ReadPromise block number left right (lengths m n) left-exit right-exit
+      sides-read {z} {left} {right} left-fits right-fits e t left-is right-is =
+          rw (f .count-is, g .count-is, left-is, right-is, ← right-side-is (g .term))
+          (promised-sides left-fits right-fits
+          (none-given (h .good) left-writes right-writes (rw filler-part-is at (sym e ∙ not-false z t)) left right)
+          left-writes
+          right-writes)

@@ -5,6 +5,7 @@ use lib.ListN.{getD, take}
 use lib.Seq.{slice}
 use Rattle.ac.specs.Lists.{sum}
 
+-- a byte of a block, by its place
 abbrev pub byte : List ℕ → ℕ → ℕ
 byte block i = getD block i 0
 

@@ -1,4 +1,4 @@
--- What the functions below Read give.
+-- What the functions that Read calls give.
 use Prim.Native.Nat.{ℕ, _≤_, _<_}
 use mathlib.Core.Path.{_≡_}
 use mathlib.Core.Bool.{Bool, true, false, _&&_}
@@ -12,7 +12,7 @@ use Rattle.numbers.specs.First.{First}
 use Rattle.numbers.specs.declared.Refusal.{Refusal}
 use Rattle.block.specs.Front.{encode, Writable, Writes}
 use Rattle.block.specs.Block.{blockNumber, leftLength, rightLength, check, checkOfBytes}
-use Rattle.block.specs.Table.{ReadGiven, NoLength, NoTerm, blockNumbers}
+use Rattle.block.specs.Table.{ReadGiven, NoLength, NoTerm}
 use Rattle.block.specs.Read.{receives}
 use Rattle.block.specs.declared.header.Header.{Header}
 use Rattle.block.specs.declared.header.Header.the-variants.{Lengths}
@@ -58,6 +58,10 @@ pub data TermLengths (left right : ℕ) : Bool → Type 0 where
 abbrev pub allZero : List ℕ → Bool
 allZero [] = true
 allZero (b ∷ bytes) = eqb b 0 && allZero bytes
+
+-- the numbers that the block alone decides
+abbrev pub blockNumbers : List ℕ
+blockNumbers = 1 ∷ 2 ∷ 3 ∷ 4 ∷ 5 ∷ 6 ∷ []
 
 -- The block is refused with this number, whatever the buffers: it is the first that the block itself gives.
 pub record Refuses (block : List ℕ) (number : ℕ) (refusal : Refusal) : Type 0 where

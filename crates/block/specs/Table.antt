@@ -12,7 +12,7 @@ use Rattle.block.specs.Block.{blockNumber, leftLength, rightLength, left
 abbrev pub NoLength : ℕ → Type 0
 NoLength n = (n ≡ 0) ⊎ (127 < n)
 
--- bytes that are no term: it ends early, has bytes left over or holds a byte above 128
+-- bytes that are no term, since it ends early, has bytes left over or holds a byte above 128 (`proofs/Faults.antt`: exactly then)
 abbrev pub NoTerm : List ℕ → Type 0
 NoTerm bytes = (t : Term) → Writes bytes t → ⊥
 
@@ -33,10 +33,6 @@ pub data ReadGiven (block : List ℕ) (number : ℕ) (left right : List ℕ) : �
   -- a lent buffer is too short: two lent buffers of at least 64 bytes
   short-buffer : (length left < 64) ⊎ (length right < 64) → ReadGiven block number left right 16
 
--- the numbers that the block alone decides
-abbrev pub blockNumbers : List ℕ
-blockNumbers = 1 ∷ 2 ∷ 3 ∷ 4 ∷ 5 ∷ 6 ∷ []
-
 -- Order: 16 first, then by number. Read gives 1 to 6 and 16.
 abbrev pub readNumbers : List ℕ
-readNumbers = 16 ∷ blockNumbers
+readNumbers = 16 ∷ 1 ∷ 2 ∷ 3 ∷ 4 ∷ 5 ∷ 6 ∷ []

@@ -89,7 +89,12 @@ module _ {t : Table} (within : Within t) (room : length (t .constants) ≡ 4) wh
   table-sized = record { how-many-constants = how-many; a-size-each = λ g h. ap length (group-in g h) ∙ length-groupAt t g }
 
   pub table-holds : Holds (t .rows) (t .places) (t .unbalanced) (getD (t .sizes) 0 0) (groupsIn t)
-  table-holds = record { how-many-constants = how-many; how-many-balanced = length-groupAt t 0; entries = λ g i p row place. go g i p row place (decLt (t .unbalanced) g) }
+  table-holds =
+      record {
+        how-many-constants = how-many;
+        how-many-balanced = length-groupAt t 0;
+        entries = λ g i p row place. go g i p row place (decLt (t .unbalanced) g);
+      }
     where
       go : (g i p : ℕ) → i < length (group (groupsIn t) g) → p < t .places → Dec (t .unbalanced < g)
           → getD (getD (group (groupsIn t) g) i []) p 0 ≡ getD (t .rows) (96 * g + 6 * i + p) 0

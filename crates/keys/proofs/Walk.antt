@@ -32,6 +32,10 @@ admissible-reached M new L R G s full =
 true-is-not-false : true ≡ false → ⊥
 true-is-not-false e = let z : _≡_ {A = ℕ} 0 1 = cc e in omega arith
 
+-- the rows that the key takes reach every place
+abbrev fills : Table → ℕ → Bool
+fills t key = allReached (taken (layout .new) (groupsIn t) (selectionAt layout (groupsIn t) key)) (t .places)
+
 -- no listed key stands from the one number to before the other
 abbrev pub Passed : Table → ℕ → ℕ → Type 0
 Passed t start at = OfItsList t (λ keys. (other : ℕ) → List·Memᴰ other keys → start ≤ other → at ≤ other)
@@ -48,7 +52,7 @@ pub record Walked (t : Table) (start at : ℕ) : Type 0 where
 module _ {t : Table} {M : Mode} {L R : List ℕ} (full : M .empties ≡ false) (of : TableOf M L R t) where
   -- a listed key is a candidate whose places are all reached, and the other way round
   listed-reached : {key : ℕ} → List·Memᴰ key (keys M layout L R (groupsIn t))
-      → Candidate layout (groupsIn t) key × (allReached (taken (layout .new) (groupsIn t) (selectionAt layout (groupsIn t) key)) (t .places) ≡ true)
+      → Candidate layout (groupsIn t) key × (fills t key ≡ true)
   listed-reached {key} m =
       let h = listed-candidates (table-fits t (of .within)) M L R .0 m in (
         h .0,
@@ -57,7 +61,7 @@ module _ {t : Table} {M : Mode} {L R : List ℕ} (full : M .empties ≡ false) (
       )
 
   reached-listed : {key : ℕ} → Candidate layout (groupsIn t) key
-      → allReached (taken (layout .new) (groupsIn t) (selectionAt layout (groupsIn t) key)) (t .places) ≡ true → List·Memᴰ key (keys M layout L R (groupsIn t))
+      → fills t key ≡ true → List·Memᴰ key (keys M layout L R (groupsIn t))
   reached-listed {key} candidate e =
       listed-candidates (table-fits t (of .within)) M L R .1 (
         candidate,
@@ -75,16 +79,18 @@ module _ {t : Table} {start at : ℕ} (passed : Passed t start at) where
       go (no beyond) = omega arith
 
   -- where the number itself is not admissible, at the next one
-  pub passed-weighed : allReached (taken (layout .new) (groupsIn t) (selectionAt layout (groupsIn t) at)) (t .places) ≡ false → Passed t start (at + 1)
+  pub passed-weighed : fills t at ≡ false → Passed t start (at + 1)
   passed-weighed missed M L R full of other m h = go (ℕ-discrete at other)
     where
       go : Dec (at ≡ other) → at + 1 ≤ other
-      go (yes same) = absurd (true-is-not-false (sym (listed-reached full of (subst (λ k. List·Memᴰ k (keys M layout L R (groupsIn t))) (sym same) m) .1) ∙ missed))
+      go (yes same) =
+          let itself = subst (λ k. List·Memᴰ k (keys M layout L R (groupsIn t))) (sym same) m in
+          absurd (true-is-not-false (sym (listed-reached full of itself .1) ∙ missed))
       go (no differs) = omega (arith, passed M L R full of other m h)
 
   -- an admissible candidate is the least listed key from the start on
   pub passed-found : start ≤ at → Candidate layout (groupsIn t) at
-      → allReached (taken (layout .new) (groupsIn t) (selectionAt layout (groupsIn t) at)) (t .places) ≡ true → OfItsList t (λ keys. LeastFrom keys start at)
+      → fills t at ≡ true → OfItsList t (λ keys. LeastFrom keys start at)
   passed-found above candidate e M L R full of =
       record { on-list = reached-listed full of candidate e; at-or-above = above; least = passed M L R full of }
 
@@ -120,7 +126,7 @@ module _ {t : Table} {start at : ℕ} (within : Within t) (walked : Walked t sta
     candidate : Candidate layout (groupsIn t) at
     candidate = stands-candidate (subst (Stands (groupsIn t) at) e here)
 
-    tells : reaches ≡ allReached (taken (layout .new) (groupsIn t) (selectionAt layout (groupsIn t) at)) (t .places)
+    tells : reaches ≡ fills t at
     tells = weighed (groupsIn t) (table-holds within (walked .room)) (table-fits t within) candidate
 
     pub step-weighed : reaches ≡ false → Walked t start (at + 1)

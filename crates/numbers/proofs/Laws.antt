@@ -1,6 +1,6 @@
--- Laws of document 01's table: a number names one refusal, and a question's list gives at most one number.
+-- Laws of document 01's table: a number names one refusal, and a question's list gives at most one number, one of its own.
 use mathlib.Core.Path.{_≡_, refl, ap, sym, _∙_}
-use mathlib.Core.List.{List, [], _∷_}
+use mathlib.Core.List.{List, [], _∷_, List·Memᴰ, List·Memᴰ·head, List·Memᴰ·tail}
 use Prim.Native.Nat.{ℕ}
 use lib.ListN.{getD}
 use Rattle.numbers.specs.Numbers.{numberOf}
@@ -71,3 +71,8 @@ module _ {Given : ℕ → Type 0} where
   pub first-not-none : {ns : List ℕ} {n : ℕ} → First Given ns n → NoneOf Given ns → ⊥
   first-not-none (here g) (also skip none) = skip g
   first-not-none (later skip f) (also skip′ none) = first-not-none f none
+
+  -- the first number is one of the list's: "None is given otherwise."
+  pub first-member : {ns : List ℕ} {n : ℕ} → First Given ns n → List·Memᴰ n ns
+  first-member (here g) = List·Memᴰ·head refl
+  first-member (later skip f) = List·Memᴰ·tail (first-member f)

@@ -1,15 +1,15 @@
 -- At or below in every place, place by place, of a row that stands in a list of bytes.
-use Prim.Native.Nat.{ℕ, zero, suc, _+_, _*_, _-_, _≤_, _<_, min}
+use Prim.Native.Nat.{ℕ, zero, suc, _+_, _*_, _≤_, _<_}
 use native.Mathlib.Omega.{arith}
 use native.Mathlib.Nat.{suc-mul, mul-le-mul-right}
-use mathlib.Core.Path.{_≡_, refl, sym, ap, subst, _∙_}
-use mathlib.Core.List.{List, [], _∷_, List·Memᴰ}
-use lib.ListN.{length, getD, take, drop, length-take, length-drop}
+use mathlib.Core.Path.{_≡_, sym, subst, _∙_}
+use mathlib.Core.List.{List, [], _∷_}
+use lib.ListN.{length, getD, drop, length-take, length-drop}
 use lib.Seq.{getD-take, getD-drop}
-use borrow.Author.Count.{below-none, below-more}
+use borrow.Author.Count.{below-more}
 use Rattle.ac.specs.Rows.{_≼_, _≼_.none, _≼_.place}
 use Rattle.rows.specs.Flat.{rowsOf}
-use Rattle.rows.specs.Kept.{Lower, Tells}
+use Rattle.rows.specs.Kept.{Lower}
 use Rattle.rows.proofs.Flat.{rowAt, Index, index-of, row-found}
 
 ≼-entry : {u v : List ℕ} → u ≼ v → (j : ℕ) → getD u j 0 ≤ getD v j 0

@@ -6,7 +6,6 @@ use mathlib.Core.Path.{_≡_, refl, sym, ap, subst, _∙_}
 use mathlib.Core.Logic.{_↔_, _⊎_, inl, inr}
 use mathlib.Core.List.{List, [], _∷_, _++_, List·Memᴰ, List·Memᴰ·head, List·Memᴰ·append-cases, List·Memᴰ·eq-of-singleton, Memᴰ·append-left, Memᴰ·append-right}
 use lib.ListN.{length, length-append, getD, take, drop}
-use Rattle.ac.specs.Lists.{Ascending}
 use Rattle.ac.specs.Rows.{Exactly, _≺_, _≼_}
 use Rattle.ac.specs.Equation.{Equation, Solves, Minimal}
 use Rattle.ac.specs.Search.{minimalSolutions}
@@ -64,7 +63,8 @@ module _ (E : Equation) (sides : length (E .left) ≡ length (E .right)) {v : Li
   pub upto-more : (Lower rows v → ⊥) → Exactly (RowUpto E v) (rows ++ (v ∷ []))
   upto-more none-lower =
       record {
-        ascending = ascending-append (found .ascending) (ascending-single v) (λ g w m m′. subst (λ x. g ≺ x) (sym (List·Memᴰ·eq-of-singleton m′)) (found .only g m .1));
+        ascending = ascending-append (found .ascending) (ascending-single v)
+            (λ g w m m′. subst (λ x. g ≺ x) (sym (List·Memᴰ·eq-of-singleton m′)) (found .only g m .1));
         only = λ w m. only w (List·Memᴰ·append-cases rows m);
         all = λ w u. all w (u .0) (upto-cases (u .1));
       }
@@ -78,7 +78,8 @@ module _ (E : Equation) (sides : length (E .left) ≡ length (E .right)) {v : Li
       all w minimal (inr b) = Memᴰ·append-right rows (List·Memᴰ·head (begins-whole v (minimal .vector ∙ sym vector) b))
 
 -- where the number is at most the limit, the bytes hold exactly the rows
-pub found-few : {limit places : ℕ} {Row : List ℕ → Type 0} {bytes : List ℕ} {n : ℕ} → n ≤ limit → Holds limit places Row bytes n → Exactly Row (rowsOf places n bytes)
+pub found-few : {limit places : ℕ} {Row : List ℕ → Type 0} {bytes : List ℕ} {n : ℕ} → n ≤ limit → Holds limit places Row bytes n
+    → Exactly Row (rowsOf places n bytes)
 found-few fits (few small found) = found
 found-few fits (more ascending only many) = absurd (omega arith)
 
@@ -113,19 +114,18 @@ module _ {limit n : ℕ} {v bytes : List ℕ} (fits : n ≤ limit) where
             subst (Holds limit (length (E .left)) (RowUpto E v) bytes) (let e : suc limit ≡ n + 1 = omega arith in e)
             (more (rows .ascending) (rows .only) long)
 
-    pub keeps-put : (n ≡ limit → ⊥) → n * length v ≤ length bytes
-        → Keeps limit v bytes n (take (n * length v) bytes ++ v ++ drop (n * length v + length v) bytes) (n + 1)
-    keeps-put room-left room = record { counted = omega arith; found = found }
+    pub keeps-put : (n ≡ limit → ⊥) → n * length v ≤ length bytes → {bytes′ : List ℕ}
+        → bytes′ ≡ take (n * length v) bytes ++ v ++ drop (n * length v + length v) bytes → Keeps limit v bytes n bytes′ (n + 1)
+    keeps-put room-left room {bytes′} put = record { counted = omega arith; found = found }
       where
-        bytes′ : List ℕ
-        bytes′ = take (n * length v) bytes ++ v ++ drop (n * length v + length v) bytes
+        rows′ : rowsOf (length v) (suc n) bytes′ ≡ rowsOf (length v) n bytes ++ (v ∷ [])
+        rows′ = ap (rowsOf (length v) (suc n)) put ∙ rows-put (length v) n bytes v room refl
 
         found : (E : Equation) → length (E .left) ≡ length (E .right) → length v ≡ length (E .left) → Solves E v → Advances E v limit bytes n bytes′ (n + 1)
         found E sides vector solves held =
             subst (Holds limit (length (E .left)) (RowUpto E v) bytes′) (sym (add-one n))
             (few (let h : suc n ≤ limit = omega arith in h)
-            (subst (λ k. Exactly (RowUpto E v) (rowsOf k (suc n) bytes′)) vector
-            (rw (rows-put (length v) n bytes v room refl) (next E sides vector solves held))))
+            (subst (λ k. Exactly (RowUpto E v) (rowsOf k (suc n) bytes′)) vector (rw rows′ (next E sides vector solves held))))
 
 -- From one prefix to the next.
 

@@ -7,4 +7,6 @@ pub mod Reach
 pub mod Ranges
 pub mod LargestBytes
 pub mod Walking
+pub mod Turns
 pub mod Whole
+pub mod Laws

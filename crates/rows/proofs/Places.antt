@@ -29,22 +29,23 @@ false-or : {a b : Bool} → a ≡ false → b ≡ false → (a || b) ≡ false
 false-or {a} {b} e f = ap (λ x. x || b) e ∙ f
 
 -- a sum of two parts within a budget, of which the one part has its own place in it
-spent-own : (b : Bool) (n s : ℕ) {most : ℕ} → cond b n 0 + s ≤ most → s ≤ cond b (most - n) most
+spent-own : (b : Bool) (n s : ℕ) {most : ℕ} → cond b 1 0 * n + s ≤ most → s ≤ cond b (most - n) most
 spent-own true n s h = omega arith
 spent-own false n s h = omega arith
 
-spent-other : (b : Bool) (n s : ℕ) {most : ℕ} → cond b 0 n + s ≤ most → s ≤ cond b most (most - n)
+spent-other : (b : Bool) (n s : ℕ) {most : ℕ} → cond b 0 1 * n + s ≤ most → s ≤ cond b most (most - n)
 spent-other true n s h = omega arith
 spent-other false n s h = omega arith
 
-within-own : (b : Bool) (n s t : ℕ) {up down : ℕ} → cond b n 0 + s ≤ up → cond b 0 n + t ≤ down → n ≤ cond b up down
+within-own : (b : Bool) (n s t : ℕ) {up down : ℕ} → cond b 1 0 * n + s ≤ up → cond b 0 1 * n + t ≤ down → n ≤ cond b up down
 within-own true n s t h h′ = omega arith
 within-own false n s t h h′ = omega arith
 
 module _ {E : Equation} {p left right : List ℕ} {l r : ℕ} {at : Standing} (s : Stands E p (l ∷ left) (r ∷ right) at) where
   -- in a row, the next number is within the place's budget
   pub number-within : (n : ℕ) (rest : List ℕ) → Minimal E (p ++ n ∷ rest) → n ≤ budgetOf at l r
-  number-within n rest minimal = within-own (leb r l) n (upSum left right rest) (downSum left right rest) (s .within-up (n ∷ rest) minimal) (s .within-down (n ∷ rest) minimal)
+  number-within n rest minimal =
+      within-own (leb r l) n (upSum left right rest) (downSum left right rest) (s .within-up (n ∷ rest) minimal) (s .within-down (n ∷ rest) minimal)
 
   module _ (n : ℕ) where
     not-zero : (rest : List ℕ) → ((at .counts || ltb 0 n) ≡ false → 0 < sum rest) → at .counts ≡ false → 0 < sum (n ∷ rest)

@@ -2,33 +2,31 @@
 use Prim.Native.Nat.{ℕ, _+_, _*_, _-_, _/_, _≤_, _<_, min}
 use native.Mathlib.Omega.{arith}
 use native.Mathlib.Nat.{le-trans, le-min, mul-le-mul, mul-le-mul-right, mul-div-right}
-use mathlib.Core.Path.{_≡_, refl, sym, ap, _∙_}
-use mathlib.Core.Bool.{Bool, true, false, cond, _||_}
-use lib.Dec.{leb, ltb}
+use mathlib.Core.Path.{_≡_, sym, ap, _∙_}
+use mathlib.Core.Bool.{Bool, true, false, cond}
+use lib.Dec.{leb}
 use borrow.Author.Tests.{le-leb, lt-leb}
 use Rattle.rows.specs.declared.standing.Standing.{Standing}
 use Rattle.rows.specs.declared.standing.Range.{Range}
-use Rattle.rows.specs.Places.{budgetOf, afterChoice, Room, Possible, Lifts, Ranges}
+use Rattle.rows.specs.Places.{budgetOf, afterChoice, Room, Lifts, Ranges}
 
 -- Numbers that fit.
 
 pub bytes-product : {a b : ℕ} → a < 256 → b < 256 → a * b ≤ 65025
 bytes-product {a} {b} h h′ = omega (arith, mul-le-mul {n₁ = a} {m₁ = b} {n₂ = 255} {m₂ = 255} (omega arith) (omega arith))
 
+-- what a number takes off the one budget, it takes off both together
+spent-once : (b : Bool) (n up down : ℕ) → n ≤ cond b up down → cond b (up - n) up + cond b down (down - n) + n ≡ up + down
+spent-once true n up down fits = omega arith
+spent-once false n up down fits = omega arith
+
 pub room-after : {at : Standing} {l r n : ℕ} → Room at → l < 256 → r < 256 → n ≤ budgetOf at l r → Room (afterChoice at l r n)
-room-after {at} {l} {r} {n} room bl br = by-kind (leb r l)
-  where
-    by-kind : (b : Bool) → n ≤ cond b (at .up) (at .down) → Room (record { left = at .left + l * n; right = at .right + r * n; up = cond b (at .up - n) (at .up); down = cond b (at .down) (at .down - n); counts = at .counts || ltb 0 n })
-    by-kind true h =
-        record {
-          left-room = omega (arith, room .left-room, mul-le-mul-right n (let h : l ≤ 255 = omega arith in h));
-          right-room = omega (arith, room .right-room, mul-le-mul-right n (let h : r ≤ 255 = omega arith in h));
-        }
-    by-kind false h =
-        record {
-          left-room = omega (arith, room .left-room, mul-le-mul-right n (let h : l ≤ 255 = omega arith in h));
-          right-room = omega (arith, room .right-room, mul-le-mul-right n (let h : r ≤ 255 = omega arith in h));
-        }
+room-after {at} {l} {r} {n} room left-byte right-byte fits =
+    let e = spent-once (leb r l) n (at .up) (at .down) fits in
+    record {
+      left-room = omega (arith, room .left-room, mul-le-mul-right n (let h : l ≤ 255 = omega arith in h));
+      right-room = omega (arith, room .right-room, mul-le-mul-right n (let h : r ≤ 255 = omega arith in h));
+    }
 
 -- The number that makes two sums equal.
 

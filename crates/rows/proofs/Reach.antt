@@ -8,55 +8,56 @@ use mathlib.Core.List.{List, [], _∷_, _++_}
 use lib.ListN.{length, getD}
 use lib.Dec.{leb}
 use borrow.Author.Tests.{leb-true, leb-false}
-use Rattle.ac.specs.Equation.{Equation, Minimal, dot}
+use Rattle.ac.specs.Equation.{Equation, Minimal}
+use Rattle.ac.proofs.Vectors.{weighted, dot-weighted, at as coefficient}
+use Rattle.ac.proofs.Walk.{up, down}
 use Rattle.rows.specs.declared.standing.Standing.{Standing}
 use Rattle.rows.specs.Places.{Stands, upSum, downSum, Apart, Apart.left-short, Apart.right-short}
 use Rattle.rows.proofs.Places.{rest-places}
 
--- The sum of the one side is at most that of the other and, for each unit at the places where it gains, the largest coefficient.
+-- Where at each place p gains on q at most so much for each unit that f counts, so do the sums.
+gains : (most : ℕ) (p q f : ℕ → ℕ) (v : List ℕ) → ((i : ℕ) → i < length v → (n : ℕ) → p i * n ≤ q i * n + f i * n * most)
+    → weighted p v ≤ weighted q v + weighted f v * most
+gains most p q f [] each = omega arith
+gains most p q f (n ∷ v) each =
+    omega (
+      arith,
+      each 0 (omega arith) n,
+      gains most (λ i. p (suc i)) (λ i. q (suc i)) (λ i. f (suc i)) v (λ i h. each (suc i) (let h′ : i < length v = h in omega arith)),
+    )
 
-left-gains : (most : ℕ) (left right rest : List ℕ) → length left ≡ length right → ((i : ℕ) → i < length left → getD left i 0 ≤ most)
-    → dot left rest ≤ dot right rest + upSum left right rest * most
-left-gains most [] right rest level tops = omega arith
-left-gains most (l ∷ left) [] rest level tops = absurd (omega arith)
-left-gains most (l ∷ left) (r ∷ right) [] level tops = omega arith
-left-gains most (l ∷ left) (r ∷ right) (n ∷ rest) level tops =
-    by-kind (leb r l) refl (left-gains most left right rest (omega arith) (λ i h. tops (suc i) (let h′ : i < length left = h in omega arith)))
-  where
-    by-kind : (b : Bool) → leb r l ≡ b → dot left rest ≤ dot right rest + upSum left right rest * most
-        → l * n + dot left rest ≤ r * n + dot right rest + (cond b n 0 + upSum left right rest) * most
-    by-kind true e ih = omega (arith, ih, mul-le-mul-right n (tops 0 (omega arith)))
-    by-kind false e ih = omega (arith, ih, mul-le-mul-right n (let h : l ≤ r = omega (arith, leb-false r l e) in h))
+-- the left sum gains at the places whose left coefficient is at least the right one
+left-gains : (l r : ℕ) {most : ℕ} (b : Bool) → leb r l ≡ b → l ≤ most → (n : ℕ) → l * n ≤ r * n + cond b 1 0 * n * most
+left-gains l r true e small n = omega (arith, mul-le-mul-right n small)
+left-gains l r false e small n = omega (arith, mul-le-mul-right n (let h : l ≤ r = omega (arith, leb-false r l e) in h))
 
-right-gains : (most : ℕ) (left right rest : List ℕ) → length left ≡ length right → ((i : ℕ) → i < length right → getD right i 0 ≤ most)
-    → dot right rest ≤ dot left rest + downSum left right rest * most
-right-gains most [] [] rest level tops = omega arith
-right-gains most [] (r ∷ right) rest level tops = absurd (omega arith)
-right-gains most (l ∷ left) [] rest level tops = absurd (omega arith)
-right-gains most (l ∷ left) (r ∷ right) [] level tops = omega arith
-right-gains most (l ∷ left) (r ∷ right) (n ∷ rest) level tops =
-    by-kind (leb r l) refl (right-gains most left right rest (omega arith) (λ i h. tops (suc i) (let h′ : i < length right = h in omega arith)))
-  where
-    by-kind : (b : Bool) → leb r l ≡ b → dot right rest ≤ dot left rest + downSum left right rest * most
-        → r * n + dot right rest ≤ l * n + dot left rest + (cond b 0 n + downSum left right rest) * most
-    by-kind true e ih = omega (arith, ih, mul-le-mul-right n (leb-true r l e))
-    by-kind false e ih = omega (arith, ih, mul-le-mul-right n (tops 0 (omega arith)))
+-- the right sum gains at the others
+right-gains : (l r : ℕ) {most : ℕ} (b : Bool) → leb r l ≡ b → r ≤ most → (n : ℕ) → r * n ≤ l * n + cond b 0 1 * n * most
+right-gains l r true e small n = omega (arith, mul-le-mul-right n (leb-true r l e))
+right-gains l r false e small n = omega (arith, mul-le-mul-right n small)
 
 -- sums that the budgets cannot bridge have no row
-pub no-row-apart : {E : Equation} {p left right : List ℕ} {at : Standing} {mostLeft mostRight : ℕ} → Stands E p left right at
-    → ((i : ℕ) → i < length left → getD left i 0 ≤ mostLeft) → ((i : ℕ) → i < length right → getD right i 0 ≤ mostRight)
-    → Apart at mostLeft mostRight → (rest : List ℕ) → Minimal E (p ++ rest) → ⊥
-no-row-apart {left = left} {right = right} {at = at} {mostLeft = most} s lefts rights (left-short h) rest minimal =
-    omega (
-      arith,
-      s .equal rest (rest-places s rest minimal) (minimal .least .has),
-      left-gains most left right rest (s .level) lefts,
-      mul-le-mul-right most (s .within-up rest minimal),
-    )
-no-row-apart {left = left} {right = right} {at = at} {mostRight = most} s lefts rights (right-short h) rest minimal =
-    omega (
-      arith,
-      s .equal rest (rest-places s rest minimal) (minimal .least .has),
-      right-gains most left right rest (s .level) rights,
-      mul-le-mul-right most (s .within-down rest minimal),
-    )
+module _ {E : Equation} {p left right : List ℕ} {at : Standing} {mostLeft mostRight : ℕ} (s : Stands E p left right at)
+    (lefts : (i : ℕ) → i < length left → getD left i 0 ≤ mostLeft) (rights : (i : ℕ) → i < length right → getD right i 0 ≤ mostRight) where
+  pub no-row-apart : Apart at mostLeft mostRight → (rest : List ℕ) → Minimal E (p ++ rest) → ⊥
+  no-row-apart apart rest minimal = by-side apart
+    where
+      long : length rest ≡ length left
+      long = rest-places s rest minimal
+
+      equal : weighted (coefficient left) rest + at .left ≡ weighted (coefficient right) rest + at .right
+      equal = omega (arith, s .equal rest long (minimal .least .has), dot-weighted left rest, dot-weighted right rest)
+
+      left-more : weighted (coefficient left) rest ≤ weighted (coefficient right) rest + upSum left right rest * mostLeft
+      left-more =
+          gains mostLeft (coefficient left) (coefficient right) (up (coefficient left) (coefficient right)) rest
+          (λ i h. left-gains (getD left i 0) (getD right i 0) (leb (getD right i 0) (getD left i 0)) refl (lefts i (omega (arith, long))))
+
+      right-more : weighted (coefficient right) rest ≤ weighted (coefficient left) rest + downSum left right rest * mostRight
+      right-more =
+          gains mostRight (coefficient right) (coefficient left) (down (coefficient left) (coefficient right)) rest
+          (λ i h. right-gains (getD left i 0) (getD right i 0) (leb (getD right i 0) (getD left i 0)) refl (rights i (omega (arith, long, s .level))))
+
+      by-side : Apart at mostLeft mostRight → ⊥
+      by-side (left-short h) = omega (arith, equal, left-more, mul-le-mul-right mostLeft (s .within-up rest minimal))
+      by-side (right-short h) = omega (arith, equal, right-more, mul-le-mul-right mostRight (s .within-down rest minimal))

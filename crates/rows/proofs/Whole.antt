@@ -1,50 +1,26 @@
 -- The whole walk: where it starts, with budgets that are enough, and what it has found at the end.
-use Prim.Native.Nat.{ℕ, suc, _+_, _*_, _≤_, _<_, max}
+use Prim.Native.Nat.{ℕ, _≤_, _<_, max}
 use native.Mathlib.Omega.{arith}
 use native.Mathlib.Nat.{le-trans}
 use mathlib.Core.Path.{_≡_, refl, sym, ap, subst, _∙_}
-use mathlib.Core.Bool.{Bool, true, false, not, cond}
+use mathlib.Core.Bool.{Bool, not}
 use mathlib.Core.List.{List, [], _∷_, List·Memᴰ, List·Memᴰ·head, List·Memᴰ·tail, List·Memᴰ·not-nil}
 use lib.ListN.{length}
-use lib.Dec.{leb}
 use borrow.Author.Tests.{not-false}
-use Rattle.ac.specs.Lists.{sum, Ascending, Ascending.none, Ascending.next}
-use Rattle.ac.specs.Rows.{Exactly, _≺_}
-use Rattle.ac.specs.Equation.{Equation, Solves, Minimal, dot}
-use Rattle.ac.proofs.Vectors.{weighted, at, exactly-same}
+use Rattle.ac.specs.Lists.{Ascending, Ascending.none, Ascending.next}
+use Rattle.ac.specs.Rows.{_≺_}
+use Rattle.ac.specs.Equation.{Equation}
+use Rattle.ac.proofs.Vectors.{exactly-same}
 use Rattle.ac.proofs.Order.{≺-asymmetric}
-use Rattle.ac.proofs.Walk.{up, down}
 use Rattle.ac.proofs.Bound.{lambert-bound}
 use Rattle.ac.proofs.Solutions.{minimal-solutions-exact}
 use Rattle.rows.specs.declared.standing.Standing.{Standing}
 use Rattle.rows.specs.Found.{equation, Finds, Finds.few, Finds.more}
 use Rattle.rows.specs.Kept.{Holds, Holds.few, Holds.more, Upto.begins, RowBefore, RowUpto}
-use Rattle.rows.specs.Places.{Stands, upSum, downSum}
+use Rattle.rows.specs.Places.{Stands}
 use Rattle.rows.specs.Walk.{Starts, Searchable, Ready, AtMost, Tops}
 use Rattle.rows.proofs.Prefix.{nothing-before}
 use Rattle.rows.proofs.LargestBytes.{at-most-everywhere}
-
--- The sums within the budgets are Lambert's.
-
-own-part : (b : Bool) (n : ℕ) → cond b n 0 ≡ cond b 1 0 * n
-own-part true n = omega arith
-own-part false n = omega arith
-
-other-part : (b : Bool) (n : ℕ) → cond b 0 n ≡ cond b 0 1 * n
-other-part true n = omega arith
-other-part false n = omega arith
-
-up-sum-weighted : (left right v : List ℕ) → upSum left right v ≤ weighted (up (at left) (at right)) v
-up-sum-weighted [] right v = omega arith
-up-sum-weighted (l ∷ left) [] v = omega arith
-up-sum-weighted (l ∷ left) (r ∷ right) [] = omega arith
-up-sum-weighted (l ∷ left) (r ∷ right) (n ∷ v) = omega (arith, own-part (leb r l) n, up-sum-weighted left right v)
-
-down-sum-weighted : (left right v : List ℕ) → downSum left right v ≤ weighted (down (at left) (at right)) v
-down-sum-weighted [] right v = omega arith
-down-sum-weighted (l ∷ left) [] v = omega arith
-down-sum-weighted (l ∷ left) (r ∷ right) [] = omega arith
-down-sum-weighted (l ∷ left) (r ∷ right) (n ∷ v) = omega (arith, other-part (leb r l) n, down-sum-weighted left right v)
 
 -- budgets from the largest coefficients, the offsets among them, are enough
 pub starts-from-largest : {left right : List ℕ} {a b mostLeft mostRight : ℕ} {h : Bool} {standing : Standing} → AtMost left 0 mostLeft → AtMost right 0 mostRight
@@ -74,8 +50,8 @@ stands-start {E} sides starts =
           record { equal = omega (arith, starts .left-sum, starts .right-sum); not-all-zero = λ t. positive (starts .counts ∙ ap not t) };
       equal = λ rest long solves. omega (arith, solves .equal, starts .left-sum, starts .right-sum);
       not-all-zero = λ rest long solves zero. solves .not-all-zero (not-false (E .homogeneous) (sym (starts .counts) ∙ zero));
-      within-up = λ rest minimal. le-trans (up-sum-weighted (E .left) (E .right) rest) (lambert-bound E minimal (starts .enough) .0);
-      within-down = λ rest minimal. le-trans (down-sum-weighted (E .left) (E .right) rest) (lambert-bound E minimal (starts .enough) .1);
+      within-up = λ rest minimal. lambert-bound E minimal (starts .enough) .0;
+      within-down = λ rest minimal. lambert-bound E minimal (starts .enough) .1;
     }
 
 pub ready-start : {limit : ℕ} {left right bytes mostLeft mostRight vector : List ℕ} {E : Equation} {standing : Standing} → Searchable limit left right bytes

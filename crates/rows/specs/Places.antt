@@ -2,27 +2,23 @@
 use Prim.Native.Nat.{ℕ, _+_, _*_, _-_, _^_, _≤_, _<_}
 use mathlib.Core.Path.{_≡_}
 use mathlib.Core.Bool.{Bool, true, false, cond, _||_}
-use mathlib.Core.List.{List, [], _∷_, _++_}
+use mathlib.Core.List.{List, _++_}
 use lib.ListN.{length}
 use lib.Dec.{leb, ltb}
 use Rattle.ac.specs.Lists.{sum}
 use Rattle.ac.specs.Equation.{Equation, Solves, Minimal, dot}
+use Rattle.ac.proofs.Vectors.{weighted, at as coefficient}
+use Rattle.ac.proofs.Walk.{up, down}
 use Rattle.rows.specs.declared.standing.Standing.{Standing}
 use Rattle.rows.specs.declared.standing.Range.{Range}
 
--- of the entries at the places that are left, the sum of those whose left coefficient is at least the right one
-abbrev pub upSum : List ℕ → List ℕ → List ℕ → ℕ
-upSum [] right rest = 0
-upSum (l ∷ left) [] rest = 0
-upSum (l ∷ left) (r ∷ right) [] = 0
-upSum (l ∷ left) (r ∷ right) (n ∷ rest) = cond (leb r l) n 0 + upSum left right rest
+-- of the numbers at the places that are left, the sum of those whose left coefficient is at least the right one, and the sum of the others
+module _ (left right rest : List ℕ) where
+  abbrev pub upSum : ℕ
+  upSum = weighted (up (coefficient left) (coefficient right)) rest
 
--- the sum of the others
-abbrev pub downSum : List ℕ → List ℕ → List ℕ → ℕ
-downSum [] right rest = 0
-downSum (l ∷ left) [] rest = 0
-downSum (l ∷ left) (r ∷ right) [] = 0
-downSum (l ∷ left) (r ∷ right) (n ∷ rest) = cond (leb r l) 0 n + downSum left right rest
+  abbrev pub downSum : ℕ
+  downSum = weighted (down (coefficient left) (coefficient right)) rest
 
 -- The walk stands after a prefix, with the coefficients of the places that are left. A rest solves with the prefix exactly if it makes the two sums
 -- equal and, where an all-zero rest does not count, is not all zero; and the rest of a row is within the two budgets.

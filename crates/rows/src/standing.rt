@@ -14,24 +14,27 @@ pub struct Standing {
     pub counts: bool,
 }
 
-// From the first number to the most one that a place may have; none where the first is above the most.
+// The numbers that a place may have: from the first to the most one, and none where the first is above the most.
 pub struct Range {
     pub first: u8,
     pub most: u8,
 }
 
+// A byte as a number with room for sums.
 pub fn wide(byte: u8) -> u32
     ensures { λ r. ⌜ r ≡ byte ⌝ }
 {
     byte as u32
 }
 
+// The product of two bytes, which always fits.
 fn times(a: u8, b: u8) -> u32
     ensures { λ r. ⌜ r ≡ a * b ⌝ }
 {
     wide(a) * wide(b)
 }
 
+// The smaller of two bytes.
 fn smaller(a: u8, b: u8) -> u8
     ensures { λ r. ⌜ r ≡ min a b ⌝ }
 {

@@ -14,7 +14,7 @@ use Rattle.ac.specs.Rows.{Groups, GroupsOf}
 use Rattle.ac.specs.Search.{groups}
 use Rattle.ac.specs.Selection.{Selection, value}
 use Rattle.ac.specs.Keys.{layout, keys, keyOf, Begin, start, remaining}
-use Rattle.ac.specs.Pages.{more, page as pageOf}
+use Rattle.ac.specs.Pages.{more}
 use Rattle.ac.specs.Replacement.{Replacement, Unifies, ComesFrom}
 use Rattle.ac.proofs.Groups.{groups-exist, groups-unique}
 use Rattle.ac.proofs.Keys.{taken-apart, candidate-selection}
@@ -26,7 +26,7 @@ use Rattle.numbers.proofs.Laws.{first-unique, first-not-none}
 use Rattle.numbers.proofs.Carried.{none-carried, first-after, none-front, first-given, elsewhere, first-past}
 use Rattle.solver.specs.Request.{wantedCount}
 use Rattle.solver.specs.Given.{ListGiven, none-admissible, not-listed, last-listed, PageGiven, of-the-sides, of-the-list, pageNumbers}
-use Rattle.solver.specs.Page.{PageOutcome, refused, page, receives, PagePromise, is-refused, is-page}
+use Rattle.solver.specs.Page.{nextKeys, moreFollow, PageOutcome, refused, page, receives, PagePromise, is-refused, is-page}
 use Rattle.solver.specs.Existence.{SomeUnifies, NoneUnifies, replacementOf, PageExistence}
 use Rattle.solver.proofs.Given.{given-list}
 use Rattle.solver.proofs.Limits.{WithinLimits, within-limits}
@@ -107,7 +107,8 @@ module _ {M : Mode} {L R : List ℕ} {begin : Begin} {wanted : ℕ} {out : List 
   module _ {n : ℕ} (first : First (PageGiven M L R begin wanted out) pageNumbers n) where
     only-13 : n ≡ 13 → NoneUnifies M L R
     only-13 e =
-        let none = first-past (16 ∷ 7 ∷ 8 ∷ 9 ∷ 10 ∷ 11 ∷ 12 ∷ []) (13 ∷ 14 ∷ 15 ∷ []) refl (subst (First (PageGiven M L R begin wanted out) pageNumbers) e first) in
+        let at-13 = subst (First (PageGiven M L R begin wanted out) pageNumbers) e first in
+        let none = first-past (16 ∷ 7 ∷ 8 ∷ 9 ∷ 10 ∷ 11 ∷ 12 ∷ []) (13 ∷ 14 ∷ 15 ∷ []) refl at-13 in
         empty-none (fine-sides none) (groups-exist M L R)
         (empty-list e (given-list (groups-exist M L R) (omega arith) (omega arith) (first-given first)))
 
@@ -125,33 +126,34 @@ module _ {M : Mode} {L R : List ℕ} {begin : Begin} {wanted : ℕ} {out : List 
     page-some = some-past-13 (none-front (16 ∷ 7 ∷ 8 ∷ 9 ∷ 10 ∷ 11 ∷ 12 ∷ 13 ∷ []) (14 ∷ 15 ∷ []) none)
 
     -- what stands in the buffer is a key of the page, and so of the list
-    at-place : (i : ℕ) → i < length (pageOf begin (wantedCount wanted) (keys M layout L R G))
-        → getD (receives out (pageOf begin (wantedCount wanted) (keys M layout L R G))) i 0 ≡ getD (pageOf begin (wantedCount wanted) (keys M layout L R G)) i 0
-    at-place i h = List·getD-append (pageOf begin (wantedCount wanted) (keys M layout L R G)) _ 0 i h
+    at-place : (i : ℕ) → i < length (nextKeys M L R G begin wanted)
+        → getD (receives out (nextKeys M L R G begin wanted)) i 0 ≡ getD (nextKeys M L R G begin wanted) i 0
+    at-place i h = List·getD-append (nextKeys M L R G begin wanted) _ 0 i h
 
-    pub page-unifies : (i : ℕ) → i < length (pageOf begin (wantedCount wanted) (keys M layout L R G))
-        → Unifies M L R (replacementOf M L R G (getD (receives out (pageOf begin (wantedCount wanted) (keys M layout L R G))) i 0))
+    pub page-unifies : (i : ℕ) → i < length (nextKeys M L R G begin wanted)
+        → Unifies M L R (replacementOf M L R G (getD (receives out (nextKeys M L R G begin wanted)) i 0))
     page-unifies i h =
         subst (λ key. Unifies M L R (replacementOf M L R G key)) (sym (at-place i h))
         (key-unifies fine-page of
         (remaining-members begin
-        (taken-member (wantedCount wanted) (remaining begin (keys M layout L R G)) (place-member (pageOf begin (wantedCount wanted) (keys M layout L R G)) i h)) .0))
+        (taken-member (wantedCount wanted) (remaining begin (keys M layout L R G)) (place-member (nextKeys M L R G begin wanted) i h)) .0))
 
     -- a page from the start after which no more follow is the whole list
-    pub page-covers : begin ≡ start → more begin (wantedCount wanted) (keys M layout L R G) ≡ false → (θ : Replacement) → Unifies M L R θ
-        → (i : ℕ) × (i < length (pageOf begin (wantedCount wanted) (keys M layout L R G)))
-        × ComesFrom M (layout .new) L R (replacementOf M L R G (getD (receives out (pageOf begin (wantedCount wanted) (keys M layout L R G))) i 0)) θ
+    pub page-covers : begin ≡ start → moreFollow M L R G begin wanted ≡ false → (θ : Replacement) → Unifies M L R θ
+        → (i : ℕ) × (i < length (nextKeys M L R G begin wanted))
+        × ComesFrom M (layout .new) L R (replacementOf M L R G (getD (receives out (nextKeys M L R G begin wanted)) i 0)) θ
     page-covers from-start no-more θ unifies =
         let found = unifier-listed fine-page of unifies in
-        let place = member-place (pageOf begin (wantedCount wanted) (keys M layout L R G)) (subst (List·Memᴰ (found .0)) (sym whole) (found .1)) in (
+        let place = member-place (nextKeys M L R G begin wanted) (subst (List·Memᴰ (found .0)) (sym whole) (found .1)) in (
           place .0,
           place .1,
           subst (λ key. ComesFrom M (layout .new) L R (replacementOf M L R G key) θ) (sym (at-place (place .0) (place .1) ∙ place .2)) (found .2),
         )
       where
-        whole : pageOf begin (wantedCount wanted) (keys M layout L R G) ≡ keys M layout L R G
+        whole : nextKeys M L R G begin wanted ≡ keys M layout L R G
         whole =
-            take-all (wantedCount wanted) (remaining begin (keys M layout L R G)) (ltb-false (wantedCount wanted) (length (remaining begin (keys M layout L R G))) no-more)
+            take-all (wantedCount wanted) (remaining begin (keys M layout L R G))
+            (ltb-false (wantedCount wanted) (length (remaining begin (keys M layout L R G))) no-more)
             ∙ ap (λ b. remaining b (keys M layout L R G)) from-start
 
 refused-not-page : {n written : ℕ} {more : Bool} → refused n ≡ page written more → ⊥
@@ -188,7 +190,7 @@ page-existence {M} {L} {R} {begin} {wanted} {out} (is-page {G = G} none of) =
       page-where-some = λ e. page-some none of;
       written-unify =
           λ i other e h.
-          subst (λ H. Unifies M L R (replacementOf M L R H (getD (receives out (pageOf begin (wantedCount wanted) (keys M layout L R G))) i 0)))
+          subst (λ H. Unifies M L R (replacementOf M L R H (getD (receives out (nextKeys M L R G begin wanted)) i 0)))
           (groups-unique M L R of other) (page-unifies none of i (omega (arith, page-count e)));
       written-cover =
           λ other from-start e θ unifies.
@@ -196,7 +198,7 @@ page-existence {M} {L} {R} {begin} {wanted} {out} (is-page {G = G} none of) =
             covered .0,
             omega (arith, covered .1, page-count e),
             subst
-                (λ H. ComesFrom M (layout .new) L R (replacementOf M L R H (getD (receives out (pageOf begin (wantedCount wanted) (keys M layout L R G))) (covered .0) 0)) θ)
+                (λ H. ComesFrom M (layout .new) L R (replacementOf M L R H (getD (receives out (nextKeys M L R G begin wanted)) (covered .0) 0)) θ)
                 (groups-unique M L R of other) (covered .2),
           );
     }

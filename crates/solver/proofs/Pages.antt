@@ -11,14 +11,14 @@ use Rattle.ac.specs.Lists.{Ascending}
 use Rattle.ac.specs.Pair.{Mode}
 use Rattle.ac.specs.Rows.{Groups, GroupsOf}
 use Rattle.ac.specs.Keys.{layout, keys, Begin, start, remaining}
-use Rattle.ac.specs.Pages.{together, WholeList, page as pageOf, more as moreOf}
+use Rattle.ac.specs.Pages.{together, WholeList}
 use Rattle.ac.proofs.Groups.{groups-exist, groups-unique}
 use Rattle.ac.proofs.Listed.{keys-ascending}
 use Rattle.ac.proofs.Pages.{remaining-after-page}
 use Rattle.numbers.proofs.Carried.{first-given}
 use Rattle.solver.specs.Request.{wantedCount}
 use Rattle.solver.specs.Given.{ListGiven, none-admissible, not-listed, last-listed}
-use Rattle.solver.specs.Page.{page, PagePromise, is-refused, is-page}
+use Rattle.solver.specs.Page.{nextKeys, moreFollow, page, PagePromise, is-refused, is-page}
 use Rattle.solver.specs.Pages.{PagesAsked, one-more, no-more, was-last}
 use Rattle.solver.proofs.Given.{given-list}
 use Rattle.solver.proofs.Limits.{WithinLimits}
@@ -34,12 +34,12 @@ nothing-remains {listed} e (last-listed same m h) = subst (λ b. remaining b lis
 module _ {M : Mode} {L R : List ℕ} {G : Groups} (of : GroupsOf M L R G) where
   -- what a page's promise says of it: the next keys, and whether more follow
   pub page-written : {begin : Begin} {wanted written : ℕ} {more : Bool} {out out′ : List ℕ} → PagePromise M L R begin wanted out (page written more) out′
-      → (take written out′ ≡ pageOf begin (wantedCount wanted) (keys M layout L R G)) × (more ≡ moreOf begin (wantedCount wanted) (keys M layout L R G))
+      → (take written out′ ≡ nextKeys M L R G begin wanted) × (more ≡ moreFollow M L R G begin wanted)
   page-written {begin} {wanted} {out = out} (is-page {G = H} none others) =
       let same : H ≡ G = groups-unique M L R others of in (
-        take-append-seam (pageOf begin (wantedCount wanted) (keys M layout L R H)) (drop (length (pageOf begin (wantedCount wanted) (keys M layout L R H))) out)
-            ∙ ap (λ K. pageOf begin (wantedCount wanted) (keys M layout L R K)) same,
-        ap (λ K. moreOf begin (wantedCount wanted) (keys M layout L R K)) same,
+        take-append-seam (nextKeys M L R H begin wanted) (drop (length (nextKeys M L R H begin wanted)) out)
+            ∙ ap (λ K. nextKeys M L R K begin wanted) same,
+        ap (λ K. moreFollow M L R K begin wanted) same,
       )
 
   -- together they are what remains from the beginning
@@ -48,7 +48,7 @@ module _ {M : Mode} {L R : List ℕ} {G : Groups} (of : GroupsOf M L R G) where
   pages-together ascending (one-more {begin = begin} {wanted = wanted} {pages = pages} before last promise ends rest) =
       let this = page-written promise in
       ap (λ (l : List ℕ). l ++ together pages) (this .0)
-      ∙ ap (λ (l : List ℕ). pageOf begin (wantedCount wanted) (keys M layout L R G) ++ l)
+      ∙ ap (λ (l : List ℕ). nextKeys M L R G begin wanted ++ l)
       (pages-together ascending rest ∙ remaining-after-page ascending begin (wantedCount wanted) before last (sym (this .0) ∙ ends))
       ∙ take-append-drop (wantedCount wanted) (remaining begin (keys M layout L R G))
   pages-together ascending (no-more {begin = begin} {wanted = wanted} promise) =
@@ -69,7 +69,7 @@ after-a-key e (none-admissible empty) from-start = omega arith
 after-a-key e (not-listed same h) from-start = omega arith
 after-a-key e (last-listed same m h) from-start = start-not-after (sym from-start ∙ same)
 
-asked-within : {M : Mode} {L R : List ℕ} {begin : Begin} {pages : List (List ℕ)} → begin ≡ start → PagesAsked M L R begin pages → WithinLimits M L R
+pub asked-within : {M : Mode} {L R : List ℕ} {begin : Begin} {pages : List (List ℕ)} → begin ≡ start → PagesAsked M L R begin pages → WithinLimits M L R
 asked-within from-start (one-more before last promise ends rest) = page-within promise
 asked-within from-start (no-more promise) = page-within promise
 asked-within {M} {L} {R} from-start (was-last (is-refused first)) =

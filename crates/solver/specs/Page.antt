@@ -28,13 +28,20 @@ told (Refused refusal) = refused (numberOf refusal)
 abbrev pub receives : List ℕ → List ℕ → List ℕ
 receives buffer written = written ++ drop (length written) buffer
 
+module _ (M : Mode) (L R : List ℕ) (G : Groups) (begin : Begin) (wanted : ℕ) where
+  -- the next keys, as many as are wanted or, if fewer remain, all that remain
+  abbrev pub nextKeys : List ℕ
+  nextKeys = pageOf begin (wantedCount wanted) (keys M layout L R G)
+
+  -- whether more follow
+  abbrev pub moreFollow : Bool
+  moreFollow = more begin (wantedCount wanted) (keys M layout L R G)
+
 -- What Page promises of its outcome and of the lent buffer at exit.
 pub data PagePromise (M : Mode) (L R : List ℕ) (begin : Begin) (wanted : ℕ) (out : List ℕ) : PageOutcome → List ℕ → Type 0 where
   -- Each returns its number alone and changes no buffer.
   is-refused : {n : ℕ} → First (PageGiven M L R begin wanted out) pageNumbers n → PagePromise M L R begin wanted out (refused n) out
-  -- The buffer receives the next keys, as many as are wanted or, if fewer remain, all that remain. The number written and whether more follow are
-  -- returned.
+  -- The buffer receives the next keys. The number written and whether more follow are returned.
   is-page : {G : Groups} → NoneOf (PageGiven M L R begin wanted out) pageNumbers → GroupsOf M L R G
-      → PagePromise M L R begin wanted out
-      (page (length (pageOf begin (wantedCount wanted) (keys M layout L R G))) (more begin (wantedCount wanted) (keys M layout L R G)))
-      (receives out (pageOf begin (wantedCount wanted) (keys M layout L R G)))
+      → PagePromise M L R begin wanted out (page (length (nextKeys M L R G begin wanted)) (moreFollow M L R G begin wanted))
+      (receives out (nextKeys M L R G begin wanted))

@@ -1,7 +1,7 @@
 -- `block::read` meets its contract: 16, then 1, then what `read_block` settles. Assumes nothing.
 use native.Mathlib.Omega.{arith}
 use borrow.Author.Needs.{needs}
-use Rattle.block.proofs.Settled.{short-buffer-first, block-length-first, refused-block}
+use Rattle.block.proofs.Settled.{short-buffer-first, block-length-first, promised-refusal}
 use Rattle.block.proofs.read.Statement.{statement}
 use Rattle.block.proofs.read.Tie as tie
 
@@ -12,7 +12,9 @@ returns : tie.Need-returns
 returns c = short-buffer-first (omega (arith, c .before .lesser .ensures, c .if1 .taken))
 
 returns-2 : tie.Need-returns-2
-returns-2 c = refused-block (omega (arith, c .before .before .lesser .ensures, c .before .if1 .left)) (omega (arith, c .before .before .lesser .ensures, c .before .if1 .left)) (block-length-first (c .if2 .taken))
+returns-2 c =
+    let room = c .before .before .lesser .ensures in
+    promised-refusal (omega (arith, room, c .before .if1 .left)) (omega (arith, room, c .before .if1 .left)) (block-length-first (c .if2 .taken))
 
 slice-aggregate-read-block : tie.Need-slice-aggregate-read-block
 slice-aggregate-read-block c = search needs

@@ -9,7 +9,7 @@ use Rattle.numbers.specs.declared.Refusal.{Refusal}
 use Rattle.block.specs.Inner.{Refuses}
 use Rattle.block.specs.Read as outcome
 use Rattle.block.specs.Read.{ReadPromise}
-use Rattle.block.proofs.Settled.{refused-block}
+use Rattle.block.proofs.Settled.{promised-refusal}
 use Rattle.block.proofs.Sides.{HeaderLengths, when-lengths, when-refused, SideTerm, when-atoms, when-no-term, terms-fit, left-short, right-short, left-missing, right-missing, filler-wrong, count-within, count-fits, copied, sides-read}
 use Rattle.block.proofs.read_block.Statement.{statement}
 use Rattle.block.proofs.read_block.Tie as tie
@@ -24,14 +24,19 @@ lengths-known c = c .before .before .before .before .before .before .before .bef
 abbrev entry : tie.After-known-told2 → tie.Start
 entry c = c .before .before .before .before .before .before .before .before .before
 
-lengths : (c : tie.After-known-told2) → HeaderLengths (entry c .args .block .now) (entry c .args .number) (c .before .header2 .given .0 .0) (c .before .header2 .given .0 .1 .0)
+lengths :
+    (c : tie.After-known-told2) →
+    HeaderLengths (entry c .args .block .now) (entry c .args .number) (c .before .header2 .given .0 .0) (c .before .header2 .given .0 .1 .0)
 lengths c = when-lengths (c .before .before .before .read-header .ensures) (c .before .header2 .given .1)
 
 left-term :
     (c : tie.After-known-told3) →
     let at-lengths = lengths-known c in
     let left = at-lengths .before .header2 .given .0 .0 in
-    SideTerm (take (4 + left - 4) (drop 4 (entry at-lengths .args .block .now))) (entry at-lengths .args .left-atoms .now) (c .before .left-side .given .0 .0) (c .before .before .before .before .before .take-apart .last .1 .0)
+    SideTerm
+    (take (4 + left - 4) (drop 4 (entry at-lengths .args .block .now)))
+    (c .before .left-side .given .0 .0)
+    (c .before .before .before .before .before .take-apart .last .1 .0)
 left-term c = when-atoms (c .before .before .before .before .before .take-apart .ensures) (c .before .left-side .given .1)
 
 right-term :
@@ -39,12 +44,19 @@ right-term :
     let at-lengths = lengths-known (left-known c) in
     let left = at-lengths .before .header2 .given .0 .0 in
     let right = at-lengths .before .header2 .given .0 .1 .0 in
-    SideTerm (take (4 + left + right - (4 + left)) (drop (4 + left) (entry at-lengths .args .block .now))) (entry at-lengths .args .right-atoms .now) (c .before .right-side .given .0 .0) (c .before .before .before .before .before .take-apart2 .last .1 .0)
+    SideTerm
+    (take (4 + left + right - (4 + left)) (drop (4 + left) (entry at-lengths .args .block .now)))
+    (c .before .right-side .given .0 .0)
+    (c .before .before .before .before .before .take-apart2 .last .1 .0)
 right-term c = when-atoms (c .before .before .before .before .before .take-apart2 .ensures) (c .before .right-side .given .1)
 
 -- a refusal after the header
-refused : (c : tie.After-known-told2) {why : Refusal} → Refuses (entry c .args .block .now) (entry c .args .number) why → ReadPromise (entry c .args .block .now) (entry c .args .number) (entry c .args .left .now) (entry c .args .right .now) (outcome.refused (numberOf why)) (entry c .args .left .now) (entry c .args .right .now)
-refused c = refused-block (entry c .pre .1 .1 .0) (entry c .pre .1 .1 .1)
+refused :
+    (c : tie.After-known-told2) {why : Refusal} →
+    let a = entry c .args in
+    Refuses (a .block .now) (a .number) why →
+    ReadPromise (a .block .now) (a .number) (a .left .now) (a .right .now) (outcome.refused (numberOf why)) (a .left .now) (a .right .now)
+refused c = promised-refusal (entry c .pre .1 .1 .0) (entry c .pre .1 .1 .1)
 
 read-header-requires : tie.Need-read-header-requires
 read-header-requires c κs = search needs
@@ -83,7 +95,9 @@ same-length : tie.Need-same-length
 same-length c = search needs
 
 returns : tie.Need-returns
-returns c = refused (c .before .before .before .before .before .before .before) (left-missing (lengths (c .before .before .before .before .before .before .before)) (when-no-term (c .before .before .before .before .take-apart .ensures) (c .enum-told .given .1)))
+returns c =
+    let at-lengths = c .before .before .before .before .before .before .before in
+    refused at-lengths (left-missing (lengths at-lengths) (when-no-term (c .before .before .before .before .take-apart .ensures) (c .enum-told .given .1)))
 
 sub-take-apart-2 : tie.Need-sub-take-apart-2
 sub-take-apart-2 c = search needs
@@ -167,7 +181,7 @@ copy-requires-2 c κs =
 returns-4 : tie.Need-returns-4
 returns-4 c =
     let at-entry = c .before .before .before .before .before .before .before .before .before in
-    refused-block (at-entry .pre .1 .1 .0) (at-entry .pre .1 .1 .1) (when-refused (c .before .before .before .read-header .ensures) (c .before .header .given .1))
+    promised-refusal (at-entry .pre .1 .1 .0) (at-entry .pre .1 .1 .1) (when-refused (c .before .before .before .read-header .ensures) (c .before .header .given .1))
 
 same-length-6 : tie.Need-same-length-6
 same-length-6 c = search needs

@@ -86,10 +86,14 @@ put-requires : tie.Need-put-requires
 put-requires c κs = search needs
 
 slice-aggregate-tell : tie.Need-slice-aggregate-tell
-slice-aggregate-tell c = sym (length-front (replicate 256 200) (c .before .before .before .before .before .before .before .read .last .1 .1 .0) (c .before .before .before .before .before .before .before .before .before .before .before .before .before .wide3 .result) (c .before .before .before .before .before .before .before .read .kept .1 .1 .0))
+slice-aggregate-tell c =
+    let at-read = c .before .before .before .before .before .before .before in
+    sym (length-front (replicate 256 200) (at-read .read .last .1 .1 .0) (at-read .before .before .before .before .before .before .wide3 .result) (at-read .read .kept .1 .1 .0))
 
 slice-aggregate-tell-2 : tie.Need-slice-aggregate-tell-2
-slice-aggregate-tell-2 c = sym (length-front (replicate 256 200) (c .before .before .before .before .before .before .before .before .read .last .1 .1 .1 .0) (c .before .before .before .before .before .before .before .before .before .before .before .before .wide4 .result) (c .before .before .before .before .before .before .before .before .read .kept .1 .1 .1 .0))
+slice-aggregate-tell-2 c =
+    let at-read = c .before .before .before .before .before .before .before .before in
+    sym (length-front (replicate 256 200) (at-read .read .last .1 .1 .1 .0) (at-read .before .before .before .before .wide4 .result) (at-read .read .kept .1 .1 .1 .0))
 
 slice-aggregate-tell-3 : tie.Need-slice-aggregate-tell-3
 slice-aggregate-tell-3 c = search needs

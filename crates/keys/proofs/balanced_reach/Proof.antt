@@ -49,7 +49,8 @@ loop-again c =
     let at = c .before .before .before .before .args in (
       omega arith,
       any-more (c .before .before .before .loop .i) (balancedReaches (at .rows .now) (at .key) (at .place)) (c .before .before .before .loop .inv .1)
-          (⊎-elim (λ w. and-right-false (bit (at .key) (c .before .before .before .loop .i)) (w .2 .left)) (λ w. and-left-false _ (sym (c .before .takes .ensures) ∙ w .left)) (c .if1 .came)),
+          (⊎-elim (λ w. and-right-false (bit (at .key) (c .before .before .before .loop .i)) (w .2 .left))
+          (λ w. and-left-false _ (sym (c .before .takes .ensures) ∙ w .left)) (c .if1 .came)),
     )
 
 returns-2 : tie.Need-returns-2 Inv-loop μ-loop

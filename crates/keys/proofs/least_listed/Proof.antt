@@ -1,5 +1,5 @@
 -- `keys::least_listed` meets its contract. The invariant: no listed key stands from `from` to before the number that the walk has come to.
--- The measure is what is left of the keys.
+-- The measure is what is left of the keys. That there is room for 4 constants is what an array of 4 tells of its length.
 use Prim.Native.Nat.{_-_, _^_}
 use native.Mathlib.Omega.{arith}
 use native.Mathlib.Nat.{le-refl}
@@ -20,27 +20,39 @@ element-copy-out-balanced : tie.Need-element-copy-out-balanced Inv-loop μ-loop
 element-copy-out-balanced c = search needs
 
 loop-holds : tie.Need-loop-holds Inv-loop μ-loop
-loop-holds c = record { room = sym (length-map (c .before .args .t1 .constants) (λ v. v)) ∙ c .before .good .0 .1 .1 .1 .1 .0 .1 .0 .1; above = le-refl _; passed = passed-none _ _ }
+loop-holds c =
+    record {
+      room = sym (length-map (c .before .args .t1 .constants) (λ v. v)) ∙ c .before .good .0 .1 .1 .1 .1 .0 .1 .0 .1;
+      above = le-refl _;
+      passed = passed-none _ _;
+    }
 
 cast-key : tie.Need-cast-key Inv-loop μ-loop
 cast-key c = omega arith
 
 stands-requires : tie.Need-stands-requires Inv-loop μ-loop
-stands-requires c κs = (c .before .before .before .before .before .pre .constants-fit, c .before .before .before .before .before .pre .sizes-fit 0)
+stands-requires c κs =
+    let fit = c .before .before .before .before .before .pre in
+    (fit .constants-fit, fit .sizes-fit 0)
 
 enum-known-standing : tie.Need-enum-known-standing Inv-loop μ-loop
 enum-known-standing c = search needs
 
 loop-less : tie.Need-loop-less Inv-loop μ-loop
 loop-less c =
+    let stood = c .before .before .before in
+    let turn = stood .before .before .before in
     omega (
       arith,
-      step-between (c .before .before .before .before .before .before .before .before .before .pre) (c .before .before .before .before .before .before .before .loop .inv) (c .before .before .before .stands .ensures) (c .before .standing .given .1) .0,
-      c .before .before .before .before .before .before .loop-test .taken,
+      step-between (turn .before .before .before .pre) (turn .before .loop .inv) (stood .stands .ensures) (c .before .standing .given .1) .0,
+      turn .loop-test .taken,
     )
 
 loop-again : tie.Need-loop-again Inv-loop μ-loop
-loop-again c = step-between (c .before .before .before .before .before .before .before .before .before .pre) (c .before .before .before .before .before .before .before .loop .inv) (c .before .before .before .stands .ensures) (c .before .standing .given .1) .1
+loop-again c =
+    let stood = c .before .before .before in
+    let turn = stood .before .before .before in
+    step-between (turn .before .before .before .pre) (turn .before .loop .inv) (stood .stands .ensures) (c .before .standing .given .1) .1
 
 enum-told : tie.Need-enum-told Inv-loop μ-loop
 enum-told c = search needs
@@ -52,7 +64,11 @@ weigh-requires c κs =
 
 returns : tie.Need-returns Inv-loop μ-loop
 returns c =
-    step-found (c .before .before .before .before .before .before .before .before .before .before .before .before .pre) (c .before .before .before .before .before .before .before .before .before .before .loop .inv) (c .before .before .before .before .before .before .stands .ensures) (c .before .before .before .before .enum-told .given .1) (c .before .weigh .ensures) (c .if1 .taken)
+    let candidate = c .before .before .before .before in
+    let stood = candidate .before .before in
+    let turn = stood .before .before .before in
+    step-found (turn .before .before .before .pre) (turn .before .loop .inv) (stood .stands .ensures) (candidate .enum-told .given .1) (c .before .weigh .ensures)
+    (c .if1 .taken)
 
 add-at : tie.Need-add-at Inv-loop μ-loop
 add-at c = omega arith
@@ -62,7 +78,11 @@ loop-less-2 c = omega arith
 
 loop-again-2 : tie.Need-loop-again-2 Inv-loop μ-loop
 loop-again-2 c =
-    step-weighed (c .before .before .before .before .before .before .before .before .before .before .before .before .pre) (c .before .before .before .before .before .before .before .before .before .before .loop .inv) (c .before .before .before .before .before .before .stands .ensures) (c .before .before .before .before .enum-told .given .1) (c .before .weigh .ensures) (c .if1 .left)
+    let candidate = c .before .before .before .before in
+    let stood = candidate .before .before in
+    let turn = stood .before .before .before in
+    step-weighed (turn .before .before .before .pre) (turn .before .loop .inv) (stood .stands .ensures) (candidate .enum-told .given .1) (c .before .weigh .ensures)
+    (c .if1 .left)
 
 returns-2 : tie.Need-returns-2 Inv-loop μ-loop
 returns-2 c = step-end (c .before .loop .inv) (c .loop-test .left)

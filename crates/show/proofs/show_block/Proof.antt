@@ -1,10 +1,19 @@
 -- `show::show_block` meets its contract: the sides that Read gave lie within their buffers. Assumes nothing.
+use Prim.Native.Nat.{_≤_}
 use native.Mathlib.Omega.{arith}
 use borrow.Author.Needs.{needs}
-use lib.ListN.{length-take}
+use lib.ListN.{length, length-take}
 use Rattle.block.proofs.Laws.{sides-within}
 use Rattle.show.proofs.show_block.Statement.{statement}
 use Rattle.show.proofs.show_block.Tie as tie
+
+-- the sides lie within their buffers
+within :
+    (c : tie.After-put-sides-arg) →
+    let counts = c .before .before .answer .given .0 in
+    let buffers = c .before .before .before .before .before .before .before .before .before .before .read .last .1 .1 in
+    (counts .0 ≤ length (buffers .0)) × (counts .1 .0 ≤ length (buffers .1 .0))
+within c = sides-within (c .before .before .before .before .before .before .before .before .before .before .read .ensures) (c .before .before .answer .given .1)
 
 cast-number : tie.Need-cast-number
 cast-number c = search needs
@@ -25,16 +34,16 @@ enum-known-answer : tie.Need-enum-known-answer
 enum-known-answer c = search needs
 
 array-share-prefix-left : tie.Need-array-share-prefix-left
-array-share-prefix-left c = sides-within (c .before .before .before .before .before .before .before .before .before .before .read .ensures) (c .before .before .answer .given .1) .0
+array-share-prefix-left c = within c .0
 
 slice-aggregate-put-sides : tie.Need-slice-aggregate-put-sides
-slice-aggregate-put-sides c = simp length-take (omega (arith, sides-within (c .before .before .before .before .before .before .before .before .before .before .before .read .ensures) (c .before .before .before .answer .given .1)))
+slice-aggregate-put-sides c = simp length-take (omega (arith, within (c .before)))
 
 array-share-prefix-right : tie.Need-array-share-prefix-right
-array-share-prefix-right c = sides-within (c .before .before .before .before .before .before .before .before .before .before .before .read .ensures) (c .before .before .before .answer .given .1) .1
+array-share-prefix-right c = within (c .before) .1
 
 slice-aggregate-put-sides-2 : tie.Need-slice-aggregate-put-sides-2
-slice-aggregate-put-sides-2 c = simp length-take (omega (arith, sides-within (c .before .before .before .before .before .before .before .before .before .before .before .before .read .ensures) (c .before .before .before .before .answer .given .1)))
+slice-aggregate-put-sides-2 c = simp length-take (omega (arith, within (c .before .before)))
 
 put-sides-requires : tie.Need-put-sides-requires
 put-sides-requires c κs = search needs

@@ -18,11 +18,10 @@ enum-known-settled : tie.Need-enum-known-settled
 enum-known-settled c = search needs
 
 write-keys-requires : tie.Need-write-keys-requires
-write-keys-requires c κs = (
-  c .before .before .before .before .before .before .before .before .pre,
-  rw (c .before .before .before .before .before .before .wanted-count .ensures) (wanted-some (c .before .before .before .before .before .before .before .before .args .request .wanted)),
-  c .before .before .before .before .before .if1 .left,
-)
+write-keys-requires c κs =
+    let long = c .before .before .before .before .before in
+    let entry = long .before .before .before in
+    (entry .pre, rw (long .before .wanted-count .ensures) (wanted-some (entry .args .request .wanted)), long .if1 .left)
 
 enum-known-settled-2 : tie.Need-enum-known-settled-2
 enum-known-settled-2 c = search needs
@@ -32,12 +31,18 @@ same-length c = search needs
 
 returns-2 : tie.Need-returns-2
 returns-2 c = λ M L R full of none.
-    promise-page of none (rw (c .before .before .before .before .before .before .before .before .before .wanted-count .ensures) at (c .before .before .before .before .before .before .before .before .if1 .left)) (c .before .before .before .before .before .before .before .settle .ensures M L R full of) (c .before .before .before .before .before .settled .given .1)
-    (rw (c .before .before .before .before .before .before .before .before .before .wanted-count .ensures) at (c .before .before .write-keys .ensures M L R full of))
+    let settled = c .before .before .before .before .before .before .before in
+    let long = settled .before in
+    promise-page of none (rw (long .before .wanted-count .ensures) at (long .if1 .left)) (settled .settle .ensures M L R full of)
+    (c .before .before .before .before .before .settled .given .1)
+    (rw (long .before .wanted-count .ensures) at (c .before .before .write-keys .ensures M L R full of))
 
 returns-3 : tie.Need-returns-3
 returns-3 c = λ M L R full of none.
-    promise-refused of none (rw (c .before .before .before .before .before .wanted-count .ensures) at (c .before .before .before .before .if1 .left)) (c .before .before .before .settle .ensures M L R full of) (c .before .settled2 .given .1)
+    let settled = c .before .before .before in
+    let long = settled .before in
+    promise-refused of none (rw (long .before .wanted-count .ensures) at (long .if1 .left)) (settled .settle .ensures M L R full of)
+    (c .before .settled2 .given .1)
 
 pub page-of-spec : {M : Type 1} → statement M
 page-of-spec =

@@ -33,7 +33,8 @@ returns-2 c = λ M L R full of.
 
 returns-3 : tie.Need-returns-3
 returns-3 c = λ M L R full of.
-    c .settle-unlisted .ensures M L R full of _ (none-unlisted (next-none (c .before .before .before .least-listed .ensures M L R full of) (c .before .enum-told .given .1)))
+    let nothing = next-none (c .before .before .before .least-listed .ensures M L R full of) (c .before .enum-told .given .1) in
+    c .settle-unlisted .ensures M L R full of _ (none-unlisted nothing)
 
 pub settle-after-spec : {M : Type 1} → statement M
 settle-after-spec =

@@ -19,10 +19,12 @@ enum-told : tie.Need-enum-told
 enum-told c = search needs
 
 returns : tie.Need-returns
-returns c = λ M L R full of m. settled-next (table-ascending of) m (next-key (c .before .before .before .least-listed .ensures M L R full of) (c .before .next .given .1))
+returns c = λ M L R full of m.
+    settled-next (table-ascending of) m (next-key (c .before .before .before .least-listed .ensures M L R full of) (c .before .next .given .1))
 
 returns-2 : tie.Need-returns-2
-returns-2 c = λ M L R full of m. settled-last (table-ascending of) m (next-none (c .before .before .least-listed .ensures M L R full of) (c .enum-told .given .1))
+returns-2 c = λ M L R full of m.
+    settled-last (table-ascending of) m (next-none (c .before .before .least-listed .ensures M L R full of) (c .enum-told .given .1))
 
 pub settle-listed-spec : {M : Type 1} → statement M
 settle-listed-spec =

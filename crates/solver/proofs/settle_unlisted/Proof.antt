@@ -21,7 +21,8 @@ returns c = λ M L R full of key unlisted.
     settled-unlisted (table-ascending of) unlisted (next-key (c .before .before .least-listed .ensures M L R full of) (c .enum-told .given .1) .on-list)
 
 returns-2 : tie.Need-returns-2
-returns-2 c = λ M L R full of key unlisted. settled-empty (table-ascending of) (after key) (next-none (c .before .before .least-listed .ensures M L R full of) (c .enum-told2 .given .1))
+returns-2 c = λ M L R full of key unlisted.
+    settled-empty (table-ascending of) (after key) (next-none (c .before .before .least-listed .ensures M L R full of) (c .enum-told2 .given .1))
 
 pub settle-unlisted-spec : {M : Type 1} → statement M
 settle-unlisted-spec =

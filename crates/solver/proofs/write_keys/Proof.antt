@@ -46,10 +46,14 @@ returns c =
     (λ M L R full of. next-none (c .before .before .least-listed .ensures M L R full of) (c .enum-told .given .1))
 
 mul-out : tie.Need-mul-out Inv-loop μ-loop
-mul-out c = omega (arith, c .before .before .before .before .before .loop .inv .enough, length-set (c .before .before .before .before .before .before .before .args .out .now) 0 (c .before .before .before .before .before .before .before .args .first))
+mul-out c =
+    let entry = c .before .before .before .before .before .before .before .args in
+    omega (arith, c .before .before .before .before .before .loop .inv .enough, length-set (entry .out .now) 0 (entry .first))
 
 slice-write-out-2 : tie.Need-slice-write-out-2 Inv-loop μ-loop
-slice-write-out-2 c = omega (arith, c .before .before .before .before .before .loop .inv .enough, writing-length (c .before .before .before .before .before .loop .inv))
+slice-write-out-2 c =
+    let writing = c .before .before .before .before .before .loop .inv in
+    omega (arith, writing .enough, writing-length writing)
 
 add-written : tie.Need-add-written Inv-loop μ-loop
 add-written c = omega (arith, c .before .before .before .before .before .before .before .fits .wanted)
@@ -82,7 +86,8 @@ same-length-2 c = writing-length (c .before .before .before .before .loop .inv) 
 
 returns-2 : tie.Need-returns-2 Inv-loop μ-loop
 returns-2 c =
-    written-more (c .before .before .before .before .before .before .args .out .now) (c .before .before .before .before .loop .inv) (c .before .before .before .loop-test .left)
+    let end = c .before .before .before in
+    written-more (end .before .before .before .args .out .now) (end .before .loop .inv) (end .loop-test .left)
     (λ M L R full of. next-key (c .before .before .least-listed2 .ensures M L R full of) (c .enum-told2 .given .1))
 
 same-length-3 : tie.Need-same-length-3 Inv-loop μ-loop

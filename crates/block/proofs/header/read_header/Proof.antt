@@ -21,7 +21,9 @@ abbrev entry : tie.After-are-term-lengths → tie.Start
 entry v = v .before .before .before .before .before .before .before .before .before .before .before
 
 checked : (c : tie.Else1) → check (entry (c .before) .args .block .now) ≡ checkOfBytes (entry (c .before) .args .block .now)
-checked c = agree (c .before .before .before .before .before .before .before .before .two-bytes .ensures) (c .before .before .before .before .before .before .before .check-of .ensures) (c .if1 .left)
+checked c =
+    let v = c .before in
+    agree (v .before .before .before .before .before .before .before .two-bytes .ensures) (v .before .before .before .before .before .before .check-of .ensures) (c .if1 .left)
 
 shared-slice-read-two-bytes : tie.Need-shared-slice-read-two-bytes
 shared-slice-read-two-bytes c = search needs
@@ -60,7 +62,11 @@ are-term-lengths-requires : tie.Need-are-term-lengths-requires
 are-term-lengths-requires c κs = search needs
 
 returns : tie.Need-returns
-returns c = is-refused (check-first (entry (c .before) .pre) (differ (c .before .before .before .before .before .before .before .before .two-bytes .ensures) (c .before .before .before .before .before .before .before .check-of .ensures) (c .if1 .taken)))
+returns c =
+    let v = c .before in
+    is-refused
+    (check-first (entry v .pre)
+    (differ (v .before .before .before .before .before .before .before .two-bytes .ensures) (v .before .before .before .before .before .before .check-of .ensures) (c .if1 .taken)))
 
 returns-2 : tie.Need-returns-2
 returns-2 c =

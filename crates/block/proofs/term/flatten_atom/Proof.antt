@@ -1,7 +1,8 @@
 -- `block::term::flatten_atom` meets its contract: the one byte written is the atom's flattening. Assumes nothing.
 use borrow.Author.Needs.{needs}
 use Rattle.block.specs.Inner.{found}
-use Rattle.block.proofs.Begins.{atom-begins, receives-atom}
+use Rattle.block.proofs.Begins.{atom-begins}
+use Rattle.block.proofs.Flattens.{receives-atom}
 use Rattle.block.proofs.term.flatten_atom.Statement.{statement}
 use Rattle.block.proofs.term.flatten_atom.Tie as tie
 

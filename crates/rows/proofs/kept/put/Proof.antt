@@ -1,16 +1,13 @@
--- `rows::put` meets its contract: so far the first places are copied. Assumes nothing.
+-- `rows::kept::put` meets its contract: so far the first places are copied. Assumes nothing.
 use Prim.Native.Nat.{_-_, _+_, _≤_, _<_, ℕ}
 use native.Mathlib.Omega.{arith}
 use native.Mathlib.Numerals.{add-one}
-use mathlib.Core.Path.{_≡_, refl, sym, ap, _∙_}
+use mathlib.Core.Path.{_≡_, sym, ap, _∙_}
 use mathlib.Core.List.{List, _++_}
 use lib.ListN.{length, set, getD, take, drop}
 use lib.Seq.{paste, paste-zero, paste-suc, length-paste, take-length}
-use borrow.Author.Needs.{needs}
 use Rattle.rows.proofs.kept.put.Statement.{statement}
 use Rattle.rows.proofs.kept.put.Tie as tie
-use Rattle.rows.proofs.kept.put.Reads as reads
-use Rattle.rows.proofs.kept.put.Lts as lts
 
 -- the first places of the row are copied
 record Copied (bytes₀ row : List ℕ) (start : ℕ) (bytes : List ℕ) (place : ℕ) : Type 0 where
@@ -43,39 +40,30 @@ Inv-loop rows₀ start row place₀ rows place = Copied rows₀ row start rows p
 abbrev μ-loop : tie.MeasureT-loop
 μ-loop rows₀ start row place₀ rows place = length row - place
 
--- src/lib.rt:53:5
 loop-holds : tie.Need-loop-holds Inv-loop μ-loop
 loop-holds c = record { within = omega arith; copied = paste-zero (c .args .rows .now) (c .args .start) (c .args .row .now) }
 
--- src/lib.rt:54:31
 shared-slice-read-rows : tie.Need-shared-slice-read-rows Inv-loop μ-loop
 shared-slice-read-rows c = omega arith
 
--- src/lib.rt:54:14
 add-rows : tie.Need-add-rows Inv-loop μ-loop
 add-rows c = omega (arith, c .before .before .before .pre, c .before .before .before .good .0 .0)
 
--- src/lib.rt:54:9
 slice-write-rows : tie.Need-slice-write-rows Inv-loop μ-loop
 slice-write-rows c = omega (arith, length-copied (c .before .before .loop .inv) (c .before .before .before .pre))
 
--- src/lib.rt:55:9
 add-place : tie.Need-add-place Inv-loop μ-loop
 add-place c = omega (arith, c .before .before .before .good .1 .1 .0 .0)
 
--- src/lib.rt:53:5
 loop-less : tie.Need-loop-less Inv-loop μ-loop
 loop-less c = omega arith
 
--- src/lib.rt:53:5
 loop-again : tie.Need-loop-again Inv-loop μ-loop
 loop-again c = copied-more (c .before .before .loop .inv) (c .before .before .before .pre) (c .before .loop-test .taken)
 
--- src/lib.rt:48:1
 same-length : tie.Need-same-length Inv-loop μ-loop
 same-length c = length-copied (c .before .loop .inv) (c .before .before .pre)
 
--- src/lib.rt:48:1
 returns : tie.Need-returns Inv-loop μ-loop
 returns c = copied-all (c .before .loop .inv) (c .before .before .pre) (c .loop-test .left)
 

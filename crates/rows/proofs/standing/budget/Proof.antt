@@ -1,15 +1,11 @@
--- `rows::budget` meets its contract. Assumes nothing.
+-- `rows::standing::budget` meets its contract. Assumes nothing.
 use borrow.Author.Tests.{le-leb, lt-leb}
 use Rattle.rows.proofs.standing.budget.Statement.{statement}
 use Rattle.rows.proofs.standing.budget.Tie as tie
-use Rattle.rows.proofs.standing.budget.Reads as reads
-use Rattle.rows.proofs.standing.budget.Lts as lts
 
--- src/lib.rt:101:1
 returns : tie.Need-returns
 returns c = simp (le-leb _ _ (c .if1 .taken))
 
--- src/lib.rt:101:1
 returns-2 : tie.Need-returns-2
 returns-2 c = simp (lt-leb _ _ (c .if1 .left))
 

@@ -1,46 +1,48 @@
--- `rows::chosen` meets its contract: the sums have room, and the budget has the number. Assumes nothing.
+-- `rows::standing::chosen` meets its contract: the sums have room, and the budget has the number. Assumes nothing.
 use native.Mathlib.Omega.{arith}
 use borrow.Author.Tests.{le-leb, lt-leb}
-use Rattle.rows.specs.Places.{Room, afterChoice}
 use Rattle.rows.proofs.Ranges.{room-after}
 use borrow.Author.Needs.{needs}
 use Rattle.rows.proofs.standing.chosen.Statement.{statement}
 use Rattle.rows.proofs.standing.chosen.Tie as tie
-use Rattle.rows.proofs.standing.chosen.Reads as reads
-use Rattle.rows.proofs.standing.chosen.Lts as lts
-use Rattle.rows.proofs.standing.times.Reads as times-reads
 
--- src/lib.rt:118:23
 times-requires : tie.Need-times-requires
 times-requires c κs = search needs
 
--- src/lib.rt:118:13
 add-a : tie.Need-add-a
-add-a c = omega (arith, c .before .times .ensures, room-after {l = c .before .before .args .left} {r = c .before .before .args .right} {n = c .before .before .args .number} (c .before .before .pre .1) (omega arith) (omega arith) (c .before .before .pre .0) .left-room)
+add-a c =
+    let entry = c .before .before in
+    let room = room-after {l = entry .args .left} {r = entry .args .right} {n = entry .args .number} (entry .pre .1) (omega arith) (omega arith) (entry .pre .0) in
+    omega (arith, c .before .times .ensures, room .left-room)
 
--- src/lib.rt:119:24
 times-requires-2 : tie.Need-times-requires-2
 times-requires-2 c κs = search needs
 
--- src/lib.rt:119:13
 add-b : tie.Need-add-b
-add-b c = omega (arith, c .before .times2 .ensures, room-after {l = c .before .before .before .before .args .left} {r = c .before .before .before .before .args .right} {n = c .before .before .before .before .args .number} (c .before .before .before .before .pre .1) (omega arith) (omega arith) (c .before .before .before .before .pre .0) .right-room)
+add-b c =
+    let entry = c .before .before .before .before in
+    let room = room-after {l = entry .args .left} {r = entry .args .right} {n = entry .args .number} (entry .pre .1) (omega arith) (omega arith) (entry .pre .0) in
+    omega (arith, c .before .times2 .ensures, room .right-room)
 
--- src/lib.rt:124:17
 sub-t10 : tie.Need-sub-t10
 sub-t10 c = simp (le-leb _ _ (c .before .if1 .taken)) at (c .before .before .before .before .before .before .pre .0)
 
--- src/lib.rt:133:19
 sub-t13 : tie.Need-sub-t13
 sub-t13 c = simp (lt-leb _ _ (c .before .if1 .left)) at (c .before .before .before .before .before .before .pre .0)
 
--- src/lib.rt:114:1
 returns : tie.Need-returns
-returns c = simp (le-leb _ _ (c .before .before .if1 .taken), c .before .before .before .before .before .before .times .ensures, c .before .before .before .before .times2 .ensures)
+returns c =
+    let at-if1 = c .before .before in
+    let at-times2 = at-if1 .before .before in
+    let at-times = at-times2 .before .before in
+    simp (le-leb _ _ (at-if1 .if1 .taken), at-times .times .ensures, at-times2 .times2 .ensures)
 
--- src/lib.rt:114:1
 returns-2 : tie.Need-returns-2
-returns-2 c = simp (lt-leb _ _ (c .before .before .if1 .left), c .before .before .before .before .before .before .times .ensures, c .before .before .before .before .times2 .ensures)
+returns-2 c =
+    let at-if1 = c .before .before in
+    let at-times2 = at-if1 .before .before in
+    let at-times = at-times2 .before .before in
+    simp (lt-leb _ _ (at-if1 .if1 .left), at-times .times .ensures, at-times2 .times2 .ensures)
 
 pub chosen-spec : {M : Type 1} → statement M
 chosen-spec =

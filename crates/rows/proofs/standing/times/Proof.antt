@@ -1,4 +1,4 @@
--- `rows::times` meets its contract: a product of two bytes fits. Assumes nothing.
+-- `rows::standing::times` meets its contract: a product of two bytes fits. Assumes nothing.
 use native.Mathlib.Omega.{arith}
 use Prim.Native.Nat.{_*_}
 use mathlib.Core.Path.{ap₂}
@@ -6,23 +6,16 @@ use Rattle.rows.proofs.Ranges.{bytes-product}
 use borrow.Author.Needs.{needs}
 use Rattle.rows.proofs.standing.times.Statement.{statement}
 use Rattle.rows.proofs.standing.times.Tie as tie
-use Rattle.rows.proofs.standing.times.Reads as reads
-use Rattle.rows.proofs.standing.times.Lts as lts
-use Rattle.rows.proofs.standing.wide.Reads as wide-reads
 
--- src/lib.rt:103:5
 wide-requires : tie.Need-wide-requires
 wide-requires c κs = search needs
 
--- src/lib.rt:103:15
 wide-requires-2 : tie.Need-wide-requires-2
 wide-requires-2 c κs = search needs
 
--- src/lib.rt:103:5
 mul-result : tie.Need-mul-result
 mul-result c = omega (arith, bytes-product {a = c .before .wide .result} {b = c .wide2 .result} (omega arith) (omega arith))
 
--- src/lib.rt:100:1
 returns : tie.Need-returns
 returns c = ap₂ (λ a b. a * b) (c .before .wide .ensures) (c .wide2 .ensures)
 

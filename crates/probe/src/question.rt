@@ -1,0 +1,38 @@
+// A question's header, 20 bytes, taken apart.
+
+// What is asked: which question, the byte that fills the lent buffers, the lengths of what follows, the number that the
+// question takes, whether a page begins after it, how many keys are wanted, and the lengths of the lent buffers.
+pub struct Question {
+    pub kind: u8,
+    pub fill: u8,
+    pub first_length: usize,
+    pub second_length: usize,
+    pub number: u32,
+    pub after: bool,
+    pub wanted: usize,
+    pub first_room: usize,
+    pub second_room: usize,
+}
+
+// The header's numbers have the high byte first.
+pub fn of(header: [u8; 20]) -> Question {
+    Question {
+        kind: header[0],
+        fill: header[1],
+        first_length: two(header[2], header[3]),
+        second_length: two(header[4], header[5]),
+        number: four(header[6], header[7], header[8], header[9]),
+        after: header[10] == 1,
+        wanted: four(header[11], header[12], header[13], header[14]) as usize,
+        first_room: two(header[16], header[17]),
+        second_room: two(header[18], header[19]),
+    }
+}
+
+fn two(high: u8, low: u8) -> usize {
+    high as usize * 256 + low as usize
+}
+
+fn four(a: u8, b: u8, c: u8, d: u8) -> u32 {
+    ((a as u32 * 256 + b as u32) * 256 + c as u32) * 256 + d as u32
+}

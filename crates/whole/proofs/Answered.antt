@@ -1,0 +1,92 @@
+-- The answers of Values to the keys of all pages are the pair's unifiers, in every mode.
+use Prim.Native.Nat.{ℕ, _<_}
+use native.Mathlib.Omega.{arith}
+use mathlib.Core.Path.{_≡_, refl, ap, ap₂, sym, subst, _∙_}
+use mathlib.Core.Bool.{Bool, true, false, cond}
+use mathlib.Core.List.{List, [], _∷_, _++_, List·Memᴰ}
+use lib.ListN.{length, getD}
+use Rattle.ac.specs.Pair.{Mode, count, variables}
+use Rattle.ac.specs.Search.{groups}
+use Rattle.ac.specs.Selection.{placeOf}
+use Rattle.ac.specs.Keys.{layout, keys, start}
+use Rattle.ac.specs.Pages.{together, WholeList}
+use Rattle.ac.specs.Replacement.{Replacement, put, isNew, SameSum, Unifies, ComesFrom}
+use Rattle.ac.proofs.Groups.{groups-exist}
+use Rattle.ac.proofs.Places.{getD-member, placeOf-getD}
+use Rattle.ac.proofs.Fages.{Agree, unifies-alike, comes-alike}
+use Rattle.sides.proofs.Lists.{member-at}
+use Rattle.solver.specs.Existence.{replacementOf}
+use Rattle.solver.specs.Pages.{PagesAsked}
+use Rattle.solver.proofs.Existence.{key-unifies, unifier-listed}
+use Rattle.solver.proofs.Pages.{asked-within, pages-hold-the-list}
+use Rattle.whole.specs.Whole.{replacementAt, ValuesAsked, WholeSet}
+use Rattle.whole.proofs.Named.{keys-independent, as-many-answers, answers-name}
+
+-- each new variable filled with itself changes nothing
+put-itself : (new : ℕ) (s : List ℕ) → put (isNew new) (λ n. n ∷ []) s ≡ s
+put-itself new [] = refl
+put-itself new (a ∷ s) = ap₂ {C = List ℕ} (λ first rest. first ++ rest) (either (isNew new a)) (put-itself new s)
+  where
+    either : (t : Bool) → cond t (a ∷ []) (a ∷ []) ≡ a ∷ []
+    either true = refl
+    either false = refl
+
+-- so a replacement that gives each variable the same sum as another comes from it
+same-comes : (M : Mode) (new : ℕ) (L R : List ℕ) {σ θ : Replacement}
+    → ((x : ℕ) → List·Memᴰ x (variables M L R) → SameSum (σ x) (θ x)) → ComesFrom M new L R σ θ
+same-comes M new L R {σ} same =
+    record {
+      fill = λ n. n ∷ [];
+      filled = λ x n m k above some. omega arith;
+      agrees = λ x m b. sym (same x m b) ∙ ap (count b) (sym (put-itself new (σ x)));
+    }
+
+module _ {M : Mode} {L R : List ℕ} {pages answers : List (List ℕ)} (asked : PagesAsked M L R start pages)
+    (answered : ValuesAsked M L R (together pages) answers) where
+  -- the pages hold together the list of the pair's groups
+  list : WholeList (keys M layout L R (groups M L R)) pages
+  list = pages-hold-the-list (groups-exist M L R) asked
+
+  -- an answer's key, by its place, is on the list, and the answer is read back as what the key names
+  at-key : (i : ℕ) → i < length answers → i < length (together pages)
+  at-key i h = omega (arith, as-many-answers answered)
+
+  listed : (i : ℕ) → i < length answers → List·Memᴰ (getD (together pages) i 0) (keys M layout L R (groups M L R))
+  listed i h = subst (List·Memᴰ (getD (together pages) i 0)) (list .whole) (getD-member (together pages) i 0 (at-key i h))
+
+  named : (i : ℕ) → i < length answers
+      → Agree (variables M L R) (replacementAt answers i) (replacementOf M L R (groups M L R) (getD (together pages) i 0))
+  named = answers-name (groups-exist M L R) answered
+
+  each-unifies : (i : ℕ) → i < length answers → Unifies M L R (replacementAt answers i)
+  each-unifies i h =
+      let fine = asked-within refl asked in
+      unifies-alike M L R (fine .left-side) (fine .right-side) (λ x m. sym (named i h x m)) (key-unifies fine (groups-exist M L R) (listed i h))
+
+  every-comes-from-one : (θ : Replacement) → Unifies M L R θ
+      → (i : ℕ) × (i < length answers) × ComesFrom M (layout .new) L R (replacementAt answers i) θ
+  every-comes-from-one θ unifies =
+      let found = unifier-listed (asked-within refl asked) (groups-exist M L R) unifies in
+      let place = member-at (subst (List·Memᴰ (found .0)) (sym (list .whole)) (found .1)) in
+      let within : place .0 < length answers = omega (arith, place .1, as-many-answers answered) in (
+        place .0,
+        within,
+        comes-alike M (layout .new) L R
+            (λ x m. ap (λ key. replacementOf M L R (groups M L R) key x) (sym (place .2)) ∙ sym (named (place .0) within x m)) (λ x m. refl) (found .2),
+      )
+
+  none-from-another : (i j : ℕ) → i < length answers → j < length answers
+      → ComesFrom M (layout .new) L R (replacementAt answers i) (replacementAt answers j) → i ≡ j
+  none-from-another i j h h′ comes =
+      let same = keys-independent (groups-exist M L R) (asked-within refl asked) (listed i h) (listed j h′)
+      (comes-alike M (layout .new) L R (named i h) (named j h′) comes) in
+      sym (placeOf-getD (list .none-twice) i (at-key i h)) ∙ ap (λ key. placeOf key (together pages)) same ∙ placeOf-getD (list .none-twice) j (at-key j h′)
+
+  pub whole-set : WholeSet M L R answers
+  whole-set =
+      record {
+        each-unifies = each-unifies;
+        every-comes-from-one = every-comes-from-one;
+        none-from-another = none-from-another;
+        none-twice = λ i j h h′ same. none-from-another i j h h′ (same-comes M (layout .new) L R same);
+      }

@@ -1,0 +1,79 @@
+-- The pages and answers that `whole` speaks of exist for every pair within the limits that has a unifier: one page with all keys is enough.
+use Prim.Native.Nat.{ℕ, suc, _≤_}
+use native.Mathlib.Omega.{arith}
+use mathlib.Core.Path.{_≡_, refl, subst}
+use mathlib.Core.Bool.{Bool, false}
+use mathlib.Core.List.{List, [], _∷_, List·Memᴰ, List·Memᴰ·head, List·Memᴰ·tail, List·Memᴰ·not-nil}
+use borrow.Author.Tests.{le-ltb}
+use lib.ListN.{length, replicate, length-replicate, take}
+use Rattle.ac.specs.Pair.{Mode}
+use Rattle.ac.specs.Rows.{Groups, GroupsOf}
+use Rattle.ac.specs.Keys.{layout, keys, Begin, start}
+use Rattle.ac.specs.Pages.{together}
+use Rattle.ac.proofs.Groups.{groups-exist}
+use Rattle.numbers.specs.First.{NoneOf, end, also}
+use Rattle.sides.specs.Limits.{limits}
+use Rattle.sides.specs.Given.{PairGiven}
+use Rattle.solver.specs.Given.{ListGiven, none-admissible, not-listed, last-listed}
+use Rattle.solver.specs.Page.{page, PagePromise, is-page}
+use Rattle.solver.specs.Existence.{SomeUnifies}
+use Rattle.solver.specs.Pages.{PagesAsked, no-more as no-more-pages}
+use Rattle.solver.proofs.Given.{none-of-list}
+use Rattle.solver.proofs.Beginning.{start-not-after}
+use Rattle.solver.proofs.Limits.{within-limits}
+use Rattle.solver.proofs.Existence.{unifier-listed}
+use Rattle.solver.proofs.Pages.{pages-hold-the-list}
+use Rattle.values.specs.Values.{is-written}
+use Rattle.values.proofs.Given.{none-at-all}
+use Rattle.whole.specs.Whole.{ValuesAsked, no-more, one-more}
+use Rattle.whole.proofs.Short.{not-long}
+
+-- of a list with a member nothing is given at the start
+start-given : {listed : List ℕ} {key n : ℕ} → List·Memᴰ key listed → ListGiven listed start n → ⊥
+start-given {key = key} m (none-admissible empty) = List·Memᴰ·not-nil (subst (List·Memᴰ key) empty m)
+start-given m (not-listed same h) = start-not-after same
+start-given m (last-listed same m′ h) = start-not-after same
+
+-- a buffer of n places
+abbrev room : ℕ → List ℕ
+room n = replicate n 0
+
+room-enough : (n : ℕ) → n ≤ length (room n)
+room-enough n = omega (arith, length-replicate {A = ℕ} n 0)
+
+module _ {M : Mode} {L R : List ℕ} where
+  -- a page after which no more follow is the last one
+  last-page : {begin : Begin} {wanted written : ℕ} {more : Bool} {out out′ : List ℕ} → more ≡ false
+      → PagePromise M L R begin wanted out (page written more) out′ → PagesAsked M L R begin (take written out′ ∷ [])
+  last-page {begin} {wanted} {written} {out = out} {out′ = out′} ends promise =
+      no-more-pages (subst (λ more. PagePromise M L R begin wanted out (page written more) out′) ends promise)
+
+module _ {M : Mode} {L R : List ℕ} (none : NoneOf (PairGiven limits M L R) (7 ∷ 8 ∷ 9 ∷ 10 ∷ 11 ∷ 12 ∷ [])) {G : Groups} (of : GroupsOf M L R G) where
+  -- one page from the start, with room for more than all keys
+  all-keys : {key : ℕ} → List·Memᴰ key (keys M layout L R G) → (pages : List (List ℕ)) × PagesAsked M L R start pages
+  all-keys m =
+      let wanted = suc (length (keys M layout L R G)) in
+      let nothing = also (start-given m) (also (start-given m) (also (start-given m) end)) in (
+        _,
+        last-page {wanted = wanted} {out = room wanted} (le-ltb wanted (length (keys M layout L R G)) (omega arith))
+            (is-page (none-of-list (room-enough wanted) of none nothing) of),
+      )
+
+  -- Values answers each listed key
+  all-answered : (asked : List ℕ) → ((key : ℕ) → List·Memᴰ key asked → List·Memᴰ key (keys M layout L R G))
+      → (answers : List (List ℕ)) × ValuesAsked M L R asked answers
+  all-answered [] listed = ([], no-more)
+  all-answered (key ∷ asked) listed =
+      let m = listed key (List·Memᴰ·head refl) in
+      let others = all-answered asked (λ other m. listed other (List·Memᴰ·tail m)) in
+      (_, one-more {out = room 1212} (is-written (none-at-all (room-enough 1212) of none m (not-long none of m)) of) (others .1))
+
+-- Sides that give none of 7 to 12 and have a unifier have pages, and answers to their keys.
+pub pages-and-answers : {M : Mode} {L R : List ℕ} → NoneOf (PairGiven limits M L R) (7 ∷ 8 ∷ 9 ∷ 10 ∷ 11 ∷ 12 ∷ []) → SomeUnifies M L R
+    → (pages answers : List (List ℕ)) × PagesAsked M L R start pages × ValuesAsked M L R (together pages) answers
+pages-and-answers {M} {L} {R} none some =
+    let of = groups-exist M L R in
+    let pages = all-keys none of (unifier-listed (within-limits none) of (some .1) .1) in
+    let whole = pages-hold-the-list of (pages .1) .whole in
+    let answers = all-answered none of (together (pages .0)) (λ key m. subst (List·Memᴰ key) whole m) in
+    (pages .0, answers .0, pages .1, answers .1)

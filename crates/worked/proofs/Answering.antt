@@ -31,10 +31,10 @@ use Rattle.solver.proofs.Given.{first-of-list, none-of-list}
 use Rattle.solver.proofs.Determined.{page-determined}
 use Rattle.solver.proofs.Limits.{within-limits}
 use Rattle.solver.proofs.Beginning.{start-not-after}
-use Rattle.values.specs.Given.{LongValue}
 use Rattle.values.specs.Values.{is-written, valuesOf}
 use Rattle.values.proofs.Given.{none-at-all}
 use Rattle.values.proofs.Determined.{values-determined}
+use Rattle.whole.proofs.Short.{not-long}
 use Rattle.worked.specs.Questions.{pageQuestion}
 use Rattle.worked.specs.Answers.{Answers, RowsGives, PageGives, ValuesGives, ValuesGiveInTurn, none, next}
 
@@ -59,13 +59,13 @@ module _ {L R : List ℕ} {G : Groups}
   nothing = none-of never (7 ∷ 8 ∷ 9 ∷ 10 ∷ 11 ∷ 12 ∷ [])
 
   -- the rows of the groups
-  rows-give-none : {out : List ℕ} → 480 ≤ length out → (n : ℕ) → RowsGiven unifying L R out n → ⊥
-  rows-give-none enough n (of-the-sides given) = never n given
-  rows-give-none enough n (short-buffer short) = omega arith
+  never-of-rows : {out : List ℕ} → 480 ≤ length out → (n : ℕ) → RowsGiven unifying L R out n → ⊥
+  never-of-rows enough n (of-the-sides given) = never n given
+  never-of-rows enough n (short-buffer short) = omega arith
 
-  pub rows-give : RowsGives L R (sizesOf G) (allRows G)
-  rows-give out enough =
-      let met = is-answered (none-of (rows-give-none enough) rowsNumbers) groups in
+  pub rows-of-groups : RowsGives L R (sizesOf G) (allRows G)
+  rows-of-groups out enough =
+      let met = is-answered (none-of (never-of-rows enough) rowsNumbers) groups in
       record { meets = met; alone = λ other exit p. rows-determined p met }
 
   -- where keys remain after the beginning, at most 200 of them, they are the page
@@ -87,28 +87,26 @@ module _ {L R : List ℕ} {G : Groups}
           (is-page (none-of-list enough groups nothing (none-of (λ n. list-gives-none e on-list) (13 ∷ 14 ∷ 15 ∷ []))) groups)
 
   -- a list of at most 200 keys is one page; an empty one is 13
-  pub page-gives : (ks : List ℕ) → keys unifying layout L R G ≡ ks → length ks ≤ 200 → PageGives L R ks
-  page-gives [] e few out enough =
+  pub page-of-list : (ks : List ℕ) → keys unifying layout L R G ≡ ks → length ks ≤ 200 → PageGives L R ks
+  page-of-list [] e few out enough =
       let met = is-refused (first-of-list enough groups nothing (here (none-admissible e))) in
       record { meets = met; alone = λ other exit p. page-determined p met }
-  page-gives (key ∷ others) e few out enough = page-from start (λ k same. absurd (start-not-after same)) key others e few out enough
+  page-of-list (key ∷ others) e few out enough = page-from start (λ k same. absurd (start-not-after same)) key others e few out enough
 
-  -- a listed key without a long value has its values
-  pub values-give : (key : ℕ) → List·Memᴰ key (keys unifying layout L R G) → (LongValue unifying L R G key → ⊥)
-      → ValuesGives L R key (valuesOf unifying L R G key)
-  values-give key listed-key short out enough =
-      let met = is-written (none-at-all enough groups nothing listed-key short) groups in
+  -- a listed key has its values, since none is long
+  pub values-of-key : (key : ℕ) → List·Memᴰ key (keys unifying layout L R G) → ValuesGives L R key (valuesOf unifying L R G key)
+  values-of-key key listed-key out enough =
+      let met = is-written (none-at-all enough groups nothing listed-key (not-long nothing groups listed-key)) groups in
       record { meets = met; alone = λ other exit p. values-determined p met }
 
   fits : Fits layout G
   fits = within-limits nothing .groups-fit G groups
 
   -- of the keys of listed selections in turn, the values of those selections
-  pub in-turn : ((key : ℕ) → List·Memᴰ key (keys unifying layout L R G) → ValuesGives L R key (valuesOf unifying L R G key))
-      → (ss : List Selection) → ((s : Selection) → List·Memᴰ s ss → List·Memᴰ s (listed unifying layout L R G))
+  pub in-turn : (ss : List Selection) → ((s : Selection) → List·Memᴰ s ss → List·Memᴰ s (listed unifying layout L R G))
       → ValuesGiveInTurn L R (map (keyOf layout) ss) (map (λ s. bindings (value unifying (layout .new) L R G s) (variables unifying L R)) ss)
-  in-turn gives [] from = none
-  in-turn gives (s ∷ ss) from = next first (in-turn gives ss (λ t m. from t (List·Memᴰ·tail m)))
+  in-turn [] from = none
+  in-turn (s ∷ ss) from = next first (in-turn ss (λ t m. from t (List·Memᴰ·tail m)))
     where
       of-groups : SelectionOf G s
       of-groups = selections-are G .0 (filter-member (admissible unifying (layout .new) L R G) (selections G) (from s (List·Memᴰ·head refl)) .0)
@@ -116,4 +114,4 @@ module _ {L R : List ℕ} {G : Groups}
       first : ValuesGives L R (keyOf layout s) (laidOut (bindings (value unifying (layout .new) L R G s) (variables unifying L R)))
       first =
           subst (λ t. ValuesGives L R (keyOf layout s) (laidOut (bindings (value unifying (layout .new) L R G t) (variables unifying L R))))
-          (taken-apart fits of-groups) (gives (keyOf layout s) (members-map (keyOf layout) (from s (List·Memᴰ·head refl))))
+          (taken-apart fits of-groups) (values-of-key (keyOf layout s) (members-map (keyOf layout) (from s (List·Memᴰ·head refl))))

@@ -9,10 +9,11 @@ use mathlib.Core.List.{List, [], _∷_, _++_, append-nil}
 use lib.ListN.{length, take, drop, length-take, length-drop, take-append-drop}
 use lib.Seq.{take-take, take-add, drop-drop, length-take-le}
 use borrow.Rule.Slice.PartMut.{putMid, take-put}
-use Rattle.library.specs.Reading.{part, waiting, Fits, HandsOn}
+use Rattle.library.specs.Reading.{opened, part, waiting, Fits, HandsOn}
 use Rattle.library.specs.Inner.{Reads, Grown, Fills, Readies, Wants, Hands}
 use Rattle.library.specs.declared.Reader.{Reader}
 use Rattle.library.specs.declared.Next.{Next}
+use Rattle.library.specs.declared.Next.the-variants as next
 use Rattle.library.specs.declared.Got.{Got}
 use Rattle.library.specs.declared.Got.the-variants as got
 use Rattle.library.specs.declared.Filled.{Filled}
@@ -188,3 +189,23 @@ hands-on {buffer} {after} {r} {full} {wanted = wanted} w waits (Hands.block {siz
         let short : length (waiting after full) < wanted = omega (arith, waiting-length (waits .fits), w .a-block (omega (arith, waits .same-left))) in
         inr (some, few, ended-if-short (waits .enough) short, none-wait after behind all)
     kind (no many) = inl (omega (arith, least))
+
+-- a reader of an opened library fits every buffer that has room for a block
+pub opened-fits : (buffer : List ℕ) (most : ℕ) → 512 ≤ length buffer → Fits buffer (opened most)
+opened-fits buffer most room = record { ordered = omega arith; within = omega arith; room = room }
+
+-- what a block tells
+pub record ABlock (r : Reader) (start size : ℕ) (r′ : Reader) (after : List ℕ) : Type 0 where
+  pub fits : Fits after r′
+  pub ends : start + size ≡ r′ .at
+  pub one-less : r .left ≡ r′ .left + 1
+
+pub handed-block : {buffer after : List ℕ} {r r′ : Reader} {n : Next} {start size : ℕ} → HandsOn buffer r n r′ after → n ≡ next.Block start size →
+    ABlock r start size r′ after
+handed-block {start = start} {size = size} (HandsOn.a-block {start = s} {size = z} came fits ends whole kind one-less) e =
+    let same-start : s ≡ start = cc e in
+    let same-size : z ≡ size = cc e in
+    record { fits = fits; ends = omega arith; one-less = one-less }
+handed-block (HandsOn.the-end fits none ended) e = absurd (let z : _≡_ {A = ℕ} 0 1 = cc e in omega arith)
+handed-block (HandsOn.remains came fits whole some none-left) e = absurd (let z : _≡_ {A = ℕ} 0 1 = cc e in omega arith)
+handed-block HandsOn.failed e = absurd (let z : _≡_ {A = ℕ} 0 1 = cc e in omega arith)

@@ -272,7 +272,7 @@ fn settle(table: Table, key: u32) -> Settled
 }
 
 // The values of a key on the list, unless one would be too long.
-fn write(table: Table, key: u32, out: &mut [u8]) -> ValuesAnswer
+pub fn write(table: Table, key: u32, out: &mut [u8]) -> ValuesAnswer
     requires { ⌜ Within table ⌝ }
     requires { ⌜ 1212 ≤ length (now out) ⌝ }
     ensures { λ r. ⌜ WrittenOf table key (now (out .entry)) (told r) (now (out .exit)) ⌝ }

@@ -1,0 +1,3 @@
+pub mod Places
+pub mod Sides
+pub mod KeyLines

@@ -1,4 +1,5 @@
--- Laws of document 01's table: a number names one refusal, and a question's list gives at most one number, one of its own.
+-- Laws of document 01's table: a number names one refusal, and a question's list gives at most one number,
+-- one of its own.
 use mathlib.Core.Path.{_≡_, refl, ap, sym, _∙_}
 use mathlib.Core.List.{List, [], _∷_, List·Memᴰ, List·Memᴰ·head, List·Memᴰ·tail}
 use Prim.Native.Nat.{ℕ}
@@ -6,7 +7,7 @@ use lib.ListN.{getD}
 use Rattle.numbers.specs.Numbers.{numberOf}
 use Rattle.numbers.specs.declared.Refusal.{Refusal}
 use Rattle.numbers.specs.declared.Refusal.the-variants.{BlockLength, Check, BlockNumber, TermLength, Term, Filler, SideLength, NoAtom, Variables, NetCount, Constants, Rows, NoUnifier, NotListed, LastKey, ShortBuffer, LongValue}
-use Rattle.numbers.specs.First.{First, NoneOf, here, later, end, also}
+use Rattle.numbers.specs.First.{First, NoneOf, here, later, also}
 
 -- the refusals in the table's order; no row has the number 0
 rows : List Refusal

@@ -35,6 +35,7 @@ pub mod Fields
 pub mod Listed
 pub mod Pages
 pub mod Fages
+pub mod Atoms
 pub mod MinimalSet
 pub mod Tests
 pub mod Worked

@@ -3,10 +3,12 @@
 use Prim.Native.Nat.{_-_, _^_}
 use native.Mathlib.Omega.{arith}
 use native.Mathlib.Nat.{le-refl}
-use mathlib.Core.Path.{sym, _∙_}
+use mathlib.Core.Path.{refl, sym, subst, _∙_}
 use borrow.Author.Needs.{needs}
+use lib.Bits.{and-mask, mask-lt}
 use lib.ListN.{length-map}
-use Rattle.keys.proofs.Walk.{Walked, passed-none, step-between, step-weighed, step-found, step-end}
+use Rattle.keys.proofs.Candidates.{below-block-end}
+use Rattle.keys.proofs.Walk.{Walked, passed-none, step-between, step-over, step-found, step-end}
 use Rattle.keys.proofs.least_listed.Statement.{statement}
 use Rattle.keys.proofs.least_listed.Tie as tie
 
@@ -57,32 +59,48 @@ loop-again c =
 enum-told : tie.Need-enum-told Inv-loop μ-loop
 enum-told c = search needs
 
-weigh-requires : tie.Need-weigh-requires Inv-loop μ-loop
-weigh-requires c κs =
+cast-least-of-tuple : tie.Need-cast-least-of-tuple Inv-loop μ-loop
+cast-least-of-tuple c = search needs
+
+shr-least-of-tuple : tie.Need-shr-least-of-tuple Inv-loop μ-loop
+shr-least-of-tuple c = search needs
+
+least-of-tuple-requires : tie.Need-least-of-tuple-requires Inv-loop μ-loop
+least-of-tuple-requires c κs =
     let fit = c .before .before .before .before .before .before .before .before .before .before .pre in
-    (fit .places-fit, fit .constants-fit, fit .sizes-fit 0)
+    let turn = c .before .before .before .before .before .before .before in
+    ((fit .places-fit, fit .constants-fit, fit .sizes-fit 0), (omega (arith, turn .loop-test .taken), mask-lt (turn .before .loop .at) 16))
+
+enum-known-least : tie.Need-enum-known-least Inv-loop μ-loop
+enum-known-least c = search needs
 
 returns : tie.Need-returns Inv-loop μ-loop
 returns c =
-    let candidate = c .before .before .before .before in
+    let candidate = c .before .before .before .before .before .before in
     let stood = candidate .before .before in
     let turn = stood .before .before .before in
-    step-found (turn .before .before .before .pre) (turn .before .loop .inv) (stood .stands .ensures) (candidate .enum-told .given .1) (c .before .weigh .ensures)
-    (c .if1 .taken)
+    step-found (turn .before .before .before .pre) (turn .before .loop .inv) (stood .stands .ensures) (candidate .enum-told .given .1) refl
+    (and-mask (turn .before .loop .at) 16) (c .before .before .before .least-of-tuple .ensures) (c .before .least .given .1)
 
-add-at : tie.Need-add-at Inv-loop μ-loop
-add-at c = omega arith
+enum-told-2 : tie.Need-enum-told-2 Inv-loop μ-loop
+enum-told-2 c = search needs
+
+block-end-requires : tie.Need-block-end-requires Inv-loop μ-loop
+block-end-requires c κs = omega arith
 
 loop-less-2 : tie.Need-loop-less-2 Inv-loop μ-loop
-loop-less-2 c = omega arith
+loop-less-2 c =
+    let turn = c .before .before .before .before .before .before .before .before .before .before .before in
+    omega (arith, c .block-end .ensures, below-block-end (turn .before .loop .at) 16, turn .loop-test .taken)
 
 loop-again-2 : tie.Need-loop-again-2 Inv-loop μ-loop
 loop-again-2 c =
-    let candidate = c .before .before .before .before in
+    let candidate = c .before .before .before .before .before .before in
     let stood = candidate .before .before in
     let turn = stood .before .before .before in
-    step-weighed (turn .before .before .before .pre) (turn .before .loop .inv) (stood .stands .ensures) (candidate .enum-told .given .1) (c .before .weigh .ensures)
-    (c .if1 .left)
+    subst (Walked _ _) (sym (c .block-end .ensures))
+    (step-over (turn .before .before .before .pre) (turn .before .loop .inv) (stood .stands .ensures) (candidate .enum-told .given .1) refl
+    (and-mask (turn .before .loop .at) 16) (c .before .before .before .least-of-tuple .ensures) (c .before .enum-told2 .given .1))
 
 returns-2 : tie.Need-returns-2 Inv-loop μ-loop
 returns-2 c = step-end (c .before .loop .inv) (c .loop-test .left)
@@ -101,9 +119,13 @@ least-listed-spec =
     loop-less
     loop-again
     enum-told
-    weigh-requires
+    cast-least-of-tuple
+    shr-least-of-tuple
+    least-of-tuple-requires
+    enum-known-least
     returns
-    add-at
+    enum-told-2
+    block-end-requires
     loop-less-2
     loop-again-2
     returns-2)

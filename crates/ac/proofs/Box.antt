@@ -7,7 +7,8 @@ use lib.ListN.{length, getD}
 use Rattle.ac.specs.Lists.{Ascending}
 use Rattle.ac.specs.Rows.{Exactly, _≼_, _≺_}
 use Rattle.ac.specs.Equation.{Equation, Minimal}
-use Rattle.ac.specs.Search.{box, search, Enough}
+use Rattle.ac.specs.Budgets.{Enough}
+use Rattle.ac.specs.Search.{box, search}
 use Rattle.ac.proofs.Vectors.{same-length, rest-of}
 use Rattle.ac.proofs.Order.{ascending-single}
 use Rattle.ac.proofs.Bound.{huet-bound}

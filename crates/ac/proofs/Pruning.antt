@@ -10,10 +10,10 @@ use mathlib.Core.List.{List, [], _∷_, List·Memᴰ, List·Memᴰ·head, List·
 use lib.ListN.{length, getD}
 use lib.Dec.{leb}
 use borrow.Author.Tests.{leb-true, leb-false}
+use Rattle.ac.specs.Equation.{weighted, coefficient}
+use Rattle.ac.specs.Budgets.{up, down}
 use Rattle.ac.specs.Search.{Carried, rests}
-use Rattle.ac.proofs.Vectors.{weighted, at}
 use Rattle.ac.proofs.Order.{≺-asymmetric, ascending-unique, ascending-single}
-use Rattle.ac.proofs.Walk.{up, down}
 use Rattle.ac.proofs.Solutions.{Completes, rests-complete, complete-rests, rests-ascending}
 
 -- where p is at most q and D times f at each place, so are the sums
@@ -46,9 +46,9 @@ module _ (left right : List ℕ) (same : length left ≡ length right) (c : Carr
   left-too-far D bounded far =
       no-rests
       (λ v h.
-      omega (arith, h .equal, weighted-beyond (at right) (at left) (down (at left) (at right)) D v share, mul-le-mul-left D (h .within-down)))
+      omega (arith, h .equal, weighted-beyond (coefficient right) (coefficient left) (down (coefficient left) (coefficient right)) D v share, mul-le-mul-left D (h .within-down)))
     where
-      share : (i : ℕ) → getD right i 0 ≤ getD left i 0 + D * down (at left) (at right) i
+      share : (i : ℕ) → getD right i 0 ≤ getD left i 0 + D * down (coefficient left) (coefficient right) i
       share i = by-kind (leb (getD right i 0) (getD left i 0)) refl
         where
           by-kind : (b : Bool) → leb (getD right i 0) (getD left i 0) ≡ b → getD right i 0 ≤ getD left i 0 + D * cond b 0 1
@@ -59,9 +59,9 @@ module _ (left right : List ℕ) (same : length left ≡ length right) (c : Carr
   right-too-far D bounded far =
       no-rests
       (λ v h.
-      omega (arith, h .equal, weighted-beyond (at left) (at right) (up (at left) (at right)) D v share, mul-le-mul-left D (h .within-up)))
+      omega (arith, h .equal, weighted-beyond (coefficient left) (coefficient right) (up (coefficient left) (coefficient right)) D v share, mul-le-mul-left D (h .within-up)))
     where
-      share : (i : ℕ) → getD left i 0 ≤ getD right i 0 + D * up (at left) (at right) i
+      share : (i : ℕ) → getD left i 0 ≤ getD right i 0 + D * up (coefficient left) (coefficient right) i
       share i = by-kind (leb (getD right i 0) (getD left i 0)) refl
         where
           by-kind : (b : Bool) → leb (getD right i 0) (getD left i 0) ≡ b → getD left i 0 ≤ getD right i 0 + D * cond b 1 0

@@ -10,12 +10,12 @@ use lib.Dec.{leb, ltb, eqb}
 use borrow.Author.Tests.{ltb-true, ltb-false, eqb-true, eq-eqb, not-false}
 use Rattle.ac.specs.Lists.{keep, sum, Ascending, Ascending.none}
 use Rattle.ac.specs.Rows.{Exactly, _≺_}
-use Rattle.ac.specs.Equation.{Equation, Solves, Minimal}
-use Rattle.ac.specs.Search.{kept, Enough, Carried, most, after, rests, start, solutions, beyond, largest, budgetUp, budgetDown, minimalSolutions}
-use Rattle.ac.proofs.Vectors.{same-length, weighted, at, dot-weighted, Rest, rest-of}
+use Rattle.ac.specs.Equation.{weighted, coefficient, Equation, Solves, Minimal}
+use Rattle.ac.specs.Budgets.{up, down, Enough}
+use Rattle.ac.specs.Search.{kept, Carried, most, after, rests, start, solutions, beyond, largest, budgetUp, budgetDown, minimalSolutions}
+use Rattle.ac.proofs.Vectors.{same-length, dot-weighted, Rest, rest-of}
 use Rattle.ac.proofs.Order.{ascending-single}
 use Rattle.ac.proofs.Nets.{beyond-entry}
-use Rattle.ac.proofs.Walk.{up, down}
 use Rattle.ac.proofs.Bound.{lambert-bound}
 use Rattle.ac.proofs.Search.{both-true, Region, kept-exact}
 use Rattle.ac.proofs.Placed.{Front, front-of, front-member, numbers-ascending}
@@ -23,9 +23,9 @@ use Rattle.ac.proofs.Placed.{Front, front-of, front-member, numbers-asc
 -- what a rest has to be
 pub record Completes (left right : List ℕ) (c : Carried) (v : List ℕ) : Type 0 where
   pub vector : length v ≡ length left
-  pub equal : c .left-sum + weighted (at left) v ≡ c .right-sum + weighted (at right) v
-  pub within-up : weighted (up (at left) (at right)) v ≤ c .up
-  pub within-down : weighted (down (at left) (at right)) v ≤ c .down
+  pub equal : c .left-sum + weighted (coefficient left) v ≡ c .right-sum + weighted (coefficient right) v
+  pub within-up : weighted (up (coefficient left) (coefficient right)) v ≤ c .up
+  pub within-down : weighted (down (coefficient left) (coefficient right)) v ≤ c .down
   pub not-all-zero : c .counts ≡ false → 0 < sum v
 
 -- one place's share of the budgets
@@ -49,10 +49,10 @@ completes-place : (l r : ℕ) (left right : List ℕ) (c : Carried) (x : ℕ) (v
 completes-place l r left right c x v = (to, back)
   where
     us : ℕ
-    us = weighted (up (at left) (at right)) v
+    us = weighted (up (coefficient left) (coefficient right)) v
 
     ds : ℕ
-    ds = weighted (down (at left) (at right)) v
+    ds = weighted (down (coefficient left) (coefficient right)) v
 
     to : (x ≤ most l r c) × Completes left right (after l r c x) v → Completes (l ∷ left) (r ∷ right) c (x ∷ v)
     to h =
@@ -137,7 +137,7 @@ rests-ascending (l ∷ left) (r ∷ right) c =
 
 module _ (E : Equation) (same : length (E .left) ≡ length (E .right)) (up′ down′ : ℕ) where
   solution-completes : (v : List ℕ) → length v ≡ length (E .left) → Solves E v
-      → (weighted (up (at (E .left)) (at (E .right))) v ≤ up′) × (weighted (down (at (E .left)) (at (E .right))) v ≤ down′) → Completes (E .left) (E .right) (start E up′ down′) v
+      → (weighted (up (coefficient (E .left)) (coefficient (E .right))) v ≤ up′) × (weighted (down (coefficient (E .left)) (coefficient (E .right))) v ≤ down′) → Completes (E .left) (E .right) (start E up′ down′) v
   solution-completes v vector s within =
       record {
         vector = vector;
@@ -164,7 +164,7 @@ module _ (E : Equation) (same : length (E .left) ≡ length (E .right)) (up′ d
             let r : Rest u v = rest-of below in
             complete-rests (E .left) (E .right) (start E up′ down′) same u
             (solution-completes u (same-length below ∙ c .vector) s
-            (omega (arith, r .products (up (at (E .left)) (at (E .right))), r .products (down (at (E .left)) (at (E .right))), c .within-up, c .within-down)));
+            (omega (arith, r .products (up (coefficient (E .left)) (coefficient (E .right))), r .products (down (coefficient (E .left)) (coefficient (E .right))), c .within-up, c .within-down)));
         minimal = λ v m. complete-rests (E .left) (E .right) (start E up′ down′) same v (solution-completes v (m .vector) (m .least .has) (lambert-bound E m enough));
       }
 

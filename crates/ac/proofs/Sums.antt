@@ -10,8 +10,8 @@ use lib.IntN.{pos, negℤ}
 use Rattle.ac.specs.Lists.{sum}
 use Rattle.ac.specs.Pair.{Mode, count, net, variables}
 use Rattle.ac.specs.Rows.{IsVector, weight, Least, _≼_, Exactly, Group, Groups, GroupsOf}
-use Rattle.ac.specs.Equation.{dot, Equation, Solves, Minimal, balancedEquation, combined, SumOf, RowAndSum}
-use Rattle.ac.proofs.Vectors.{same-length, ≼-refl, ≼-trans, decide-≼, least-unless, at, dot-weighted, Rest, rest-of, exactly-same}
+use Rattle.ac.specs.Equation.{dot, coefficient, Equation, Solves, Minimal, balancedEquation, combined, SumOf, RowAndSum}
+use Rattle.ac.proofs.Vectors.{same-length, ≼-refl, ≼-trans, decide-≼, least-unless, dot-weighted, Rest, rest-of, exactly-same}
 use Rattle.ac.proofs.Bridge.{weight-zero, weight-of-constant, balanced-row-is-minimal, row-of-constant-is-minimal}
 
 -- Some row is below.
@@ -117,7 +117,7 @@ minimal-below E {rows} exact = row-below rows (λ v vector least. exact .all v (
 
 module _ (left right : List ℕ) {balanced : List (List ℕ)} (exact : Exactly (Minimal (homogeneousOf left right)) balanced) where
   dot-rest : (l : List ℕ) {u v : List ℕ} (r : Rest u v) → dot l v ≡ dot l u + dot l (r .rest)
-  dot-rest l {u} {v} r = omega (arith, dot-weighted l v, dot-weighted l u, dot-weighted l (r .rest), r .products (at l))
+  dot-rest l {u} {v} r = omega (arith, dot-weighted l v, dot-weighted l u, dot-weighted l (r .rest), r .products (coefficient l))
 
   -- no balanced row is all zero, and both sums of a row agree
   row-positive : (b : ℕ) → b < length balanced → 0 < sum (getD balanced b [])

@@ -8,7 +8,7 @@ use mathlib.Core.Logic.{_↔_}
 use mathlib.Core.List.{List, [], _∷_}
 use lib.ListN.{length, getD}
 use Rattle.ac.specs.Lists.{sum}
-use Rattle.ac.specs.Equation.{dot}
+use Rattle.ac.specs.Equation.{dot, weighted, coefficient}
 use Rattle.ac.specs.Rows.{Least, Exactly, _≼_, _≼_.none, _≼_.place}
 
 -- At or below.
@@ -64,20 +64,11 @@ least-unless {Has} {v} has smaller = record { has = has; no-other = λ u below h
     by-sum u below h (yes le) = ≼-equal below le
     by-sum u below h (no gt) = absurd (smaller u below (omega arith) h)
 
--- The sum of the entries, each times the coefficient of its place.
-abbrev pub weighted : (ℕ → ℕ) → List ℕ → ℕ
-weighted p [] = 0
-weighted p (x ∷ v) = p 0 * x + weighted (λ i. p (suc i)) v
-
--- the coefficients that a list gives, 0 after its end
-abbrev pub at : List ℕ → ℕ → ℕ
-at l i = getD l i 0
-
 pub weighted-none : (v : List ℕ) → weighted (λ i. 0) v ≡ 0
 weighted-none [] = refl
 weighted-none (x ∷ v) = omega (arith, weighted-none v)
 
-pub dot-weighted : (l v : List ℕ) → dot l v ≡ weighted (at l) v
+pub dot-weighted : (l v : List ℕ) → dot l v ≡ weighted (coefficient l) v
 dot-weighted [] v = sym (weighted-none v)
 dot-weighted (c ∷ l) [] = refl
 dot-weighted (c ∷ l) (x ∷ v) = ap (λ z. c * x + z) (dot-weighted l v)

@@ -1,9 +1,8 @@
 -- The search for minimal solutions, as definitions that compute. No contract speaks of them: `proofs/Search.antt` shows that what they give
 -- is exactly the minimal solutions, and programs are proved against them.
-use Prim.Native.Nat.{ℕ, zero, suc, _+_, _*_, _-_, _≤_, max}
+use Prim.Native.Nat.{ℕ, zero, suc, _+_, _*_, _-_, max}
 use mathlib.Core.Bool.{Bool, true, false, not, cond, _&&_, _||_}
 use mathlib.Core.List.{List, [], _∷_, _++_, map}
-use lib.ListN.{getD}
 use lib.Dec.{leb, ltb, eqb}
 use Rattle.ac.specs.Lists.{from, keep, filter, flatMap, sum}
 use Rattle.ac.specs.Pair.{Mode, unbalanced}
@@ -55,12 +54,6 @@ abbrev pub search : Equation → List (List ℕ) → List (List ℕ)
 search E region = kept (filter (solves E) region)
 
 -- The search within two budgets: the entries at places where left is at least right sum to at most the budget up, the others to at most down.
-
--- Budgets that are enough: up is at least 1 and at least each right beyond left, down at least each left beyond right, the offsets among them.
-pub record Enough (E : Equation) (up down : ℕ) : Type 0 where
-  pub some : 1 ≤ up
-  pub places : (i : ℕ) → (getD (E .left) i 0 ≤ getD (E .right) i 0 + down) × (getD (E .right) i 0 ≤ getD (E .left) i 0 + up)
-  pub offsets : (E .left-offset ≤ E .right-offset + down) × (E .right-offset ≤ E .left-offset + up)
 
 -- What is carried from place to place: the two sums so far, offsets included; what is left of the two budgets; whether an all-zero rest counts.
 pub record Carried : Type 0 where

@@ -7,18 +7,9 @@ use lib.ListN.{length}
 use lib.Dec.{leb, ltb}
 use Rattle.ac.specs.Lists.{sum}
 use Rattle.ac.specs.Equation.{Equation, Solves, Minimal, dot}
-use Rattle.ac.proofs.Vectors.{weighted, at as coefficient}
-use Rattle.ac.proofs.Walk.{up, down}
+use Rattle.ac.specs.Budgets.{upSum, downSum}
 use Rattle.rows.specs.declared.standing.Standing.{Standing}
 use Rattle.rows.specs.declared.standing.Range.{Range}
-
--- of the numbers at the places that are left, the sum of those whose left coefficient is at least the right one, and the sum of the others
-module _ (left right rest : List ℕ) where
-  abbrev pub upSum : ℕ
-  upSum = weighted (up (coefficient left) (coefficient right)) rest
-
-  abbrev pub downSum : ℕ
-  downSum = weighted (down (coefficient left) (coefficient right)) rest
 
 -- The walk stands after a prefix, with the coefficients of the places that are left. A rest solves with the prefix exactly if it makes the two sums
 -- equal and, where an all-zero rest does not count, is not all zero; and the rest of a row is within the two budgets.

@@ -5,8 +5,7 @@ use mathlib.Core.Path.{_≡_, refl, sym, ap, _∙_}
 use mathlib.Core.Logic.{_↔_}
 use mathlib.Core.List.{List, [], _∷_}
 use lib.ListN.{length, getD}
-use Rattle.ac.specs.Equation.{weighted, coefficient, Equation, Solves, Minimal}
-use Rattle.ac.specs.Search.{beyond, netted}
+use Rattle.ac.specs.Equation.{weighted, coefficient, Equation, Solves, Minimal, beyond, netted}
 use Rattle.ac.proofs.Vectors.{same-length, least-same, dot-weighted}
 
 pub record SameNets (E F : Equation) : Type 0 where

@@ -35,6 +35,18 @@ pub ≼-equal : {u v : List ℕ} → u ≼ v → sum v ≤ sum u → u ≡ v
 ≼-equal (place {m = m} {n = n} {u = u} {v = v} h below) le =
     ap₂ {C = List ℕ} (λ a w. a ∷ w) (let e : m ≡ n = omega (arith, sum-mono below) in e) (≼-equal below (let h′ : sum v ≤ sum u = omega arith in h′))
 
+-- at or below, entry by entry
+pub ≼-entry : {u v : List ℕ} → u ≼ v → (i : ℕ) → getD u i 0 ≤ getD v i 0
+≼-entry none i = le-refl 0
+≼-entry (place h below) zero = h
+≼-entry (place h below) (suc i) = ≼-entry below i
+
+pub ≼-entries : (u v : List ℕ) → length u ≡ length v → ((i : ℕ) → i < length v → getD u i 0 ≤ getD v i 0) → u ≼ v
+≼-entries [] [] same each = none
+≼-entries [] (n ∷ v) same each = absurd (omega arith)
+≼-entries (m ∷ u) [] same each = absurd (omega arith)
+≼-entries (m ∷ u) (n ∷ v) same each = place (each 0 (omega arith)) (≼-entries u v (omega arith) (λ i h. each (suc i) (omega arith)))
+
 -- what is least for one property is least for another that holds of the same vectors
 pub least-same : {Has Has′ : List ℕ → Type 0} {v : List ℕ}
     → ((u : List ℕ) → u ≼ v → Has u ↔ Has′ u) → Least Has v → Least Has′ v

@@ -59,7 +59,6 @@ module _ {E : Equation} {p left right : List ℕ} {l r : ℕ} {at : Standing} (s
     pub after-choice : Stands E (p ++ n ∷ []) left right (afterChoice at l r n)
     after-choice =
         record {
-          sides = s .sides;
           level = omega (arith, s .level);
           places = omega (arith, s .places, length-append p (n ∷ []));
           solves = λ rest long e positive.

@@ -14,7 +14,6 @@ use Rattle.rows.specs.declared.standing.Range.{Range}
 -- The walk stands after a prefix, with the coefficients of the places that are left. A rest solves with the prefix exactly if it makes the two sums
 -- equal and, where an all-zero rest does not count, is not all zero; and the rest of a row is within the two budgets.
 pub record Stands (E : Equation) (prefix left right : List ℕ) (at : Standing) : Type 0 where
-  pub sides : length (E .left) ≡ length (E .right)
   pub level : length left ≡ length right
   pub places : length prefix + length left ≡ length (E .left)
   pub solves : (rest : List ℕ) → length rest ≡ length left → dot left rest + at .left ≡ dot right rest + at .right → (at .counts ≡ false → 0 < sum rest)

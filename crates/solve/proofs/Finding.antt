@@ -9,8 +9,7 @@ use lib.ListN.{length, getD, take, replicate, length-map, List·getD-append}
 use lib.Seq.{take-at}
 use Rattle.ac.specs.Pair.{Mode, count, variables, unbalanced}
 use Rattle.ac.specs.Rows.{Exactly}
-use Rattle.ac.specs.Equation.{Equation, Minimal}
-use Rattle.ac.specs.Search.{beyond, netted}
+use Rattle.ac.specs.Equation.{Equation, Minimal, beyond, netted}
 use Rattle.ac.proofs.Vectors.{exactly-same}
 use Rattle.ac.proofs.Bridge.{balanced-row-is-minimal, row-of-constant-is-minimal}
 use Rattle.ac.proofs.Nets.{netted-minimal, length-beyond}

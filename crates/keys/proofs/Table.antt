@@ -8,9 +8,8 @@ use lib.ListN.{length, getD, take, drop, length-map, length-take}
 use lib.Seq.{length-take-le, getD-take, getD-drop}
 use Rattle.ac.specs.Lists.{from, Ascending}
 use Rattle.ac.specs.Pair.{Mode}
-use Rattle.ac.specs.Rows.{Group}
+use Rattle.ac.specs.Rows.{Group, rowsAt}
 use Rattle.ac.specs.Keys.{layout, keys, Fits}
-use Rattle.ac.proofs.Fields.{rowsAt}
 use Rattle.ac.proofs.Keys.{length-from}
 use Rattle.ac.proofs.Listed.{keys-ascending}
 use Rattle.table.specs.Table.{rowAt, groupAt, groupsFrom, groupsIn, Within, TableOf}

@@ -4,3 +4,5 @@ pub mod Reach
 pub mod Candidates
 pub mod Table
 pub mod Walk
+pub mod Given
+pub mod Finding

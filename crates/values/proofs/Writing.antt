@@ -3,12 +3,11 @@ use Prim.Native.Nat.{ℕ, zero, suc, _+_, _<_, _≤_}
 use native.Mathlib.Omega.{arith}
 use mathlib.Core.Path.{_≡_, refl, sym, _∙_, ap, subst, subst₂}
 use mathlib.Core.Bool.{Bool, true, false, _||_}
-use mathlib.Core.List.{List, [], _∷_, _++_, List·Memᴰ}
+use mathlib.Core.List.{List, [], _∷_, List·Memᴰ}
 use borrow.Author.Tests.{ltb-true, lt-ltb}
 use lib.Dec.{ltb}
-use lib.ListN.{length, getD, take, drop}
-use lib.Seq.{sets-eq, getD-take}
-use Rattle.ac.specs.Lists.{receives}
+use lib.ListN.{length, getD, take}
+use lib.Seq.{getD-take}
 use Rattle.ac.specs.Pair.{Mode, variables}
 use Rattle.ac.specs.Selection.{taken, valueAt, placeOf}
 use Rattle.ac.specs.Keys.{layout, keys, selectionAt, Candidate}
@@ -17,6 +16,7 @@ use Rattle.ac.proofs.Listed.{listed-candidates}
 use Rattle.ac.proofs.Places.{getD-member, placeOf-getD, placeOf-lt}
 use Rattle.ac.proofs.Replaced.{variables-ascending}
 use Rattle.buffer.specs.Put.{Put}
+use Rattle.buffer.proofs.Puts.{put-received}
 use Rattle.keys.specs.Reach.{any, Holds}
 use Rattle.keys.proofs.Any.{any-found}
 use Rattle.keys.proofs.Table.{table-fits, table-holds}
@@ -40,14 +40,6 @@ any-some (suc n) test e = go (any n test) refl (test n) refl (any-some n test)
     go false p false q rec =
         let contra : false ≡ true = sym (ap (λ a. a || test n) p ∙ q) ∙ e in
         absurd (let z : _≡_ {A = ℕ} 0 1 = cc contra in omega arith)
-
--- what is put at the front of a buffer that has room stands there, and what comes after it stays
-pub put-received : {out after : List ℕ} {bytes : List ℕ} {n : ℕ} → length bytes ≤ length out → Put out 0 bytes n after
-    → (n ≡ length bytes) × (after ≡ receives out bytes)
-put-received {out} {after} {bytes} {n} room put = (
-  omega (arith, put .place),
-  put .stored ∙ sets-eq bytes out 0 (omega arith) ∙ ap (λ k. bytes ++ drop k out) (let e : 0 + length bytes ≡ length bytes = omega arith in e),
-)
 
 -- the constant of each of the constants' groups
 atomOf-groupsFrom : (t : Table) (a : ℕ) (cs : List ℕ) (g : ℕ) → g < length (groupsFrom t a cs) → atomOf (groupsFrom t a cs) g ≡ getD cs g 0
@@ -130,5 +122,5 @@ module _ {M : Mode} {L R : List ℕ} {t : Table} {key : ℕ} (of : TableOf M L R
   unfolding tooLong
   writes-values {out} {after} {n} e space put =
       let mine : Put out 0 (valuesOf M L R (groupsIn t) key) n after = subst (λ bytes. Put out 0 bytes n after) laid put in
-      let received = put-received (omega (arith, mine .place)) mine in
-      subst₂ (λ k l. Writes M L R (groupsIn t) key out (written k) l) (sym (received .0)) (sym (received .1)) (fits (counted-long (sym e)))
+      subst₂ (λ k l. Writes M L R (groupsIn t) key out (written k) l) (let size : length (valuesOf M L R (groupsIn t) key) ≡ n = omega (arith, mine .place) in size)
+      (sym (put-received mine space)) (fits (counted-long (sym e)))

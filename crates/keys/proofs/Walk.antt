@@ -45,7 +45,6 @@ passed-none t start M L R full of other m h = h
 
 -- the walk from the one number has come to the other
 pub record Walked (t : Table) (start at : ℕ) : Type 0 where
-  pub room : length (t .constants) ≡ 4
   pub above : start ≤ at
   pub passed : Passed t start at
 
@@ -54,7 +53,7 @@ module _ {t : Table} {M : Mode} {L R : List ℕ} (full : M .empties ≡ false) (
   listed-reached : {key : ℕ} → List·Memᴰ key (keys M layout L R (groupsIn t))
       → Candidate layout (groupsIn t) key × (fills t key ≡ true)
   listed-reached {key} m =
-      let h = listed-candidates (table-fits t (of .within)) M L R .0 m in (
+      let h = listed-candidates (table-fits (of .within)) M L R .0 m in (
         h .0,
         ap (allReached (taken (layout .new) (groupsIn t) (selectionAt layout (groupsIn t) key))) (of .the-places)
             ∙ sym (admissible-reached M (layout .new) L R (groupsIn t) (selectionAt layout (groupsIn t) key) full) ∙ h .1,
@@ -63,7 +62,7 @@ module _ {t : Table} {M : Mode} {L R : List ℕ} (full : M .empties ≡ false) (
   reached-listed : {key : ℕ} → Candidate layout (groupsIn t) key
       → fills t key ≡ true → List·Memᴰ key (keys M layout L R (groupsIn t))
   reached-listed {key} candidate e =
-      listed-candidates (table-fits t (of .within)) M L R .1 (
+      listed-candidates (table-fits (of .within)) M L R .1 (
         candidate,
         admissible-reached M (layout .new) L R (groupsIn t) (selectionAt layout (groupsIn t) key) full
             ∙ sym (ap (allReached (taken (layout .new) (groupsIn t) (selectionAt layout (groupsIn t) key))) (of .the-places)) ∙ e,
@@ -100,7 +99,7 @@ module _ {t : Table} {start at : ℕ} (passed : Passed t start at) where
     where
       go : Dec (other < start) → other < start
       go (yes before) = before
-      go (no above) = absurd (omega (arith, passed M L R full of other m (omega arith), keys-below (table-fits t (of .within)) M L R m))
+      go (no above) = absurd (omega (arith, passed M L R full of other m (omega arith), keys-below (table-fits (of .within)) M L R m))
 
 between-none : {G : Groups} {key later : ℕ} → Stands G key (NoneBefore later)
     → (key < later) × ((other : ℕ) → key ≤ other → other < later → Candidate layout G other → ⊥)
@@ -113,12 +112,12 @@ stands-candidate (on-candidate candidate) = candidate
 module _ {t : Table} {start at : ℕ} (within : Within t) (walked : Walked t start at) {standing : Standing}
     (told : (G : Groups) → Sized (t .sizes) (t .unbalanced) G → Fits layout G → Stands G at standing) where
   here : Stands (groupsIn t) at standing
-  here = told (groupsIn t) (table-sized within (walked .room)) (table-fits t within)
+  here = told (groupsIn t) (table-sized within) (table-fits within)
 
   pub step-between : {later : ℕ} → standing ≡ NoneBefore later → (at < later) × Walked t start later
   step-between {later} e =
       let h = between-none (subst (Stands (groupsIn t) at) e here) in
-      (h .0, record { room = walked .room; above = omega (arith, walked .above, h .0); passed = passed-between (walked .passed) (h .1) })
+      (h .0, record { above = omega (arith, walked .above, h .0); passed = passed-between (walked .passed) (h .1) })
 
   module _ (e : standing ≡ IsCandidate) {reaches : Bool}
       (weighed : (G : Groups) → Holds (t .rows) (t .places) (t .unbalanced) (getD (t .sizes) 0 0) G → Fits layout G → Candidate layout G at
@@ -127,12 +126,11 @@ module _ {t : Table} {start at : ℕ} (within : Within t) (walked : Walked t sta
     candidate = stands-candidate (subst (Stands (groupsIn t) at) e here)
 
     tells : reaches ≡ fills t at
-    tells = weighed (groupsIn t) (table-holds within (walked .room)) (table-fits t within) candidate
+    tells = weighed (groupsIn t) (table-holds within) (table-fits within) candidate
 
     pub step-weighed : reaches ≡ false → Walked t start (at + 1)
     step-weighed missed =
         record {
-          room = walked .room;
           above = omega (arith, walked .above);
           passed = passed-weighed (walked .passed) (sym tells ∙ missed);
         }

@@ -3,7 +3,7 @@ use Prim.Native.Nat.{ℕ, _+_, _<_}
 use mathlib.Core.Path.{_≡_, refl, sym, subst}
 use mathlib.Core.List.{List, [], _∷_, List·Memᴰ, List·Memᴰ·head}
 use Rattle.ac.specs.Lists.{Ascending}
-use Rattle.ac.specs.Keys.{Begin, start, after, remaining}
+use Rattle.ac.specs.Keys.{Begin, start, after}
 use Rattle.ac.specs.Pages.{LeastFrom, NoneFrom, boundOf}
 use Rattle.ac.proofs.Pages.{least-first, none-remains}
 use Rattle.numbers.specs.Numbers.{numberOf}

@@ -1,6 +1,5 @@
 -- What Page's table of numbers comes to, for groups that are the pair's: 16 first, then the sides' numbers and the list's.
 use Prim.Native.Nat.{ℕ, _<_, _≤_}
-use native.Mathlib.Omega.{arith}
 use mathlib.Core.Path.{refl, subst}
 use mathlib.Core.List.{List, [], _∷_}
 use lib.ListN.{length}

@@ -1,6 +1,5 @@
 -- What Values' table of numbers comes to, for groups that are the pair's: 16 first, then the sides' numbers, the list's and 17.
 use Prim.Native.Nat.{ℕ, _<_, _≤_}
-use native.Mathlib.Omega.{arith}
 use mathlib.Core.Path.{refl, subst}
 use mathlib.Core.List.{List, [], _∷_, List·Memᴰ}
 use lib.ListN.{length}

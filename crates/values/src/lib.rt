@@ -1,7 +1,7 @@
 // The question Values on a solved pair (document 01, "The questions"): the values that a key gives the variables.
 ghost use Prim.Native.Nat.{_+_, _≤_, _<_};
 ghost use mathlib.Core.Path.{_≡_};
-ghost use mathlib.Core.List.{_∷_, _++_};
+ghost use mathlib.Core.List.{_∷_};
 ghost use lib.ListN.{length};
 ghost use lib.Dec.{ltb};
 ghost use mathlib.Core.Bool.{false};

@@ -3,7 +3,7 @@ use Prim.Native.Nat.{ℕ, _≤_}
 use native.Mathlib.Omega.{arith}
 use mathlib.Core.Path.{_≡_, refl, sym, ap, subst, subst₂, _∙_}
 use mathlib.Core.Bool.{false}
-use mathlib.Core.List.{List, [], _∷_, map, List·Memᴰ, List·Memᴰ·head, List·Memᴰ·tail, List·Memᴰ·not-nil, nil≢cons}
+use mathlib.Core.List.{List, [], _∷_, map, List·Memᴰ, List·Memᴰ·head, List·Memᴰ·tail}
 use borrow.Author.Tests.{le-ltb}
 use lib.Dec.{ltb}
 use lib.Seq.{take-all}
@@ -18,7 +18,6 @@ use Rattle.ac.proofs.Order.{filter-member}
 use Rattle.ac.proofs.Members.{members-map}
 use Rattle.ac.proofs.Listed.{selections-are}
 use Rattle.ac.proofs.Keys.{taken-apart}
-use Rattle.ac.proofs.Pages.{remaining-members}
 use Rattle.numbers.specs.First.{NoneOf, here}
 use Rattle.numbers.proofs.Carried.{none-of}
 use Rattle.sides.specs.Limits.{limits}

@@ -5,3 +5,5 @@ pub mod Candidates
 pub mod Table
 pub mod Tuples
 pub mod Walk
+pub mod Given
+pub mod Finding

@@ -45,7 +45,6 @@ passed-none t start M L R full of other m h = h
 
 -- the walk from the one number has come to the other
 pub record Walked (t : Table) (start at : ℕ) : Type 0 where
-  pub room : length (t .constants) ≡ 4
   pub above : start ≤ at
   pub passed : Passed t start at
 
@@ -54,7 +53,7 @@ module _ {t : Table} {M : Mode} {L R : List ℕ} (full : M .empties ≡ false) (
   listed-reached : {key : ℕ} → List·Memᴰ key (keys M layout L R (groupsIn t))
       → Candidate layout (groupsIn t) key × (fills (groupsIn t) (t .places) key ≡ true)
   listed-reached {key} m =
-      let h = listed-candidates (table-fits t (of .within)) M L R .0 m in (
+      let h = listed-candidates (table-fits (of .within)) M L R .0 m in (
         h .0,
         ap (allReached (taken (layout .new) (groupsIn t) (selectionAt layout (groupsIn t) key))) (of .the-places)
             ∙ sym (admissible-reached M (layout .new) L R (groupsIn t) (selectionAt layout (groupsIn t) key) full) ∙ h .1,
@@ -63,7 +62,7 @@ module _ {t : Table} {M : Mode} {L R : List ℕ} (full : M .empties ≡ false) (
   reached-listed : {key : ℕ} → Candidate layout (groupsIn t) key
       → fills (groupsIn t) (t .places) key ≡ true → List·Memᴰ key (keys M layout L R (groupsIn t))
   reached-listed {key} candidate e =
-      listed-candidates (table-fits t (of .within)) M L R .1 (
+      listed-candidates (table-fits (of .within)) M L R .1 (
         candidate,
         admissible-reached M (layout .new) L R (groupsIn t) (selectionAt layout (groupsIn t) key) full
             ∙ sym (ap (allReached (taken (layout .new) (groupsIn t) (selectionAt layout (groupsIn t) key))) (of .the-places)) ∙ e,
@@ -93,7 +92,7 @@ module _ {t : Table} {start at : ℕ} (passed : Passed t start at) where
     where
       go : Dec (other < start) → other < start
       go (yes before) = before
-      go (no above) = absurd (omega (arith, passed M L R full of other m (omega arith), keys-below (table-fits t (of .within)) M L R m))
+      go (no above) = absurd (omega (arith, passed M L R full of other m (omega arith), keys-below (table-fits (of .within)) M L R m))
 
 between-none : {G : Groups} {key later : ℕ} → Stands G key (NoneBefore later)
     → (key < later) × ((other : ℕ) → key ≤ other → other < later → Candidate layout G other → ⊥)
@@ -133,14 +132,13 @@ found-within {passes} {from} {end} {key} told e = of-key (subst (LeastWithin pas
 module _ {t : Table} {start at : ℕ} (within : Within t) (walked : Walked t start at) {standing : Standing}
     (told : (G : Groups) → Sized (t .sizes) (t .unbalanced) G → Fits layout G → Stands G at standing) where
   here : Stands (groupsIn t) at standing
-  here = told (groupsIn t) (table-sized within (walked .room)) (table-fits t within)
+  here = told (groupsIn t) (table-sized within) (table-fits within)
 
   pub step-between : {later : ℕ} → standing ≡ NoneBefore later → (at < later) × Walked t start later
   step-between {later} e =
       let h = between-none (subst (Stands (groupsIn t) at) e here) in (
         h .0,
         record {
-          room = walked .room;
           above = omega (arith, walked .above, h .0);
           passed = passed-over (walked .passed) (λ other low high candidate. absurd (h .1 other low high candidate));
         },
@@ -154,19 +152,18 @@ module _ {t : Table} {start at : ℕ} (within : Within t) (walked : Walked t sta
     candidate = stands-candidate (subst (Stands (groupsIn t) at) e here)
 
     has-tuple : HasTuple (groupsIn t) tuple
-    has-tuple = subst (HasTuple (groupsIn t)) (sym its-tuple) (same-tuple (table-fits t within) candidate)
+    has-tuple = subst (HasTuple (groupsIn t)) (sym its-tuple) (same-tuple (table-fits within) candidate)
 
     least : LeastWithin (fills (groupsIn t) (t .places)) at (tuple * 65536 + 2 ^ getD (t .sizes) 0 0) next
     least =
         let begins : tuple * 65536 + from ≡ at = omega arith in
         subst (λ (n : ℕ). LeastWithin (fills (groupsIn t) (t .places)) n (tuple * 65536 + 2 ^ getD (t .sizes) 0 0) next) begins
-        (tried (groupsIn t) (table-holds within (walked .room)) (table-fits t within) has-tuple)
+        (tried (groupsIn t) (table-holds within) (table-fits within) has-tuple)
 
     -- Its masks all miss a place: the walk goes on with the next tuple, since a larger mask has a bit beyond the balanced rows.
     pub step-over : next ≡ None → Walked t start (blockEnd at 16)
     step-over none =
         record {
-          room = walked .room;
           above = omega (arith, walked .above, below-block-end at 16);
           passed = passed-over (walked .passed) missed;
         }
@@ -176,7 +173,7 @@ module _ {t : Table} {start at : ℕ} (within : Within t) (walked : Walked t sta
 
         missed : (other : ℕ) → at ≤ other → other < blockEnd at 16 → Candidate layout (groupsIn t) other → fills (groupsIn t) (t .places) other ≡ false
         missed other low high other-candidate =
-            let sized = table-sized within (walked .room) .a-size-each 0 (omega arith) in
+            let sized = table-sized within .a-size-each 0 (omega arith) in
             all-missed other low
             (omega (
               arith,
@@ -200,7 +197,7 @@ module _ {t : Table} {start at : ℕ} (within : Within t) (walked : Walked t sta
         its-place h = omega (arith, h .0)
 
         few : Found → key - tuple * 65536 < 2 ^ length (groupsIn t .balanced)
-        few h = omega (arith, h .1, ap (λ (n : ℕ). 2 ^ n) (table-sized within (walked .room) .a-size-each 0 (omega arith)), pow-pos (getD (t .sizes) 0 0))
+        few h = omega (arith, h .1, ap (λ (n : ℕ). 2 ^ n) (table-sized within .a-size-each 0 (omega arith)), pow-pos (getD (t .sizes) 0 0))
 
 pub step-end : {t : Table} {start at : ℕ} → Walked t start at → 2 ^ 32 ≤ at → OfItsList t (λ keys. NextFrom keys start None)
 step-end walked end M L R full of = nothing (passed-all (walked .passed) end M L R full of)

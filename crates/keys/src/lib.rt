@@ -1,5 +1,4 @@
-// Keys of a solved pair: packed and taken apart by shifts and masks, weighed, and the least listed one from a number on (document 01, "From
-// sides to equations").
+// Keys of a solved pair: packed and taken apart by shifts and masks, weighed, and found on the list (document 01, "From sides to equations").
 ghost use mathlib.Core.Path.{_≡_};
 ghost use Prim.Native.Nat.{_+_, _*_, _/_, _^_, _<_, _≤_};
 ghost use lib.ListN.{getD};
@@ -7,8 +6,9 @@ ghost use Rattle.ac.specs.Rows.{Groups};
 ghost use Rattle.ac.specs.Keys.{layout, bit, fieldAt, Candidate, Fits};
 ghost use Rattle.table.specs.Table.{Within};
 ghost use Rattle.keys.specs.Candidates.{Sized, Stands, fieldLimit, fills, HasTuple, LeastWithin};
-ghost use Rattle.keys.specs.List.{NextFrom, OfItsList};
+ghost use Rattle.keys.specs.List.{OfItsList, NextFrom, FoundOf};
 ghost use Rattle.keys.specs.Reach.{any, constantReaches, balancedReaches, reaches, Holds};
+use numbers::Refusal;
 use table::CONSTANTS;
 use table::GROUP;
 use table::Table;
@@ -212,4 +212,34 @@ pub fn least_listed(table: Table, from: u64) -> Next
         }
     }
     Next::None
+}
+
+// Whether a key is on the list, or why not.
+pub enum Found {
+    Listed,
+    Refused(Refusal),
+}
+
+// A key is listed if the least listed key from it on is itself. Else it is 14, or 13 where nothing is listed.
+pub fn find_key(table: Table, key: u32) -> Found
+    requires { ⌜ Within table ⌝ }
+    ensures { λ r. ⌜ OfItsList table (λ listed. FoundOf listed key r) ⌝ }
+{
+    let least = least_listed(table, key as u64);
+    match least {
+        Next::Key(found) => {
+            if found == key {
+                Found::Listed
+            } else {
+                Found::Refused(Refusal::NotListed)
+            }
+        }
+        Next::None => {
+            let first = least_listed(table, 0);
+            match first {
+                Next::Key(_) => Found::Refused(Refusal::NotListed),
+                Next::None => Found::Refused(Refusal::NoUnifier),
+            }
+        }
+    }
 }

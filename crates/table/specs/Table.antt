@@ -1,5 +1,5 @@
 -- What a table says: the groups of rows that it holds, and that it is the table of a pair.
-use Prim.Native.Nat.{ℕ, zero, suc, _+_, _*_, _≤_}
+use Prim.Native.Nat.{ℕ, suc, _+_, _*_, _≤_}
 use mathlib.Core.Path.{_≡_}
 use mathlib.Core.List.{List, [], _∷_, map}
 use lib.ListN.{length, getD, take, drop}
@@ -29,6 +29,7 @@ groupsIn t = record { balanced = groupAt t 0; constants = groupsFrom t 1 (take (
 pub record Within (t : Table) : Type 0 where
   pub places-fit : t .places ≤ 6
   pub constants-fit : t .unbalanced ≤ 4
+  pub constants-held : t .unbalanced ≤ length (t .constants)
   pub sizes-fit : (g : ℕ) → getD (t .sizes) g 0 ≤ 16
 
 -- the table is that of the pair: its variables and exactly its rows

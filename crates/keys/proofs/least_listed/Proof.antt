@@ -1,12 +1,11 @@
 -- `keys::least_listed` meets its contract. The invariant: no listed key stands from `from` to before the number that the walk has come to.
--- The measure is what is left of the keys. That there is room for 4 constants is what an array of 4 tells of its length.
+-- The measure is what is left of the keys.
 use Prim.Native.Nat.{_-_, _^_}
 use native.Mathlib.Omega.{arith}
 use native.Mathlib.Nat.{le-refl}
-use mathlib.Core.Path.{refl, sym, subst, _∙_}
+use mathlib.Core.Path.{refl, sym, subst}
 use borrow.Author.Needs.{needs}
 use lib.Bits.{and-mask, mask-lt}
-use lib.ListN.{length-map}
 use Rattle.keys.proofs.Candidates.{below-block-end}
 use Rattle.keys.proofs.Walk.{Walked, passed-none, step-between, step-over, step-found, step-end}
 use Rattle.keys.proofs.least_listed.Statement.{statement}
@@ -22,12 +21,7 @@ element-copy-out-balanced : tie.Need-element-copy-out-balanced Inv-loop μ-loop
 element-copy-out-balanced c = search needs
 
 loop-holds : tie.Need-loop-holds Inv-loop μ-loop
-loop-holds c =
-    record {
-      room = sym (length-map (c .before .args .t1 .constants) (λ v. v)) ∙ c .before .good .0 .1 .1 .1 .1 .0 .1 .0 .1;
-      above = le-refl _;
-      passed = passed-none _ _;
-    }
+loop-holds c = record { above = le-refl _; passed = passed-none _ _ }
 
 cast-key : tie.Need-cast-key Inv-loop μ-loop
 cast-key c = omega arith

@@ -6,8 +6,9 @@ use block::ReadAnswer;
 use libc::STDIN_FILENO;
 use libc::STDOUT_FILENO;
 use numbers::Refusal;
-use printing::put;
 use question::Question;
+use runs::least;
+use runs::put;
 use solve::RowsAnswer;
 use solver::Begin;
 use solver::PageAnswer;
@@ -75,12 +76,6 @@ fn answer_bytes(
     io::read_full(STDIN_FILENO, first);
     io::read_full(STDIN_FILENO, second);
     answer(asked, first, second, answers, at)
-}
-
-fn least(a: usize, b: usize) -> usize
-    ensures { λ r. ⌜ (r ≤ a) × (r ≤ b) ⌝ }
-{
-    if a < b { a } else { b }
 }
 
 // Lends the buffers that the question says, asks it, and puts what it returned and what the buffers then hold.

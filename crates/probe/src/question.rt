@@ -1,4 +1,5 @@
 // A question's header, 20 bytes, taken apart.
+use runs::two_bytes;
 
 // What is asked: which question, the byte that fills the lent buffers, the lengths of what follows, the number that the
 // question takes, whether a page begins after it, how many keys are wanted, and the lengths of the lent buffers.
@@ -19,18 +20,14 @@ pub fn of(header: [u8; 20]) -> Question {
     Question {
         kind: header[0],
         fill: header[1],
-        first_length: two(header[2], header[3]),
-        second_length: two(header[4], header[5]),
+        first_length: two_bytes(header[2], header[3]),
+        second_length: two_bytes(header[4], header[5]),
         number: four(header[6], header[7], header[8], header[9]),
         after: header[10] == 1,
         wanted: four(header[11], header[12], header[13], header[14]) as usize,
-        first_room: two(header[16], header[17]),
-        second_room: two(header[18], header[19]),
+        first_room: two_bytes(header[16], header[17]),
+        second_room: two_bytes(header[18], header[19]),
     }
-}
-
-fn two(high: u8, low: u8) -> usize {
-    high as usize * 256 + low as usize
 }
 
 fn four(a: u8, b: u8, c: u8, d: u8) -> u32 {

@@ -1,16 +1,16 @@
--- `rows_runs::find` meets its contract: the place is within the text. Assumes nothing.
+-- `runs::is_kept` is safe and ends. The loop's invariant: the end is the buffer's. Assumes nothing.
 use Prim.Native.Nat.{_-_}
 use mathlib.Core.Path.{_≡_}
 use lib.ListN.{length}
 use borrow.Author.Needs.{needs}
-use Rattle.rows_runs.proofs.find.Statement.{statement}
-use Rattle.rows_runs.proofs.find.Tie as tie
+use Rattle.runs.proofs.is_kept.Statement.{statement}
+use Rattle.runs.proofs.is_kept.Tie as tie
 
 abbrev Inv-loop : tie.InvT-loop
-Inv-loop text byte i₀ i-end i = i-end ≡ length text
+Inv-loop buffer from i₀ i-end i = i-end ≡ length buffer
 
 abbrev μ-loop : tie.MeasureT-loop
-μ-loop text byte i₀ i-end i = i-end - i
+μ-loop buffer from i₀ i-end i = i-end - i
 
 loop-holds : tie.Need-loop-holds Inv-loop μ-loop
 loop-holds c = search needs
@@ -33,8 +33,8 @@ loop-again c = search needs
 returns-2 : tie.Need-returns-2 Inv-loop μ-loop
 returns-2 c = search needs
 
-pub find-spec : {M : Type 1} → statement M
-find-spec =
+pub is-kept-spec : {M : Type 1} → statement M
+is-kept-spec =
     tie.close
     (tie.spec
     Inv-loop

@@ -1,10 +1,10 @@
--- `printing::put` meets its contract. The loop's invariant: the text ends within the buffer, which keeps its length. Assumes nothing.
+-- `runs::put` meets its contract. The loop's invariant: the text ends within the buffer, which keeps its length. Assumes nothing.
 use Prim.Native.Nat.{_≤_, _-_}
 use mathlib.Core.Path.{_≡_}
 use native.Mathlib.Omega.{arith}
 use lib.ListN.{length, length-set}
-use Rattle.printing.proofs.put.Statement.{statement}
-use Rattle.printing.proofs.put.Tie as tie
+use Rattle.runs.proofs.put.Statement.{statement}
+use Rattle.runs.proofs.put.Tie as tie
 
 abbrev Inv-loop : tie.InvT-loop
 Inv-loop out₀ at bytes end₀ i₀ i-end out end i = (length out ≡ length out₀) × (end ≤ length out) × (i ≤ i-end) × (i-end ≡ length bytes)

@@ -15,21 +15,22 @@ pub struct Question {
     pub second_room: usize,
 }
 
-// The header's numbers have the high byte first.
+// The question that a header's bytes say. Byte 15 has no meaning.
 pub fn of(header: [u8; 20]) -> Question {
     Question {
         kind: header[0],
         fill: header[1],
         first_length: two_bytes(header[2], header[3]),
         second_length: two_bytes(header[4], header[5]),
-        number: four(header[6], header[7], header[8], header[9]),
+        number: four_bytes(header[6], header[7], header[8], header[9]),
         after: header[10] == 1,
-        wanted: four(header[11], header[12], header[13], header[14]) as usize,
+        wanted: four_bytes(header[11], header[12], header[13], header[14]) as usize,
         first_room: two_bytes(header[16], header[17]),
         second_room: two_bytes(header[18], header[19]),
     }
 }
 
-fn four(a: u8, b: u8, c: u8, d: u8) -> u32 {
+// A number of four bytes has the high byte first.
+fn four_bytes(a: u8, b: u8, c: u8, d: u8) -> u32 {
     ((a as u32 * 256 + b as u32) * 256 + c as u32) * 256 + d as u32
 }

@@ -15,8 +15,7 @@ use Rattle.sides.proofs.Laws.{sides-number}
 use Rattle.table.specs.Table.{groupsIn, TableOf}
 use Rattle.table.specs.declared.Table.{Table}
 use Rattle.table.proofs.Groups.{length-groupAt}
-use Rattle.solve.specs.Solved.{pairNumbers}
-use Rattle.solve.specs.Given.{rowsBuffer, RowsGiven, of-the-sides, short-buffer}
+use Rattle.solve.specs.Given.{rowsBuffer, RowsGiven, of-the-sides, short-buffer, pairNumbers}
 use Rattle.solve.specs.Rows.{refused, groups, size, sizesOf, allRows, bytesOf, RowsPromise, is-refused, is-answered}
 use Rattle.solve.proofs.Putting.{how-many-constants}
 

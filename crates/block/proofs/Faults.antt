@@ -1,5 +1,5 @@
--- Number 5 in document 01's words: bytes are no term exactly if the term ends early, has bytes left over or holds a byte that is
--- neither 128 nor an atom that may be written.
+-- Number 5 in document 01's words: bytes are no term exactly if the term ends early, has bytes left over or
+-- holds a byte that is neither 128 nor an atom that may be written.
 use Prim.Native.Nat.{ℕ, zero, suc, _<_}
 use mathlib.Core.Path.{_≡_, refl, ap, sym, _∙_}
 use mathlib.Core.List.{List, [], _∷_, _++_, List·Memᴰ, List·Memᴰ·head, List·Memᴰ·tail, List·Memᴰ·append-cases, append-assoc, append-nil}

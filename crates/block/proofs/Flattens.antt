@@ -1,8 +1,11 @@
 -- What flattening finds at the start of some bytes, and what the buffer holds after it.
 use Prim.Native.Nat.{ℕ, _+_, _*_, _-_, _<_, _≤_}
 use mathlib.Core.Path.{_≡_, refl, ap, sym, subst, _∙_}
+use mathlib.Core.Logic.{inl, inr}
 use mathlib.Core.List.{List, [], _∷_, _++_, append-assoc, append-nil}
 use native.Mathlib.Omega.{arith}
+use types.Run.{OneOf}
+use denote.Enum.Declared.{tagOf}
 use borrow.Rule.Slice.PartAt.{part-to-end}
 use borrow.Rule.Slice.PartMut.{putMid, post-is}
 use lib.ListN.{length, getD, take, drop, set, length-append, length-drop}
@@ -12,20 +15,26 @@ use Rattle.ac.specs.Term.{Term, atom, plus, flatten}
 use Rattle.block.specs.Front.{encode, MayBeWritten, Writes}
 use Rattle.block.specs.Table.{NoTerm}
 use Rattle.block.specs.Inner.{Classified, variable, constant, refused, Begins, Flattens, found, nothing, TakesApart, atoms}
-use Rattle.block.specs.declared.term.Kind.the-variants.{Variable, Constant, Plus, Refused}
+use Rattle.block.specs.declared.term.Kind.{Kind}
+use Rattle.block.specs.declared.term.Kind.the-variants.{Plus, Refused}
 use Rattle.block.specs.declared.term.Flattened.{Flattened}
 use Rattle.block.specs.declared.term.Flattened.the-variants.{Found, Nothing}
 use Rattle.block.specs.declared.term.Side.the-variants.{Atoms}
+use Rattle.block.proofs.term.Kind.{the-type}
 use Rattle.block.proofs.Apart.{apart}
 use Rattle.block.proofs.Terms.{one-reading, bytes-of-atoms}
 use Rattle.block.proofs.Begins.{plus-begins, second-missing, writes-begins}
 
--- which bytes are atoms, which is a plus and which is none
-pub variable-may-be-written : {b : ℕ} → Classified b Variable → MayBeWritten b
-variable-may-be-written (variable h) = omega arith
+-- which bytes are atoms, of the first two kinds, which is a plus and which is none
+later-kind : {tag : ℕ} → 1 < tag → OneOf (0 ∷ 1 ∷ []) tag → ⊥
+later-kind above (inl e) = omega arith
+later-kind above (inr e) = omega arith
 
-pub constant-may-be-written : {b : ℕ} → Classified b Constant → MayBeWritten b
-constant-may-be-written (constant l h) = h
+pub atom-may-be-written : {b : ℕ} {kind : Kind} → Classified b kind → OneOf (0 ∷ 1 ∷ []) (tagOf the-type kind) → MayBeWritten b
+atom-may-be-written (variable h) first-two = omega arith
+atom-may-be-written (constant l h) first-two = h
+atom-may-be-written (Classified.plus e) first-two = absurd (later-kind (omega arith) first-two)
+atom-may-be-written (refused h) first-two = absurd (later-kind (omega arith) first-two)
 
 pub plus-is-128 : {b : ℕ} → Classified b Plus → b ≡ 128
 plus-is-128 (Classified.plus e) = e
@@ -166,3 +175,14 @@ module _ {bytes buffer after : List ℕ} {used filled : ℕ} (f : FoundTerm byte
       pub found-both :
           Flattens (128 ∷ bytes) buffer (Found (1 + used + used′) (filled + filled′)) (putMid filled (length after - filled) after end)
       found-both = rw (← bytes-add-up, ← atoms-add-up, ← buffer-holds-both) (found both)
+
+-- the two terms take no more bytes than there are, and have no more atoms than bytes and one
+pub both-sizes :
+    {bytes buffer middle after end : List ℕ} {used filled used′ filled′ : ℕ} →
+    FoundTerm bytes buffer used filled after →
+    FoundTerm (take (length bytes - used) (drop used bytes)) middle used′ filled′ end →
+    (used + used′ ≤ length bytes) × (filled + filled′ ≤ length bytes + 1)
+both-sizes {bytes = bytes} {used = used} first second =
+    let rest : length (take (length bytes - used) (drop used bytes)) ≡ length bytes - used =
+    ap length (part-to-end bytes used) ∙ length-drop used bytes in
+    omega (arith, found-sizes first, found-sizes second, rest)

@@ -9,16 +9,15 @@ use native.Mathlib.Omega.{arith}
 use borrow.Author.Tests.{eqb-true, eqb-false}
 use lib.Dec.{eqb}
 use lib.ListN.{length}
-use Rattle.ac.specs.Lists.{receives}
 use Rattle.ac.specs.Term.{Term}
 use Rattle.numbers.specs.Numbers.{numberOf}
 use Rattle.numbers.specs.declared.Refusal.{Refusal}
 use Rattle.numbers.specs.First.{First, NoneOf, here, later, end, also}
 use Rattle.numbers.specs.declared.Refusal.the-variants as refusal
-use Rattle.block.specs.Front.{Writes, leftSide, rightSide}
+use Rattle.block.specs.Front.{Writes}
 use Rattle.block.specs.Block.{blockNumber, leftLength, rightLength, leftTerm, rightTerm, filler, check, checkOfBytes}
 use Rattle.block.specs.Table.{ReadGiven, block-length, check-differs, block-number, term-length, no-term, filler-byte, short-buffer, NoLength, NoTerm}
-use Rattle.block.specs.Read.{refused, lengths, ReadPromise, is-refused, is-read}
+use Rattle.block.specs.Read.{refused, ReadPromise, is-refused}
 use Rattle.block.specs.Inner.{IsLength, TermLengths, within, outside, allZero, blockNumbers, Refuses, GoodHeader}
 use Rattle.block.proofs.Apart.{apart}
 
@@ -137,26 +136,15 @@ shorter-is-short m n h = go (decLt m 64)
     go (yes l) = inl l
     go (no l) = inr (omega arith)
 
--- what is promised with number 16, and where both buffers are long enough
+-- what is promised with number 16, and with the block's own where both buffers are long enough
 module _ {block : List ℕ} {number : ℕ} {left right : List ℕ} where
   pub short-buffer-first : min (length left) (length right) < 64 → ReadPromise block number left right (refused 16) left right
   short-buffer-first h = is-refused (here (short-buffer (shorter-is-short (length left) (length right) h)))
 
   module _ (left-fits : 64 ≤ length left) (right-fits : 64 ≤ length right) where
-    not-16 : ReadGiven block number left right 16 → ⊥
+    pub not-16 : ReadGiven block number left right 16 → ⊥
     not-16 (short-buffer (inl h)) = omega arith
     not-16 (short-buffer (inr h)) = omega arith
 
     pub promised-refusal : {why : Refusal} → Refuses block number why → ReadPromise block number left right (refused (numberOf why)) left right
     promised-refusal r = is-refused (later not-16 (r .first left right))
-
-    pub promised-sides :
-        {s t : Term} →
-        NoneOf (ReadGiven block number left right) blockNumbers →
-        Writes (leftTerm block) s →
-        Writes (rightTerm block) t →
-        ReadPromise block number left right
-        (lengths (length (leftSide s)) (length (rightSide t)))
-        (receives left (leftSide s))
-        (receives right (rightSide t))
-    promised-sides none v w = is-read (also not-16 none) v w

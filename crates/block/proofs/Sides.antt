@@ -11,18 +11,19 @@ use lib.ListN.{length, take, drop, length-append, length-take}
 use lib.Seq.{slice, take-nil, take-at, take-length}
 use Rattle.ac.specs.Lists.{receives}
 use Rattle.ac.specs.Term.{Term, flatten}
+use Rattle.numbers.specs.First.{also}
 use Rattle.numbers.specs.declared.Refusal.{Refusal}
 use Rattle.numbers.specs.declared.Refusal.the-variants as refusal
 use Rattle.block.specs.Front.{Writes, rightSide}
 use Rattle.block.specs.Block.{leftLength, rightLength, leftTerm, rightTerm, filler}
 use Rattle.block.specs.Table.{NoTerm}
-use Rattle.block.specs.Read.{lengths, ReadPromise}
+use Rattle.block.specs.Read.{lengths, ReadPromise, is-read}
 use Rattle.block.specs.Inner.{TakesApart, atoms, no-term, allZero, Refuses, GoodHeader, SettlesHeader, is-refused, is-good}
 use Rattle.block.specs.declared.header.Header.{Header}
 use Rattle.block.specs.declared.header.Header.the-variants.{Lengths}
 use Rattle.block.specs.declared.term.Side.{Side}
 use Rattle.block.specs.declared.term.Side.the-variants as side
-use Rattle.block.proofs.Settled.{term-first, filler-first, none-given, promised-sides}
+use Rattle.block.proofs.Settled.{term-first, filler-first, none-given, not-16}
 use Rattle.block.proofs.Terms.{atoms-of-term}
 use Rattle.block.proofs.Apart.{apart}
 
@@ -158,7 +159,8 @@ module _ {block : List ℕ} {number l r : ℕ} (h : HeaderLengths block number l
           ReadPromise block number left right (lengths m n) left-exit right-exit
       sides-read {z} {left} {right} left-fits right-fits e t left-is right-is =
           rw (f .count-is, g .count-is, left-is, right-is, ← right-side-is (g .term))
-          (promised-sides left-fits right-fits
-          (none-given (h .good) left-writes right-writes (rw filler-part-is at (sym e ∙ not-false z t)) left right)
+          (is-read
+          (also (not-16 left-fits right-fits)
+          (none-given (h .good) left-writes right-writes (rw filler-part-is at (sym e ∙ not-false z t)) left right))
           left-writes
           right-writes)

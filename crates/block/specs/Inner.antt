@@ -36,7 +36,8 @@ pub record Begins (bytes : List ℕ) (t : Term) : Type 0 where
   pub splits : bytes ≡ encode t ++ rest
   pub writable : Writable t
 
--- The term that the bytes begin with, by how many bytes it takes and how many atoms it has, which stand at the start of the buffer.
+-- The term that the bytes begin with, by how many bytes it takes and how many atoms it has, which stand at
+-- the start of the buffer.
 pub data Flattens (bytes buffer : List ℕ) : Flattened → List ℕ → Type 0 where
   found : {t : Term} → Begins bytes t → Flattens bytes buffer (Found (length (encode t)) (length (flatten t))) (receives buffer (flatten t))
   nothing : {after : List ℕ} → ((t : Term) → Begins bytes t → ⊥) → Flattens bytes buffer Nothing after

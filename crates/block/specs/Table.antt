@@ -12,7 +12,8 @@ use Rattle.block.specs.Block.{blockNumber, leftLength, rightLength, left
 abbrev pub NoLength : ℕ → Type 0
 NoLength n = (n ≡ 0) ⊎ (127 < n)
 
--- bytes that are no term, since it ends early, has bytes left over or holds a byte above 128 (`proofs/Faults.antt`: exactly then)
+-- bytes that are no term, since it ends early, has bytes left over or holds a byte above 128
+-- (`proofs/Faults.antt`: exactly then)
 abbrev pub NoTerm : List ℕ → Type 0
 NoTerm bytes = (t : Term) → Writes bytes t → ⊥
 

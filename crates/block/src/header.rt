@@ -1,4 +1,4 @@
-// What stands before a block's terms, and the check: numbers 2 to 4.
+// What stands before a block's terms, and the check (document 01, "A library block"): numbers 2 to 4.
 use numbers::Refusal;
 ghost use mathlib.Core.Path.{_≡_};
 ghost use Prim.Native.Nat.{_%_, _-_};

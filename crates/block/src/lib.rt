@@ -1,4 +1,4 @@
-// Library blocks: the question Read (document 01).
+// Library blocks: the question Read (document 01, "A library block" and "The questions").
 mod header;
 mod term;
 
@@ -17,9 +17,10 @@ pub enum ReadAnswer {
     Refused(Refusal),
 }
 
-// Reads a block that is to have this number, and puts its flattened sides into the two buffers.
+// The question Read: reads a block that is to have this number, and puts its flattened sides into the two buffers.
 pub fn read(block: &[u8], number: u16, left: &mut [u8], right: &mut [u8]) -> ReadAnswer
-    ensures { λ r. ⌜ ReadPromise (now (block .entry)) number (now (left .entry)) (now (right .entry)) (told r) (now (left .exit)) (now (right .exit)) ⌝ }
+    ensures { λ r. ⌜ ReadPromise (now (block .entry)) number (now (left .entry)) (now (right .entry))
+        (told r) (now (left .exit)) (now (right .exit)) ⌝ }
 {
     let room = lesser(left.len(), right.len());
     if room < 64 {
@@ -40,14 +41,15 @@ pub fn read(block: &[u8], number: u16, left: &mut [u8], right: &mut [u8]) -> Rea
     )
 }
 
+// The lesser of two lengths.
 fn lesser(a: usize, b: usize) -> usize
     ensures { λ r. ⌜ r ≡ min a b ⌝ }
 {
     if a < b { a } else { b }
 }
 
-// Reads a block of the right length. The terms are flattened into the two arrays, and the buffers are written once nothing can
-// be refused any more.
+// Reads a block of the right length. The terms are flattened into the two arrays, and the buffers are written
+// once nothing can be refused any more.
 fn read_block(
     block: &[u8],
     number: u16,
@@ -59,7 +61,8 @@ fn read_block(
     requires { ⌜ length (now block) ≡ 512 ⌝ }
     requires { ⌜ (64 ≤ length (now «left_atoms»)) × (64 ≤ length (now «right_atoms»)) ⌝ }
     requires { ⌜ (64 ≤ length (now left)) × (64 ≤ length (now right)) ⌝ }
-    ensures { λ r. ⌜ ReadPromise (now (block .entry)) number (now (left .entry)) (now (right .entry)) (told r) (now (left .exit)) (now (right .exit)) ⌝ }
+    ensures { λ r. ⌜ ReadPromise (now (block .entry)) number (now (left .entry)) (now (right .entry))
+        (told r) (now (left .exit)) (now (right .exit)) ⌝ }
 {
     let header = header::read_header(block, number);
     match header {

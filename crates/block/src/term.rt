@@ -1,4 +1,4 @@
-// Terms in front notation: a byte's kind, and flattening by recursion.
+// Terms in front notation (document 01, "A library block"): a byte's kind, and flattening by recursion.
 ghost use Prim.Native.Nat.{ℕ, _+_, _*_, _<_};
 ghost use mathlib.Core.List.{List, _∷_};
 ghost use lib.ListN.{length};
@@ -13,6 +13,7 @@ pub enum Kind {
     Refused,
 }
 
+// Decides by the byte's range: variable, constant, plus, or no term.
 pub fn classify(byte: u8) -> Kind
     ensures { λ r. ⌜ Classified byte r ⌝ }
 {
@@ -24,14 +25,15 @@ pub fn classify(byte: u8) -> Kind
     }
 }
 
-// What flattening finds: the term that some bytes begin with, by how many bytes it takes and how many atoms it has, or nothing.
+// What flattening finds: the term that some bytes begin with, by how many bytes it takes and how many atoms
+// it has, or nothing.
 pub enum Flattened {
     Found { bytes: usize, atoms: usize },
     Nothing,
 }
 
-// Takes the term apart that the bytes begin with and puts its atoms at the start of the buffer, in the order in which they are
-// read. Where the bytes begin with no term, the buffer may hold atoms of a part of one.
+// Takes the term apart that the bytes begin with and puts its atoms at the start of the buffer, in the order
+// in which they are read. Where the bytes begin with no term, the buffer may hold atoms of a part of one.
 pub fn flatten(bytes: &[u8], buffer: &mut [u8]) -> Flattened
     requires { ⌜ length (now bytes) < 2 * length (now buffer) ⌝ }
     ensures { λ r. ⌜ Flattens (now (bytes .entry)) (now (buffer .entry)) r (now (buffer .exit)) ⌝ }
@@ -42,8 +44,7 @@ pub fn flatten(bytes: &[u8], buffer: &mut [u8]) -> Flattened
     let byte = bytes[0];
     let kind = classify(byte);
     match kind {
-        Kind::Variable => flatten_atom(byte, buffer),
-        Kind::Constant => flatten_atom(byte, buffer),
+        Kind::Variable | Kind::Constant => flatten_atom(byte, buffer),
         Kind::Plus => flatten_two(&bytes[1..], buffer),
         Kind::Refused => Flattened::Nothing,
     }

@@ -8,7 +8,7 @@ use lib.Seq.{sets, sets-eq, length-sets, take-suc}
 use Rattle.buffer.specs.Put.{Put}
 
 -- what is put behind what was put is put as one
-pub sets-append : (l : List ℕ) (i : ℕ) (vs ws : List ℕ) → sets (sets l i vs) (i + length vs) ws ≡ sets l i (vs ++ ws)
+sets-append : (l : List ℕ) (i : ℕ) (vs ws : List ℕ) → sets (sets l i vs) (i + length vs) ws ≡ sets l i (vs ++ ws)
 sets-append l i [] ws = ap (λ (k : ℕ). sets l k ws) (omega arith)
 sets-append l i (v ∷ vs) ws =
     let e : i + suc (length vs) ≡ suc i + length vs = omega arith in

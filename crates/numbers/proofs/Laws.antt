@@ -1,4 +1,5 @@
--- Laws of document 01's table: a number names one refusal, and a question's list gives at most one number, one of its own.
+-- Laws of document 01's table: a number names one refusal, and a question's list gives at most one number,
+-- one of its own.
 use mathlib.Core.Path.{_≡_, refl, ap, sym, _∙_}
 use mathlib.Core.List.{List, [], _∷_, List·Memᴰ, List·Memᴰ·head, List·Memᴰ·tail}
 use Prim.Native.Nat.{ℕ}

@@ -3,7 +3,7 @@ use mathlib.Core.Path.{_≡_, refl, sym, ap, _∙_}
 use mathlib.Core.Bool.{Bool, true, false}
 use mathlib.Core.Logic.{inr}
 use mathlib.Core.List.{List, [], _∷_, _++_}
-use Prim.Native.Nat.{ℕ, zero, suc, _+_, _≤_, _<_}
+use Prim.Native.Nat.{ℕ, suc, _+_, _≤_, _<_}
 use native.Mathlib.Decide.{ℕ-discrete, decLt}
 use native.Mathlib.Omega.{arith}
 use native.Mathlib.Numerals.{add-one}
@@ -36,7 +36,7 @@ same-le a b = go (eqb a b) refl
     go false e = rw e (omega arith)
 
 -- an atom occurs at most as often as the side is long
-pub count-le-length : (a : ℕ) (s : List ℕ) → count a s ≤ length s
+count-le-length : (a : ℕ) (s : List ℕ) → count a s ≤ length s
 count-le-length a [] = omega arith
 count-le-length a (b ∷ s) = omega (arith, same-le a b, count-le-length a s)
 
@@ -46,14 +46,17 @@ pub counts-more : (side table : List ℕ) (i : ℕ) → i < length side → getD
 counts-more side table i within place counts =
     record {
       places = simp length-set (counts .places);
-      entries = λ a. go a (ℕ-discrete a x) ∙ sym (ap (count a) (ap (λ (n : ℕ). take n side) (add-one i) ∙ take-suc side i 0 within) ∙ count-snoc a (take i side) x);
+      entries = λ a. go a (ℕ-discrete a x) ∙ sym (ap (count a) one-more ∙ count-snoc a (take i side) x);
     }
   where
     x : ℕ
     x = getD side i 0
 
+    one-more : take (i + 1) side ≡ take i side ++ x ∷ []
+    one-more = ap (λ (n : ℕ). take n side) (add-one i) ∙ take-suc side i 0 within
+
     go : (a : ℕ) → Dec (a ≡ x) → getD (set table x (getD table x 0 + 1)) a 0 ≡ count a (take i side) + same a x
-    go a (yes e) = rw e (getD-set-same table x (getD table x 0 + 1) 0 place ∙ ap (λ (n : ℕ). n + 1) (counts .entries x) ∙ sym (ap (λ (n : ℕ). count x (take i side) + n) (same-self x)))
+    go a (yes e) = rw e (getD-set-same table x (getD table x 0 + 1) 0 place ∙ omega (arith, counts .entries x, same-self x))
     go a (no differ) = getD-set-other table x a (getD table x 0 + 1) 0 differ ∙ omega (arith, counts .entries a, same-other a x differ)
 
 pub counts-none : Occurrences [] (replicate 128 0)

@@ -1,7 +1,6 @@
 -- Laws of a pair that was taken apart, for the crates above: what its places hold, and the limits that it keeps.
 use mathlib.Core.Path.{_≡_, sym, _∙_}
-use mathlib.Core.Logic.{inl, inr}
-use mathlib.Core.List.{List, map, List·Memᴰ}
+use mathlib.Core.List.{List, map}
 use Prim.Native.Nat.{ℕ, _≤_, _<_}
 use native.Mathlib.Omega.{arith}
 use lib.ListN.{length, getD, take, length-map, List·getD-append}
@@ -10,7 +9,7 @@ use lib.IntN.{natAbs}
 use Rattle.ac.specs.Pair.{Mode, count, net, variables, unbalanced}
 use Rattle.numbers.specs.First.{NoneOf, end, also}
 use Rattle.sides.specs.Limits.{Limits}
-use Rattle.sides.specs.Given.{Side, PairGiven, side-length, no-atom, many-variables, far-net-count, many-constants, many-rows}
+use Rattle.sides.specs.Given.{PairGiven, side-length, no-atom, many-variables, far-net-count, many-constants, many-rows}
 use Rattle.sides.specs.Gathered.{excess, padded, Held}
 use Rattle.sides.specs.Parted.{partingNumbers}
 use Rattle.sides.specs.declared.Gathered.{Gathered}
@@ -42,11 +41,8 @@ module _ {L R found : List ℕ} {gathered : Gathered} (held : Held L R found gat
   pub right-at : (i : ℕ) → i < length found → getD (gathered .right) i 0 ≡ excess R L (getD found i 0)
   right-at i used = rw (held .right-parts) (getD-padded (excess R L) found used)
 
--- A pair that no number refuses keeps the limits.
+-- A pair that no number refuses keeps the limits on what it holds.
 pub record Within (limits : Limits) (M : Mode) (L R : List ℕ) : Type 0 where
-  pub enough-atoms : {side : List ℕ} → Side L R side → limits .least-atoms ≤ length side
-  pub few-atoms : {side : List ℕ} → Side L R side → length side ≤ limits .most-atoms
-  pub atoms-alone : {side : List ℕ} → Side L R side → (atom : ℕ) → List·Memᴰ atom side → atom ≤ limits .highest-atom
   pub few-variables : length (variables M L R) ≤ limits .variables
   pub few-constants : length (unbalanced M L R) ≤ limits .constants
   pub near-left : (atom : ℕ) → excess L R atom ≤ limits .net-count
@@ -55,10 +51,6 @@ pub record Within (limits : Limits) (M : Mode) (L R : List ℕ) : Type 0 where
 pub within-limits : {limits : Limits} {M : Mode} {L R : List ℕ} → NoneOf (PairGiven limits M L R) partingNumbers → Within limits M L R
 within-limits {limits} {M} {L} {R} (also not7 (also not8 (also not9 (also not10 (also not11 end))))) =
     record {
-      enough-atoms = λ {side} is-side. at-most (limits .least-atoms) (length side) (λ few. not7 (side-length is-side (inl few)));
-      few-atoms = λ {side} is-side. at-most (length side) (limits .most-atoms) (λ many. not7 (side-length is-side (inr many)));
-      atoms-alone = λ {side} is-side atom held.
-          at-most atom (limits .highest-atom) (λ above. not8 (no-atom is-side (record { byte = atom; held = held; above = above })));
       few-variables = at-most (length (variables M L R)) (limits .variables) (λ many. not9 (many-variables many));
       few-constants = at-most (length (unbalanced M L R)) (limits .constants) (λ many. not11 (many-constants many));
       near-left = λ atom. omega (arith, near atom, natAbs-difference (count atom L) (count atom R));

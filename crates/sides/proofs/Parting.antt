@@ -22,7 +22,8 @@ use Rattle.sides.specs.declared.Parted.{Parted}
 use Rattle.sides.proofs.Telling.{tells-less, tells-either, tells-same, at-most}
 
 module _ {numbers : List ℕ} {M : Mode} {L R : List ℕ} {parted : Parted} where
-  pub parted-refused : {refusal : Refusal} → parted .verdict ≡ Refused refusal → First (PairGiven limits M L R) numbers (numberOf refusal) → PartedOf numbers M L R parted
+  pub parted-refused : {refusal : Refusal} → parted .verdict ≡ Refused refusal → First (PairGiven limits M L R) numbers (numberOf refusal)
+      → PartedOf numbers M L R parted
   parted-refused {refusal} verdict first =
       record {
         refused = λ other e.
@@ -35,7 +36,8 @@ module _ {numbers : List ℕ} {M : Mode} {L R : List ℕ} {parted : Parted} wher
       not-both : parted .verdict ≡ Accepted → ⊥
       not-both e = let z : _≡_ {A = ℕ} 0 1 = cc (verdict, e) in omega arith
 
-  pub parted-accepted : parted .verdict ≡ Accepted → NoneOf (PairGiven limits M L R) numbers → PairOf M L R (parted .pair) → PartedOf numbers M L R parted
+  pub parted-accepted : parted .verdict ≡ Accepted → NoneOf (PairGiven limits M L R) numbers → PairOf M L R (parted .pair)
+      → PartedOf numbers M L R parted
   parted-accepted verdict none pair =
       record {
         refused = λ refusal e. absurd (let z : _≡_ {A = ℕ} 0 1 = cc (verdict, e) in omega arith);
@@ -80,10 +82,12 @@ module _ {M : Mode} {L R : List ℕ} where
   more-constants : PairGiven limits M L R 11 → 4 < length (unbalanced M L R)
   more-constants (many-constants many) = many
 
-  pub tells-7 : {first second : Bool} → Tells (WrongLength limits L) first → Tells (WrongLength limits R) second → Tells (PairGiven limits M L R 7) (first || second)
+  pub tells-7 : {first second : Bool} → Tells (WrongLength limits L) first → Tells (WrongLength limits R) second
+      → Tells (PairGiven limits M L R 7) (first || second)
   tells-7 = tells-sides {Wrong = WrongLength limits} (λ side is-side wrong. side-length is-side wrong) wrong-length
 
-  pub tells-8 : {first second : Bool} → Tells (WrongByte limits L) first → Tells (WrongByte limits R) second → Tells (PairGiven limits M L R 8) (first || second)
+  pub tells-8 : {first second : Bool} → Tells (WrongByte limits L) first → Tells (WrongByte limits R) second
+      → Tells (PairGiven limits M L R 8) (first || second)
   tells-8 = tells-sides {Wrong = WrongByte limits} (λ side is-side wrong. no-atom is-side wrong) wrong-byte
 
   pub tells-9 : {number : ℕ} → number ≡ length (variables M L R) → Tells (PairGiven limits M L R 9) (ltb 6 number)
@@ -97,4 +101,7 @@ module _ {M : Mode} {L R : List ℕ} where
       → (PairGiven limits M L R 9 → ⊥) → (PairGiven limits M L R 11 → ⊥) → PairOf M L R pair
   pair-held the-variables the-constants not9 not11 =
       let few : length (unbalanced M L R) ≤ 4 = at-most _ _ (λ many. not11 (many-constants many)) in
-      record { the-variables = the-variables .held (at-most _ _ (λ many. not9 (many-variables many))); the-constants = the-constants .held (omega (arith, few)) }
+      record {
+        the-variables = the-variables .held (at-most _ _ (λ many. not9 (many-variables many)));
+        the-constants = the-constants .held (omega (arith, few));
+      }

@@ -1,5 +1,5 @@
--- Gathering the atoms that pass a test, with two numbers for each, one atom at a time; and that the test by the tables finds the variables and
--- the unbalanced constants of the sides.
+-- Gathering the atoms that pass a test, with two numbers for each, one atom at a time; and that the test by
+-- the tables finds the variables and the unbalanced constants of the sides.
 use mathlib.Core.Path.{_≡_, refl, sym, ap, subst, _∙_, fun-ext}
 use mathlib.Core.Bool.{Bool, true, false}
 use mathlib.Core.List.{List, [], _∷_, _++_, map, append-nil}
@@ -78,7 +78,8 @@ module _ (p : ℕ → Bool) (f g : ℕ → ℕ) where
 
       -- one that does not pass is left out
       pub visited-skip :
-          p atom ≡ false → number′ ≡ number → atoms′ ≡ atoms → lefts′ ≡ lefts → rights′ ≡ rights → Visited p f g (atom + 1) number′ atoms′ lefts′ rights′
+          p atom ≡ false → number′ ≡ number → atoms′ ≡ atoms → lefts′ ≡ lefts → rights′ ≡ rights
+          → Visited p f g (atom + 1) number′ atoms′ lefts′ rights′
       visited-skip passes same-number same-atoms same-lefts same-rights =
           record {
             how-many = rw (filter-below, passes, append-nil, same-number) (so-far .how-many);
@@ -99,12 +100,14 @@ exceeds-excess : {side other table table′ : List ℕ} → Occurrences side tab
 exceeds-excess in-side in-other = fun-ext (λ a. rw (in-side .entries a, in-other .entries a))
 
 module _ {M : Mode} {L R : List ℕ} {counts : Counts} (counted : CountsOf M L R counts) where
-  isCounted-is : (kind : Kind) (a : ℕ) → isCounted kind counts a ≡ isOf kind (M .moves a) (count a L) (count a R)
-  isCounted-is kind a = rw (counted .moves a, counted .on-left .entries a, counted .on-right .entries a)
+  counted-is : (kind : Kind) → filter (isCounted kind counts) atoms ≡ filter (λ a. isOf kind (M .moves a) (count a L) (count a R)) atoms
+  counted-is kind =
+      filter-same (isCounted kind counts) (λ a. isOf kind (M .moves a) (count a L) (count a R)) atoms
+      (λ a. rw (counted .moves a, counted .on-left .entries a, counted .on-right .entries a))
 
   counted-all : (kind : Kind) → filter (isCounted kind counts) atoms ≡ allOf kind M L R
-  counted-all Variable = filter-same (isCounted Variable counts) (λ a. isOf Variable (M .moves a) (count a L) (count a R)) atoms (isCounted-is Variable)
-  counted-all Constant = filter-same (isCounted Constant counts) (λ a. isOf Constant (M .moves a) (count a L) (count a R)) atoms (isCounted-is Constant)
+  counted-all Variable = counted-is Variable
+  counted-all Constant = counted-is Constant
 
 -- once all atoms are visited, those of the kind are gathered
 pub visited-gathers : (kind : Kind) (counts : Counts) (gathered : Gathered)

@@ -1,5 +1,5 @@
--- What is counted of two sides: "for an atom, its net count is its occurrences on the left minus those on the right" (document 01, "From
--- sides to equations"). Each table has a place for each atom.
+-- What is counted of two sides: "for an atom, its net count is its occurrences on the left minus those on the
+-- right" (document 01, "From sides to equations"). Each table has a place for each atom.
 use Prim.Native.Nat.{ℕ}
 use mathlib.Core.Path.{_≡_}
 use mathlib.Core.Bool.{Bool, false}

@@ -1,5 +1,5 @@
--- The variables of a pair and its unbalanced constants as they are held (document 01, "From sides to equations"): in ascending order, each
--- with its net count in two parts.
+-- The variables of a pair and its unbalanced constants as they are held (document 01, "From sides to
+-- equations"): in ascending order, each with its net count in two parts.
 use Prim.Native.Nat.{ℕ, _+_, _-_, _≤_}
 use mathlib.Core.Path.{_≡_}
 use mathlib.Core.Bool.{Bool, not, _&&_}
@@ -13,7 +13,8 @@ use Rattle.sides.specs.declared.counting.Counts.{Counts}
 use Rattle.sides.specs.declared.gathering.Kind.{Kind}
 use Rattle.sides.specs.declared.gathering.Kind.the-variants.{Variable, Constant}
 
--- by how much the occurrences of an atom on one side exceed those on the other. Its net count has two such parts, of which one is 0.
+-- by how much the occurrences of an atom on one side exceed those on the other. Its net count has two such
+-- parts, of which one is 0.
 abbrev pub excess : List ℕ → List ℕ → ℕ → ℕ
 excess side other atom = count atom side - count atom other
 
@@ -33,7 +34,8 @@ pub record HeldIfRoom (L R found : List ℕ) (gathered : Gathered) : Type 0 wher
   pub how-many : gathered .count ≡ length found
   pub held : length found ≤ 6 → Held L R found gathered
 
--- what makes an atom one of the kind: a variable moves and occurs; an unbalanced constant does not move, and its net count is other than 0
+-- what makes an atom one of the kind: a variable moves and occurs; an unbalanced constant does not move, and
+-- its net count is other than 0
 abbrev pub isOf : Kind → Bool → ℕ → ℕ → Bool
 isOf Variable moves left right = moves && ltb 0 (left + right)
 isOf Constant moves left right = not moves && not (eqb left right)

@@ -1,5 +1,5 @@
--- What taking two sides apart gives (document 01, "From sides to equations"): the first number that is given, or the pair of exactly these
--- sides.
+-- What taking two sides apart gives (document 01, "From sides to equations"): the first number that is given,
+-- or the pair of exactly these sides.
 use Prim.Native.Nat.{ℕ}
 use mathlib.Core.Path.{_≡_}
 use mathlib.Core.List.{List, [], _∷_}

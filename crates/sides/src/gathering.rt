@@ -39,7 +39,8 @@ fn put(list: &mut [u8; 6], place: usize, byte: u8)
     }
 }
 
-// The atoms of the kind, ascending, and beside each the two parts of its net count, as far as there is room; and how many they are.
+// The atoms of the kind, ascending, and beside each the two parts of its net count, as far as there is room;
+// and how many they are.
 pub fn gather(kind: Kind, counts: Counts) -> Gathered
     ensures { λ r. ⌜ Gathers kind counts r ⌝ }
 {

@@ -1,5 +1,6 @@
-// Two flattened sides taken apart (document 01, "From sides to equations"): the pair's variables, its unbalanced constants and the two
-// parts of each net count, or the first of the numbers 7 to 11 that is given.
+// Two flattened sides taken apart (document 01, "From sides to equations"): the pair's variables, its
+// unbalanced constants and the two parts of each net count, or the first of the numbers 7 to 11 that is
+// given.
 mod counting;
 mod gathering;
 mod limits;
@@ -11,8 +12,9 @@ ghost use mathlib.Core.Path.{_≡_};
 ghost use Rattle.ac.specs.Pair.{unifying};
 ghost use Rattle.sides.specs.Parted.{TakesApart, Parts};
 
-// The distinct variables of a pair or its unbalanced constants, ascending, and how many they are; for each the two parts of its net count:
-// by how much its occurrences on the left exceed those on the right, and the other way round. Unused places are 0.
+// The distinct variables of a pair or its unbalanced constants, ascending, and how many they are; for each
+// the two parts of its net count: by how much its occurrences on the left exceed those on the right, and the
+// other way round. Unused places are 0.
 pub struct Gathered {
     pub atoms: [u8; 6],
     pub count: usize,
@@ -86,8 +88,8 @@ fn part(counts: Counts) -> Parted
     }
 }
 
-// Takes two sides apart: the first of the numbers 7 to 11 that is given, or their pair. Nothing is counted before both sides are known to
-// hold atoms alone, and not too many.
+// Takes two sides apart: the first of the numbers 7 to 11 that is given, or their pair. Nothing is counted
+// before both sides are known to hold atoms alone, and not too many.
 pub fn take_apart(left: &[u8], right: &[u8]) -> Parted
     ensures { λ r. ⌜ TakesApart unifying (now (left .entry)) (now (right .entry)) r ⌝ }
 {

@@ -1,4 +1,5 @@
-// The limits that two sides must keep (document 01, "Numbers given in place of a result", 7 to 11), and which sides do not.
+// The limits that two sides must keep (document 01, "Numbers given in place of a result", 7 to 11), and which
+// sides do not.
 use crate::counting::ATOMS;
 use crate::counting::Counts;
 ghost use mathlib.Core.Path.{_≡_};

@@ -9,7 +9,6 @@ use lib.ListN.{length, getD, take, set, length-take}
 use lib.Seq.{take-take, getD-set-same, getD-set-other}
 use Rattle.ac.specs.Pair.{Mode, variables, unbalanced}
 use Rattle.ac.specs.Rows.{Exactly, Group, RowOf}
-use Rattle.sides.specs.Limits.{limits}
 use Rattle.sides.specs.Parted.{PairOf}
 use Rattle.sides.specs.declared.Pair.{Pair}
 use Rattle.table.specs.Table.{groupIn, groupAt, groupsIn, TableOf}
@@ -20,7 +19,8 @@ use Rattle.solve.specs.declared.groups.Groups.{Groups}
 use Rattle.sides.proofs.Laws.{take-atoms}
 use Rattle.solve.proofs.Counting.{twelve-given}
 
-pub groups-none : {Row : ℕ → List ℕ → Type 0} {places : ℕ} {rows sizes : List ℕ} → ((g : ℕ) → getD sizes g 0 ≡ 0) → GroupsUpto 16 Row places rows sizes 0
+pub groups-none : {Row : ℕ → List ℕ → Type 0} {places : ℕ} {rows sizes : List ℕ} → ((g : ℕ) → getD sizes g 0 ≡ 0)
+    → GroupsUpto 16 Row places rows sizes 0
 groups-none empty = record { sizes-fit = λ g. omega (arith, empty g); the-rows = λ g h. absurd (omega arith) }
 
 -- one group more
@@ -46,7 +46,8 @@ groups-next {Row} {places} {count} {group} {bytes} {before} {after} {sizes} ther
         (subst (λ n. Exactly (Row group) (groupIn places after group n)) (sym (its-size group refl))
         (subst (Exactly (Row group)) (sym (spread .stored)) (found .few few)))
     exact g h (no differs) =
-        subst (Exactly (Row g)) (sym (ap (groupIn places after g) (other-size g differs) ∙ spread .others g (getD sizes g 0) differs (known .sizes-fit g)))
+        subst (Exactly (Row g))
+        (sym (ap (groupIn places after g) (other-size g differs) ∙ spread .others g (getD sizes g 0) differs (known .sizes-fit g)))
         (known .the-rows g (omega (arith, differs)))
 
 -- a group with too many rows, and all groups put
@@ -54,10 +55,13 @@ module _ {M : Mode} {L R : List ℕ} {places : ℕ} {groups : Groups} where
   pub put-too-many : {g : ℕ} → groups .fits ≡ false → g ≤ length (unbalanced M L R) → More 16 (RowIn M L R g) → GroupsFound M L R places groups
   put-too-many {g} told within more = record { if-true = λ e. absurd (false≢true (sym told ∙ e)); if-false = λ e. twelve-given g within more }
 
-  pub put-all : {upto : ℕ} → groups .fits ≡ true → upto ≡ suc (length (unbalanced M L R)) → GroupsUpto 16 (RowIn M L R) places (groups .rows) (groups .sizes) upto
-      → GroupsFound M L R places groups
+  pub put-all : {upto : ℕ} → groups .fits ≡ true → upto ≡ suc (length (unbalanced M L R))
+      → GroupsUpto 16 (RowIn M L R) places (groups .rows) (groups .sizes) upto → GroupsFound M L R places groups
   put-all told all known =
-      record { if-true = λ e. subst (GroupsUpto 16 (RowIn M L R) places (groups .rows) (groups .sizes)) all known; if-false = λ e. absurd (false≢true (sym e ∙ told)) }
+      record {
+        if-true = λ e. subst (GroupsUpto 16 (RowIn M L R) places (groups .rows) (groups .sizes)) all known;
+        if-false = λ e. absurd (false≢true (sym e ∙ told));
+      }
 
 -- what is known before the turn of a group
 pub record PutUpto (pair : Pair) (rows sizes : List ℕ) (group : ℕ) : Type 0 where
@@ -89,7 +93,8 @@ module _ {M : Mode} {L R : List ℕ} {pair : Pair} (of : PairOf M L R pair) (roo
   rows-of-constant : (h : Group) → List·Memᴰ h (groupsIn tableWith .constants) → Exactly (RowOf M L R (h .constant)) (h .rows)
   rows-of-constant h member =
       subst (λ c. Exactly (RowOf M L R c) (h .rows)) (sym (s .its-constant ∙ ap (λ cs. getD cs (s .place) 0) the-constants))
-      (subst (Exactly (RowIn M L R (suc (s .place)))) (sym (s .its-rows ∙ ap (groupAt tableWith) (let e : 1 + s .place ≡ suc (s .place) = omega arith in e)))
+      (subst (Exactly (RowIn M L R (suc (s .place))))
+      (sym (s .its-rows ∙ ap (groupAt tableWith) (let e : 1 + s .place ≡ suc (s .place) = omega arith in e)))
       (known .the-rows (suc (s .place)) (omega (arith, s .within, ap length the-constants))))
     where
       s : Stands tableWith 1 (take (pair .constants .count) four) h

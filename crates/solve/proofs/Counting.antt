@@ -33,7 +33,9 @@ module _ {M : Mode} {L R : List ℕ} where
       exist : GroupsOf M L R (groups M L R)
       exist = groups-exist M L R
   twelve-given (suc g) within m =
-      many-rows exist (of-a-constant member (subst (λ rows. 16 < length rows) (exactly-unique (m .exactly) (exist .constant-rows (groupOf M L R c) member)) (m .above)))
+      many-rows exist
+      (of-a-constant member
+      (subst (λ rows. 16 < length rows) (exactly-unique (m .exactly) (exist .constant-rows (groupOf M L R c) member)) (m .above)))
     where
       exist : GroupsOf M L R (groups M L R)
       exist = groups-exist M L R

@@ -25,7 +25,8 @@ rows-again places [] rest long = refl
 rows-again places (row ∷ rows) rest long =
     ap (rowsOf places (suc (length rows))) (append-assoc row (bytesOf rows) rest)
     ∙ ap₂ {C = List (List ℕ)} (λ r rs. r ∷ rs) (take-at row (bytesOf rows ++ rest) places its)
-    (ap (rowsOf places (length rows)) (drop-at row (bytesOf rows ++ rest) places its) ∙ rows-again places rows rest (λ r m. long r (List·Memᴰ·tail m)))
+    (ap (rowsOf places (length rows)) (drop-at row (bytesOf rows ++ rest) places its)
+    ∙ rows-again places rows rest (λ r m. long r (List·Memᴰ·tail m)))
   where
     its : length row ≡ places
     its = long row (List·Memᴰ·head refl)
@@ -122,8 +123,9 @@ few-constants {M} {L} {R} {G = G} (also _ (also _ (also _ (also _ (also _ (also 
     let few : length (unbalanced M L R) ≤ 4 = at-most _ _ (λ many. eleven (of-the-sides (many-constants many))) in
     omega (arith, ap length (of .the-constants), length-map (G .constants) (λ (g : Group). g .constant))
 
--- After Rows has answered, the buffer cut by the sizes has the balanced rows as group 0 and those of each unbalanced constant, ascending, as the groups
--- after it: exactly the vectors that are rows by the definition, which has no bound, and in ascending order.
+-- After Rows has answered, the buffer cut by the sizes has the balanced rows as group 0 and those of each
+-- unbalanced constant, ascending, as the groups after it: exactly the vectors that are rows by the
+-- definition, which has no bound, and in ascending order.
 pub buffer-exact : {M : Mode} {L R out after : List ℕ} {b k s t u w : ℕ} → RowsPromise M L R out (groups b k s t u w) after
     → (g : ℕ) → g ≤ length (unbalanced M L R)
     → Exactly (RowIn M L R g) (getD (cut (length (variables M L R)) (groupSizes (groups b k s t u w)) after) g [])

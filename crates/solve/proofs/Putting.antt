@@ -31,7 +31,7 @@ bytes-next places group rows i =
     (append-nil (rowIn places rows group (0 + i)) ∙ ap (rowIn places rows group) (let e : 0 + i ≡ i = omega arith in e))
 
 module _ (rows : List ℕ) {places group : ℕ} (size : length rows ≡ 480) (narrow : places ≤ 6) (few-groups : group < 5) where
-  pub row-length : (i : ℕ) → i < 16 → length (rowIn places rows group i) ≡ places
+  row-length : (i : ℕ) → i < 16 → length (rowIn places rows group i) ≡ places
   row-length i h = length-take-le places (drop (96 * group + 6 * i) rows) (omega (arith, length-drop (96 * group + 6 * i) rows))
 
   pub bytes-length : (count : ℕ) → count ≤ 16 → length (bytesOf (groupIn places rows group count)) ≡ count * places
@@ -67,8 +67,8 @@ module _ (rows : List ℕ) {places group : ℕ} (size : length rows ≡ 480) (na
   row-part i =
       ap (λ n. take n (drop (96 * group + 6 * i) rows)) (let e : 96 * group + 6 * i + places - (96 * group + 6 * i) ≡ places = omega arith in e)
 
-pub put-row : (places group : ℕ) (rows : List ℕ) (i : ℕ) {at next n : ℕ} {out mid after bytes : List ℕ} → Put out at (bytesOf (groupIn places rows group i)) next mid
-    → bytes ≡ rowIn places rows group i → Put mid next bytes n after → Put out at (bytesOf (groupIn places rows group (i + 1))) n after
+pub put-row : (places group : ℕ) (rows : List ℕ) (i : ℕ) {at next n : ℕ} {out mid after bytes : List ℕ}
+    → Put out at (bytesOf (groupIn places rows group i)) next mid → bytes ≡ rowIn places rows group i → Put mid next bytes n after → Put out at (bytesOf (groupIn places rows group (i + 1))) n after
 put-row places group rows i before same put =
     put-as
     (ap (λ l. bytesOf (groupIn places rows group i) ++ l) same ∙ sym (bytes-next places group rows i)
@@ -92,7 +92,8 @@ put-group t group before put =
     ∙ ap (rowsBefore t) (sym (add-one group))))
     (put-then before put)
 
-rows-groupsFrom : (t : Table) (first : ℕ) (cs : List ℕ) → flatMap (λ (g : Group). g .rows) (groupsFrom t first cs) ≡ flatMap (groupAt t) (from first (length cs))
+rows-groupsFrom : (t : Table) (first : ℕ) (cs : List ℕ)
+    → flatMap (λ (g : Group). g .rows) (groupsFrom t first cs) ≡ flatMap (groupAt t) (from first (length cs))
 rows-groupsFrom t first [] = refl
 rows-groupsFrom t first (c ∷ cs) = ap (λ l. groupAt t first ++ l) (rows-groupsFrom t (suc first) cs)
 
@@ -114,14 +115,16 @@ size-from t first (c ∷ cs) (suc i) h =
     size-from t (suc first) cs i (omega arith) ∙ ap (λ g. getD (t .sizes) g 0) (let e : suc first + i ≡ first + suc i = omega arith in e)
 
 module _ {t : Table} (within : Within t) (room : length (t .constants) ≡ 4) where
+  abbrev used : List ℕ
+  used = take (t .unbalanced) (t .constants)
+
   pub how-many-constants : length (groupsIn t .constants) ≡ t .unbalanced
-  how-many-constants =
-      length-groupsFrom t 1 (take (t .unbalanced) (t .constants)) ∙ length-take-le (t .unbalanced) (t .constants) (omega (arith, within .constants-fit))
+  how-many-constants = length-groupsFrom t 1 used ∙ length-take-le (t .unbalanced) (t .constants) (omega (arith, within .constants-fit))
 
   pub size-there : (place : ℕ) → place < t .unbalanced → getD (t .sizes) (place + 1) 0 ≡ size (groupsIn t) place
   size-there place h =
       sym
-      (size-from t 1 (take (t .unbalanced) (t .constants)) place (omega (arith, how-many-constants, length-groupsFrom t 1 (take (t .unbalanced) (t .constants))))
+      (size-from t 1 used place (omega (arith, how-many-constants, length-groupsFrom t 1 used))
       ∙ ap (λ g. getD (t .sizes) g 0) (let e : 1 + place ≡ place + 1 = omega arith in e))
 
   pub size-beyond : (place : ℕ) → t .unbalanced ≤ place → 0 ≡ size (groupsIn t) place

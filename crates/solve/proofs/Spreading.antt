@@ -26,10 +26,12 @@ set-apart : (l : List ℕ) (i v start size : ℕ) → Apart start size i 1 → t
 set-apart l i v start size (inl before) =
     let e : i ≡ start + (i - start) = omega arith in
     let far : size ≤ i - start = omega arith in
-    ap (λ (k : ℕ). take size (drop start (set l k v))) e ∙ ap (take size) (drop-set-add start l (i - start) v) ∙ take-set-le size (drop start l) (i - start) v far
+    ap (λ (k : ℕ). take size (drop start (set l k v))) e
+    ∙ ap (take size) (drop-set-add start l (i - start) v)
+    ∙ take-set-le size (drop start l) (i - start) v far
 set-apart l i v start size (inr after) = ap (take size) (drop-set-lt start l i v (let h : i < start = omega arith in h))
 
-pub sets-apart : (l : List ℕ) (at : ℕ) (vs : List ℕ) (start size : ℕ) → Apart start size at (length vs)
+sets-apart : (l : List ℕ) (at : ℕ) (vs : List ℕ) (start size : ℕ) → Apart start size at (length vs)
     → take size (drop start (sets l at vs)) ≡ take size (drop start l)
 sets-apart l at [] start size h = refl
 sets-apart l at (v ∷ vs) start size (inl before) =
@@ -39,7 +41,7 @@ sets-apart l at (v ∷ vs) start size (inr after) =
     ∙ set-apart l at v start size (inr (let h : at + 1 ≤ start = omega arith in h))
 
 -- what was put stands there
-pub sets-there : (l : List ℕ) (at : ℕ) (vs : List ℕ) → at + length vs ≤ length l → take (length vs) (drop at (sets l at vs)) ≡ vs
+sets-there : (l : List ℕ) (at : ℕ) (vs : List ℕ) → at + length vs ≤ length l → take (length vs) (drop at (sets l at vs)) ≡ vs
 sets-there l at vs room =
     ap (λ s. take (length vs) (drop at s)) (sets-eq vs l at room ∙ append-assoc (take at l) vs rest)
     ∙ ap (take (length vs)) (drop-at (take at l) (vs ++ rest) at (length-take-le at l (let h : at ≤ length l = omega arith in h)))
@@ -125,5 +127,6 @@ spread-all {places} {group} {count} {found} {before} {rows} few known =
     record {
       stored = below-same (rowIn places rows group) (rowAt places found) count (known .stored) ∙ sym (rows-by-index places count found);
       others = λ other n differs h.
-          below-same (rowIn places rows other) (rowIn places before other) n (λ j l. known .others other j differs (let k : j < 16 = omega arith in k));
+          below-same (rowIn places rows other) (rowIn places before other) n
+          (λ j l. known .others other j differs (let k : j < 16 = omega arith in k));
     }

@@ -1,4 +1,5 @@
--- The numbers that Rows gives (document 01, "Numbers given in place of a result"): when each is given, whatever else is wrong.
+-- The numbers that Rows gives (document 01, "Numbers given in place of a result"): when each is given,
+-- whatever else is wrong.
 use Prim.Native.Nat.{ℕ, _<_}
 use mathlib.Core.List.{List, [], _∷_}
 use lib.ListN.{length}

@@ -1,5 +1,5 @@
--- The groups of a pair as they are found (document 01, "From sides to equations"): group 0 has the balanced rows, and the groups after it those
--- of each unbalanced constant, ascending.
+-- The groups of a pair as they are found (document 01, "From sides to equations"): group 0 has the balanced
+-- rows, and the groups after it those of each unbalanced constant, ascending.
 use Prim.Native.Nat.{ℕ, zero, suc, _≤_, _<_}
 use mathlib.Core.Path.{_≡_}
 use mathlib.Core.Bool.{true, false}
@@ -32,7 +32,8 @@ pub record More (limit : ℕ) (Row : List ℕ → Type 0) : Type 0 where
   pub exactly : Exactly Row rows
   pub above : limit < length rows
 
--- what is found of the rows of a kind: a number up to the limit, and then exactly they stand one after the other, or one above it
+-- what is found of the rows of a kind: a number up to the limit, and then exactly they stand one after the
+-- other, or one above it
 pub record FoundOf (limit : ℕ) (Row : List ℕ → Type 0) (places : ℕ) (bytes : List ℕ) (count : ℕ) : Type 0 where
   pub few : count ≤ limit → Exactly Row (rowsOf places count bytes)
   pub more : limit < count → More limit Row

@@ -11,8 +11,9 @@ use Rattle.solve.specs.Given.{RowsGiven, rowsNumbers}
 use Rattle.solve.specs.declared.RowsAnswer.{RowsAnswer}
 use Rattle.solve.specs.declared.RowsAnswer.the-variants as answer
 
--- What Rows comes to: a number of the table, or the size of each group: of the balanced rows, and, after the number of unbalanced constants, of
--- those of the first to the fourth of them; 0 where there is no such constant.
+-- What Rows comes to: a number of the table, or the size of each group: of the balanced rows, and, after the
+-- number of unbalanced constants, of those of the first to the fourth of them; 0 where there is no such
+-- constant.
 pub data RowsOutcome : Type 0 where
   refused : ℕ → RowsOutcome
   groups : ℕ → ℕ → ℕ → ℕ → ℕ → ℕ → RowsOutcome
@@ -42,7 +43,7 @@ bytesOf rows = flatMap (λ row. row) rows
 pub data RowsPromise (M : Mode) (L R out : List ℕ) : RowsOutcome → List ℕ → Type 0 where
   -- Each returns its number alone and changes no buffer.
   is-refused : {n : ℕ} → First (RowsGiven M L R out) rowsNumbers n → RowsPromise M L R out (refused n) out
-  -- A lent buffer receives the balanced rows, then those of each unbalanced constant ascending, one byte for each variable; the size of each group
-  -- is returned.
+  -- A lent buffer receives the balanced rows, then those of each unbalanced constant ascending, one byte for
+  -- each variable; the size of each group is returned.
   is-answered : {G : Groups} → NoneOf (RowsGiven M L R out) rowsNumbers → GroupsOf M L R G
       → RowsPromise M L R out (sizesOf G) (receives out (bytesOf (allRows G)))

@@ -1,4 +1,5 @@
--- What solving two sides gives: the first number that is given, or the table of exactly these sides (document 01, "From sides to equations").
+-- What solving two sides gives: the first number that is given, or the table of exactly these sides (document
+-- 01, "From sides to equations").
 use Prim.Native.Nat.{ℕ}
 use mathlib.Core.Path.{_≡_}
 use mathlib.Core.List.{List, [], _∷_}
@@ -15,7 +16,8 @@ use Rattle.table.specs.Table.{TableOf}
 use Rattle.solve.specs.Given.{pairNumbers}
 use Rattle.solve.specs.declared.Solved.{Solved}
 
--- Refused with the first of the numbers that is given; accepted where none is, and then the table is that of the sides.
+-- Refused with the first of the numbers that is given; accepted where none is, and then the table is that of
+-- the sides.
 pub record SolvedOf (numbers : List ℕ) (M : Mode) (L R : List ℕ) (solved : Solved) : Type 0 where
   pub refused : (refusal : Refusal) → solved .verdict ≡ Refused refusal → First (PairGiven limits M L R) numbers (numberOf refusal)
   pub none-given : solved .verdict ≡ Accepted → NoneOf (PairGiven limits M L R) numbers

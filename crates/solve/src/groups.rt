@@ -1,4 +1,5 @@
-// The rows of a pair's groups, each at its place: the balanced rows as group 0, then those of each unbalanced constant, ascending.
+// The rows of a pair's groups, each at its place: the balanced rows as group 0, then those of each unbalanced
+// constant, ascending.
 use buffer::put_bytes;
 use rows::Found;
 use rows::find_rows;
@@ -11,7 +12,8 @@ ghost use Prim.Native.Nat.{_*_, _<_, _≤_};
 ghost use lib.ListN.{length};
 ghost use Rattle.solve.specs.Groups.{Roomy, Spreads, FindsGroup, FindsGroups};
 
-// The rows of all groups at their places, how many each group has, and whether none has too many. Where one has, the rest says nothing.
+// The rows of all groups at their places, how many each group has, and whether none has too many. Where one
+// has, the rest says nothing.
 pub struct Groups {
     pub rows: [u8; 480],
     pub sizes: [usize; 5],

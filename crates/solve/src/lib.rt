@@ -1,4 +1,5 @@
-// Solving a pair (document 01, "From sides to equations"), or the first of the numbers 7 to 12 that is given; and the question Rows.
+// Solving a pair (document 01, "From sides to equations"), or the first of the numbers 7 to 12 that is given;
+// and the question Rows.
 mod groups;
 mod writing;
 
@@ -91,8 +92,8 @@ pub fn solve(left: &[u8], right: &[u8]) -> Solved
     }
 }
 
-// What Rows answers: how many balanced rows there are, how many unbalanced constants, and how many rows the first to the fourth of them
-// have, 0 where there is none; or why there are none.
+// What Rows answers: how many balanced rows there are, how many unbalanced constants, and how many rows the
+// first to the fourth of them have, 0 where there is none; or why there are none.
 pub enum RowsAnswer {
     Groups {
         balanced: usize,
@@ -125,7 +126,8 @@ pub fn rows_of(table: Table, out: &mut [u8]) -> RowsAnswer
     }
 }
 
-// The question Rows: puts the rows of two sides into the buffer. Every refusal is settled before the first byte is written.
+// The question Rows: puts the rows of two sides into the buffer. Every refusal is settled before the first
+// byte is written.
 pub fn rows(left: &[u8], right: &[u8], out: &mut [u8]) -> RowsAnswer
     ensures { λ r. ⌜ RowsPromise unifying (now (left .entry)) (now (right .entry)) (now (out .entry)) (told r) (now (out .exit)) ⌝ }
 {

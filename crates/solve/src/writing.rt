@@ -1,4 +1,5 @@
-// What Rows writes of a solved pair and what it returns: the rows of all groups one after the other, and the size of each constant's.
+// What Rows writes of a solved pair and what it returns: the rows of all groups one after the other, and the
+// size of each constant's.
 use buffer::put_bytes;
 use table::GROUP;
 use table::Table;

@@ -1,4 +1,5 @@
--- What a table says: the groups of rows that it holds, and that it is the table of a pair (document 01, "From sides to equations").
+-- What a table says: the groups of rows that it holds, and that it is the table of a pair (document 01, "From
+-- sides to equations").
 use Prim.Native.Nat.{ℕ, suc, _+_, _*_, _≤_}
 use mathlib.Core.Path.{_≡_}
 use mathlib.Core.List.{List, [], _∷_, map}

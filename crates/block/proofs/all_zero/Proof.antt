@@ -1,4 +1,5 @@
--- `block::all_zero` meets its contract. The loop's invariant: every byte from `i` on is 0 exactly if every byte is. Assumes nothing.
+-- `block::all_zero` meets its contract. The loop's invariant: every byte from `i` on is 0 exactly if every
+-- byte is. Assumes nothing.
 use Prim.Native.Nat.{ℕ, _+_, _≤_, _<_, _-_}
 use mathlib.Core.Path.{_≡_, refl, _∙_}
 use mathlib.Core.Bool.{true, false, _&&_}

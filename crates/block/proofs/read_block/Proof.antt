@@ -1,4 +1,5 @@
--- `block::read_block` meets its contract: each refusal leaves the buffers as they were, and at the end they receive the sides. Assumes nothing.
+-- `block::read_block` meets its contract: each refusal leaves the buffers as they were, and at the end they
+-- receive the sides. Assumes nothing.
 use Prim.Native.Nat.{_+_, _-_}
 use mathlib.Core.Path.{_∙_}
 use native.Mathlib.Omega.{arith}
@@ -14,7 +15,8 @@ use Rattle.block.proofs.Sides.{HeaderLengths, when-lengths, when-refuse
 use Rattle.block.proofs.read_block.Statement.{statement}
 use Rattle.block.proofs.read_block.Tie as tie
 
--- from the place where the right term is known to that of the left one, from there to that of the lengths, and from there to the entry
+-- from the place where the right term is known to that of the left one, from there to that of the lengths,
+-- and from there to the entry
 abbrev left-known : tie.After-known-told4 → tie.After-known-told3
 left-known c = c .before .before .before .before .before .before .before .before
 
@@ -97,7 +99,8 @@ same-length c = search needs
 returns : tie.Need-returns
 returns c =
     let at-lengths = c .before .before .before .before .before .before .before in
-    refused at-lengths (left-missing (lengths at-lengths) (when-no-term (c .before .before .before .before .take-apart .ensures) (c .enum-told .given .1)))
+    let none = when-no-term (c .before .before .before .before .take-apart .ensures) (c .enum-told .given .1) in
+    refused at-lengths (left-missing (lengths at-lengths) none)
 
 sub-take-apart-2 : tie.Need-sub-take-apart-2
 sub-take-apart-2 c = search needs
@@ -128,7 +131,8 @@ same-length-3 c = search needs
 returns-2 : tie.Need-returns-2
 returns-2 c =
     let at-lengths = lengths-known (c .before .before .before .before .before .before .before) in
-    refused at-lengths (right-missing (lengths at-lengths) (when-no-term (c .before .before .before .before .take-apart2 .ensures) (c .enum-told2 .given .1)))
+    let none = when-no-term (c .before .before .before .before .take-apart2 .ensures) (c .enum-told2 .given .1) in
+    refused at-lengths (right-missing (lengths at-lengths) none)
 
 sub-all-zero : tie.Need-sub-all-zero
 sub-all-zero c = omega (arith, terms-fit (lengths (lengths-known (left-known c))))
@@ -164,13 +168,16 @@ slice-aggregate-copy c = simp length-take (omega (arith, count-within (left-term
 copy-requires : tie.Need-copy-requires
 copy-requires c κs =
     let at-left = left-known (c .before .before .before .before .before) in
-    simp length-take (omega (arith, count-fits (left-term at-left) (left-short (lengths (lengths-known at-left))), entry (lengths-known at-left) .pre .1 .1))
+    let at-lengths = lengths-known at-left in
+    simp length-take (omega (arith, count-fits (left-term at-left) (left-short (lengths at-lengths)), entry at-lengths .pre .1 .1))
 
 slice-reshare-prefix-copy-2 : tie.Need-slice-reshare-prefix-copy-2
 slice-reshare-prefix-copy-2 c = omega (arith, count-within (right-term (c .before .before .before .before .before .before .before .before)))
 
 slice-aggregate-copy-2 : tie.Need-slice-aggregate-copy-2
-slice-aggregate-copy-2 c = simp length-take (omega (arith, count-within (right-term (c .before .before .before .before .before .before .before .before .before))))
+slice-aggregate-copy-2 c =
+    let at-right = c .before .before .before .before .before .before .before .before .before in
+    simp length-take (omega (arith, count-within (right-term at-right)))
 
 copy-requires-2 : tie.Need-copy-requires-2
 copy-requires-2 c κs =
@@ -181,7 +188,8 @@ copy-requires-2 c κs =
 returns-4 : tie.Need-returns-4
 returns-4 c =
     let at-entry = c .before .before .before .before .before .before .before .before .before in
-    promised-refusal (at-entry .pre .1 .1 .0) (at-entry .pre .1 .1 .1) (when-refused (c .before .before .before .read-header .ensures) (c .before .header .given .1))
+    promised-refusal (at-entry .pre .1 .1 .0) (at-entry .pre .1 .1 .1)
+    (when-refused (c .before .before .before .read-header .ensures) (c .before .header .given .1))
 
 same-length-6 : tie.Need-same-length-6
 same-length-6 c = search needs

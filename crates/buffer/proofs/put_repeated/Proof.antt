@@ -33,7 +33,8 @@ loop-again : tie.Need-loop-again Inv-loop μ-loop
 loop-again c =
     let a = c .before .before .args in
     let l = c .before .loop in
-    (omega arith, put-at (omega arith) (put-as (replicate-append-replicate (l .i) 1 (a .byte)) (put-then (l .inv .1) (put-byte (l .out) (a .at + l .i) (a .byte)))))
+    let put = put-then (l .inv .1) (put-byte (l .out) (a .at + l .i) (a .byte)) in
+    (omega arith, put-at (omega arith) (put-as (replicate-append-replicate (l .i) 1 (a .byte)) put))
 
 add-result : tie.Need-add-result Inv-loop μ-loop
 add-result c = omega arith

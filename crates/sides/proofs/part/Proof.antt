@@ -1,4 +1,5 @@
--- `sides::part` meets its contract: three flags tell whether 9, 10 and 11 are given, and the first that is set refuses. Assumes nothing.
+-- `sides::part` meets its contract: three flags tell whether 9, 10 and 11 are given, and the first that is
+-- set refuses. Assumes nothing.
 use mathlib.Core.Path.{refl}
 use mathlib.Core.List.{List}
 use Prim.Native.Nat.{ℕ}
@@ -10,12 +11,16 @@ use Rattle.sides.specs.Limits.{limits}
 use Rattle.sides.specs.Given.{PairGiven}
 use Rattle.sides.specs.Tells.{Tells}
 use Rattle.sides.specs.Counts.{CountsOf}
+use Rattle.sides.specs.declared.counting.Counts.{Counts}
 use Rattle.sides.proofs.Parting.{parted-refused, parted-accepted, tells-9, tells-11, pair-held}
 use Rattle.sides.proofs.part.Statement.{statement}
 use Rattle.sides.proofs.part.Tie as tie
 
 -- what the flags tell, where they are all made
-module _ (c : tie.After-struct-known2) (M : Mode) (L R : List ℕ) (counted : CountsOf M L R (c .before .before .before .before .before .args .counts)) where
+abbrev counts : tie.After-struct-known2 → Counts
+counts c = c .before .before .before .before .before .args .counts
+
+module _ (c : tie.After-struct-known2) (M : Mode) (L R : List ℕ) (counted : CountsOf M L R (counts c)) where
   nine : Tells (PairGiven limits M L R 9) (ltb 6 (c .before .before .before .before .gather .result .count))
   nine = tells-9 (c .before .before .before .before .gather .ensures M L R counted .how-many)
 
@@ -67,7 +72,10 @@ returns-4 c M L R counted =
     let not10 = ten made M L R counted .if-false (c .before .if2 .left) in
     let not11 = eleven made M L R counted .if-false (c .if3 .left) in
     parted-accepted refl (also not9 (also not10 (also not11 end)))
-    (pair-held (made .before .before .before .before .gather .ensures M L R counted) (made .before .before .before .gather2 .ensures M L R counted) not9 not11)
+    (pair-held (made .before .before .before .before .gather .ensures M L R counted)
+    (made .before .before .before .gather2 .ensures M L R counted)
+    not9
+    not11)
 
 pub part-spec : {M : Type 1} → statement M
 part-spec =

@@ -1,4 +1,5 @@
--- `sides::take_apart` meets its contract: two flags tell whether 7 and 8 are given; where neither is, the counts settle the rest. Assumes nothing.
+-- `sides::take_apart` meets its contract: two flags tell whether 7 and 8 are given; where neither is, the
+-- counts settle the rest. Assumes nothing.
 use mathlib.Core.Bool.{_||_}
 use mathlib.Core.List.{List}
 use Prim.Native.Nat.{ℕ}

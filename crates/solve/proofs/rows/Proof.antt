@@ -1,6 +1,6 @@
 -- `solve::rows` meets its contract: 16, then what solving settles, then the rows. Assumes nothing.
-use Rattle.solve.proofs.Answering.{short-refused, sides-refused}
 use borrow.Author.Needs.{needs}
+use Rattle.solve.proofs.Answering.{short-refused, sides-refused}
 use Rattle.solve.proofs.rows.Statement.{statement}
 use Rattle.solve.proofs.rows.Tie as tie
 
@@ -17,17 +17,23 @@ enum-told : tie.Need-enum-told
 enum-told c = search needs
 
 rows-of-requires : tie.Need-rows-of-requires
-rows-of-requires c κs = (c .before .before .before .before .solve .ensures .the-table (c .before .enum-told .given .1) .within, c .before .before .before .before .before .if1 .left)
+rows-of-requires c κs =
+    let at-solve = c .before .before .before .before in
+    (at-solve .solve .ensures .the-table (c .before .enum-told .given .1) .within, at-solve .before .if1 .left)
 
 returns-2 : tie.Need-returns-2
-returns-2 c = sides-refused (c .before .before .before .before .before .if1 .left) (c .before .before .before .before .solve .ensures .refused _ (c .before .verdict .given .1))
+returns-2 c =
+    let at-solve = c .before .before .before .before in
+    sides-refused (at-solve .before .if1 .left) (at-solve .solve .ensures .refused _ (c .before .verdict .given .1))
 
 same-length : tie.Need-same-length
 same-length c = search needs
 
 returns-3 : tie.Need-returns-3
-returns-3 c = let solved = c .before .before .before .before .before .before .before .solve .ensures in
-    c .before .before .rows-of .ensures _ _ _ (solved .the-table (c .before .before .before .before .enum-told .given .1)) (solved .none-given (c .before .before .before .before .enum-told .given .1))
+returns-3 c =
+    let solved = c .before .before .before .before .before .before .before .solve .ensures in
+    let accepted = c .before .before .before .before .enum-told .given .1 in
+    c .before .before .rows-of .ensures _ _ _ (solved .the-table accepted) (solved .none-given accepted)
 
 pub rows-spec : {M : Type 1} → statement M
 rows-spec =

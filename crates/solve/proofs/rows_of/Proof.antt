@@ -26,8 +26,13 @@ same-length : tie.Need-same-length
 same-length c = search needs
 
 returns : tie.Need-returns
-returns c = λ M L R of none.
-    rows-answered (c .before .before .before .before .before .before .before .before .before .before .pre .1) of (search needs) none (c .before .before .before .before .before .before .before .put-groups .ensures .0) (c .before .before .before .before .before .before .before .put-groups .ensures .1) (c .before .before .before .size-at .ensures) (c .before .before .size-at2 .ensures) (c .before .size-at3 .ensures) (c .size-at4 .ensures)
+returns c M L R of none =
+    let at-put = c .before .before .before .before .before .before .before in
+    rows-answered (at-put .before .before .before .pre .1) of (search needs) none (at-put .put-groups .ensures .0) (at-put .put-groups .ensures .1)
+    (c .before .before .before .size-at .ensures)
+    (c .before .before .size-at2 .ensures)
+    (c .before .size-at3 .ensures)
+    (c .size-at4 .ensures)
 
 pub rows-of-spec : {M : Type 1} → statement M
 rows-of-spec =

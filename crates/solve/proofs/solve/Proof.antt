@@ -19,15 +19,20 @@ enum-told : tie.Need-enum-told
 enum-told c = search needs
 
 solve-pair-requires : tie.Need-solve-pair-requires
-solve-pair-requires c κs = let parted = c .before .before .before .take-apart .ensures in
+solve-pair-requires c κs =
+    let parted = c .before .before .before .take-apart .ensures in
     pair-roomy (parted .none-given (c .enum-told .given .1)) (parted .the-pair (c .enum-told .given .1))
 
 returns : tie.Need-returns
-returns c = solved-refused (c .refused .ensures) (first-before (12 ∷ []) (c .before .before .before .before .before .take-apart .ensures .refused _ (c .before .before .verdict .given .1)))
+returns c =
+    let parted = c .before .before .before .before .before .take-apart .ensures in
+    solved-refused (c .refused .ensures) (first-before (12 ∷ []) (parted .refused _ (c .before .before .verdict .given .1)))
 
 returns-2 : tie.Need-returns-2
-returns-2 c = let parted = c .before .before .before .before .take-apart .ensures in
-    solved-after (parted .none-given (c .before .enum-told .given .1)) (c .solve-pair .ensures _ _ _ (parted .the-pair (c .before .enum-told .given .1)))
+returns-2 c =
+    let parted = c .before .before .before .before .take-apart .ensures in
+    let accepted = c .before .enum-told .given .1 in
+    solved-after (parted .none-given accepted) (c .solve-pair .ensures _ _ _ (parted .the-pair accepted))
 
 pub solve-spec : {M : Type 1} → statement M
 solve-spec =

@@ -1,4 +1,5 @@
--- `block::header::check_of` meets its contract: the sum is that of the first 510 bytes, and below 65,536. Assumes nothing.
+-- `block::header::check_of` meets its contract: the sum is that of the first 510 bytes, and below 65,536.
+-- Assumes nothing.
 use borrow.Author.Needs.{needs}
 use native.Mathlib.Omega.{arith}
 use lib.ListN.{length-take}

@@ -1,4 +1,5 @@
--- `block::header::read_header` meets its contract: each refusal is the first number that the block gives. Assumes nothing.
+-- `block::header::read_header` meets its contract: each refusal is the first number that the block gives.
+-- Assumes nothing.
 use Prim.Native.Nat.{ℕ}
 use mathlib.Core.Path.{_≡_, refl, sym, _∙_}
 use native.Mathlib.Omega.{arith}
@@ -22,8 +23,8 @@ entry v = v .before .before .before .before .before .before .before .before .bef
 
 checked : (c : tie.Else1) → check (entry (c .before) .args .block .now) ≡ checkOfBytes (entry (c .before) .args .block .now)
 checked c =
-    let v = c .before in
-    agree (v .before .before .before .before .before .before .before .two-bytes .ensures) (v .before .before .before .before .before .before .check-of .ensures) (c .if1 .left)
+    let at-check = c .before .before .before .before .before .before .before in
+    agree (at-check .before .two-bytes .ensures) (at-check .check-of .ensures) (c .if1 .left)
 
 shared-slice-read-two-bytes : tie.Need-shared-slice-read-two-bytes
 shared-slice-read-two-bytes c = search needs
@@ -63,21 +64,22 @@ are-term-lengths-requires c κs = search needs
 
 returns : tie.Need-returns
 returns c =
-    let v = c .before in
+    let at-check = c .before .before .before .before .before .before .before in
     is-refused
-    (check-first (entry v .pre)
-    (differ (v .before .before .before .before .before .before .before .two-bytes .ensures) (v .before .before .before .before .before .before .check-of .ensures) (c .if1 .taken)))
+    (check-first (entry (c .before) .pre) (differ (at-check .before .two-bytes .ensures) (at-check .check-of .ensures) (c .if1 .taken)))
 
 returns-2 : tie.Need-returns-2
 returns-2 c =
     let v = c .before .before in
-    is-refused (block-number-first (entry v .pre) (checked (c .before)) (differ (v .before .before .before .two-bytes2 .ensures) refl (c .if2 .taken)))
+    is-refused
+    (block-number-first (entry v .pre) (checked (c .before)) (differ (v .before .before .before .two-bytes2 .ensures) refl (c .if2 .taken)))
 
 returns-3 : tie.Need-returns-3
 returns-3 c =
     let v = c .before .before .before in
     is-refused
-    (term-length-first (entry v .pre) (checked (c .before .before)) (agree (v .before .before .before .two-bytes2 .ensures) refl (c .before .if2 .left))
+    (term-length-first (entry v .pre) (checked (c .before .before))
+    (agree (v .before .before .before .two-bytes2 .ensures) refl (c .before .if2 .left))
     (tested-outside (v .are-term-lengths .ensures) (c .if3 .taken)))
 
 returns-4 : tie.Need-returns-4

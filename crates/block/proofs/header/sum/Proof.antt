@@ -1,5 +1,5 @@
--- `block::header::sum` meets its contract. The loop's invariant: the sum so far and the bytes from `i` on make the whole sum, modulo 65,536.
--- Assumes nothing.
+-- `block::header::sum` meets its contract. The loop's invariant: the sum so far and the bytes from `i` on
+-- make the whole sum, modulo 65,536. Assumes nothing.
 use Prim.Native.Nat.{ℕ, _+_, _%_, _≤_, _<_, _-_}
 use mathlib.Core.Path.{_≡_}
 use mathlib.Core.List.{List}
@@ -20,7 +20,8 @@ none-left : (bytes : List ℕ) (i : ℕ) → i ≡ length bytes → total (drop 
 none-left bytes i e = cc (e, drop-length bytes)
 
 abbrev Inv-loop : tie.InvT-loop
-Inv-loop bytes sum₀ i₀ i-end sum i = (i ≤ i-end) × (i-end ≡ length bytes) × (sum < 65536) × ((sum + total (drop i bytes)) % 65536 ≡ total bytes % 65536)
+Inv-loop bytes sum₀ i₀ i-end sum i =
+    (i ≤ i-end) × (i-end ≡ length bytes) × (sum < 65536) × ((sum + total (drop i bytes)) % 65536 ≡ total bytes % 65536)
 
 abbrev μ-loop : tie.MeasureT-loop
 μ-loop bytes sum₀ i₀ i-end sum i = i-end - i
@@ -46,7 +47,8 @@ loop-less c = omega arith
 loop-again : tie.Need-loop-again Inv-loop μ-loop
 loop-again c =
     let at-loop = c .before .before .before .before in
-    omega (arith, total-from (at-loop .before .before .args .bytes .now) (at-loop .loop .i) (omega arith), c .wrapping-add-u16 .ensures, c .before .two-bytes .ensures)
+    let next = total-from (at-loop .before .before .args .bytes .now) (at-loop .loop .i) (omega arith) in
+    omega (arith, next, c .wrapping-add-u16 .ensures, c .before .two-bytes .ensures)
 
 returns : tie.Need-returns Inv-loop μ-loop
 returns c = omega (arith, none-left (c .before .before .before .args .bytes .now) (c .before .loop .i) (omega arith))

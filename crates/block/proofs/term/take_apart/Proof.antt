@@ -1,4 +1,5 @@
--- `block::term::take_apart` meets its contract: the bytes are a term exactly if the term that they begin with uses all of them. Assumes nothing.
+-- `block::term::take_apart` meets its contract: the bytes are a term exactly if the term that they begin with
+-- uses all of them. Assumes nothing.
 use borrow.Author.Needs.{needs}
 use Rattle.block.specs.Inner.{no-term}
 use Rattle.block.proofs.Begins.{nothing-is-no-term}
@@ -11,7 +12,8 @@ found-term :
     (c : tie.After-known-told) →
     let entry = c .before .before .before .before .before .before .before .before .before in
     let size = c .before .flattened .given .0 in
-    FoundTerm (entry .args .bytes .now) (entry .args .buffer .now) (size .0) (size .1 .0) (c .before .before .before .before .before .flatten .last .1 .0)
+    let after = c .before .before .before .before .before .flatten .last .1 .0 in
+    FoundTerm (entry .args .bytes .now) (entry .args .buffer .now) (size .0) (size .1 .0) after
 found-term c = when-found (c .before .before .before .before .before .flatten .ensures) (c .before .flattened .given .1)
 
 flatten-requires : tie.Need-flatten-requires

@@ -1,4 +1,5 @@
--- `sides::counting::moving_variables` meets its contract. The loop's invariant: the table is true at the atoms passed and nowhere else. Assumes nothing.
+-- `sides::counting::moving_variables` meets its contract. The loop's invariant: the table is true at the
+-- atoms passed and nowhere else. Assumes nothing.
 use mathlib.Core.Path.{_≡_, refl, subst}
 use Prim.Native.Nat.{ℕ, _≤_, _-_}
 use native.Mathlib.Omega.{arith}

@@ -1,5 +1,5 @@
--- `sides::counting::occurrences` meets its contract. The loop's invariant: the table counts the atoms passed. No count is above the side's length, so
--- each fits a byte. Assumes nothing.
+-- `sides::counting::occurrences` meets its contract. The loop's invariant: the table counts the atoms passed.
+-- No count is above the side's length, so each fits a byte. Assumes nothing.
 use mathlib.Core.Path.{subst}
 use mathlib.Core.List.{List}
 use Prim.Native.Nat.{ℕ, _≤_, _<_, _-_}
@@ -21,9 +21,12 @@ abbrev μ-loop : tie.MeasureT-loop
 loop-holds : tie.Need-loop-holds Inv-loop μ-loop
 loop-holds c = (omega arith, counts-none)
 
--- the byte that is read is an atom
-atom-below : (c : tie.After-shared-slice-known Inv-loop μ-loop) → getD (now (c .before .before .before .args .side)) (c .before .before .loop .i) 0 < 128
-atom-below c = right-byte (now (c .before .before .before .args .side)) (c .before .before .loop .i) (c .before .loop-test .taken) (c .before .before .before .pre .1)
+-- the side, and that the byte of it that is read is an atom
+abbrev side : tie.After-shared-slice-known Inv-loop μ-loop → List ℕ
+side c = now (c .before .before .before .args .side)
+
+atom-below : (c : tie.After-shared-slice-known Inv-loop μ-loop) → getD (side c) (c .before .before .loop .i) 0 < 128
+atom-below c = right-byte (side c) (c .before .before .loop .i) (c .before .loop-test .taken) (c .before .before .before .pre .1)
 
 shared-slice-read-atom : tie.Need-shared-slice-read-atom Inv-loop μ-loop
 shared-slice-read-atom c = omega arith
@@ -37,8 +40,7 @@ array-read-table c = atom-below c
 add-table : tie.Need-add-table Inv-loop μ-loop
 add-table c =
     let at = c .before .before .loop in
-    let start = c .before .before .before in
-    omega (arith, count-so-far (now (start .args .side)) (at .table) (at .i) (getD (now (start .args .side)) (at .i) 0) (at .inv .1) (start .pre .0))
+    omega (arith, count-so-far (side c) (at .table) (at .i) (getD (side c) (at .i) 0) (at .inv .1) (c .before .before .before .pre .0))
 
 array-write-table : tie.Need-array-write-table Inv-loop μ-loop
 array-write-table c = atom-below c
@@ -52,7 +54,8 @@ loop-less c = omega arith
 loop-again : tie.Need-loop-again Inv-loop μ-loop
 loop-again c =
     let at = c .before .before .loop in
-    (omega arith, counts-more (now (c .before .before .before .args .side)) (at .table) (at .i) (c .before .loop-test .taken) (omega (arith, atom-below c, at .inv .1 .places)) (at .inv .1))
+    let place : getD (side c) (at .i) 0 < length (at .table) = omega (arith, atom-below c, at .inv .1 .places) in
+    (omega arith, counts-more (side c) (at .table) (at .i) (c .before .loop-test .taken) place (at .inv .1))
 
 returns : tie.Need-returns Inv-loop μ-loop
 returns c =

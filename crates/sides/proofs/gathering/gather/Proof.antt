@@ -58,8 +58,8 @@ add-atom c = omega arith
 loop-less : tie.Need-loop-less Inv-loop μ-loop
 loop-less c = omega arith
 
--- On the way through the branch `w` has the calls of `put` at 2, 5 and 8, those of `excess` at 4 and 7, and from 9 on what the lists and
--- the count are after it; on the way past it these stand from 1 on.
+-- On the way through the branch `w` has the calls of `put` at 2, 5 and 8, those of `excess` at 4 and 7, and
+-- from 9 on what the lists and the count are after it; on the way past it these stand from 1 on.
 loop-again : tie.Need-loop-again Inv-loop μ-loop
 loop-again c =
     let at = c .before .before .before .before .before .before .loop in

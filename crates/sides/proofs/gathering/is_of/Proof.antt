@@ -1,4 +1,5 @@
--- `sides::gathering::is_of` meets its contract: in each arm the kind is that arm's, and the tests say what passes. Assumes nothing.
+-- `sides::gathering::is_of` meets its contract: in each arm the kind is that arm's, and the tests say what
+-- passes. Assumes nothing.
 use borrow.Author.Needs.{needs}
 use Rattle.sides.proofs.Visited.{occurs-left, occurs-right}
 use Rattle.sides.proofs.gathering.is_of.Statement.{statement}

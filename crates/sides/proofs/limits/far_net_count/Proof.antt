@@ -1,4 +1,5 @@
--- `sides::limits::far_net_count` meets its contract. The loop's invariant: at no atom passed are the two counts too far apart. Assumes nothing.
+-- `sides::limits::far_net_count` meets its contract. The loop's invariant: at no atom passed are the two
+-- counts too far apart. Assumes nothing.
 use Prim.Native.Nat.{ℕ, _≤_, _<_, _-_}
 use native.Mathlib.Omega.{arith}
 use borrow.Author.Count.{below-none, below-more}

@@ -1,4 +1,5 @@
--- `sides::limits::wrong_byte` meets its contract. The loop's invariant: no byte passed is above the highest atom. Assumes nothing.
+-- `sides::limits::wrong_byte` meets its contract. The loop's invariant: no byte passed is above the highest
+-- atom. Assumes nothing.
 use Prim.Native.Nat.{ℕ, _≤_, _<_, _-_}
 use native.Mathlib.Omega.{arith}
 use borrow.Author.Needs.{needs}

@@ -1,4 +1,5 @@
--- `sides::limits::wrong_length` meets its contract: the first test settles too few, the second too many. Assumes nothing.
+-- `sides::limits::wrong_length` meets its contract: the first test settles too few, the second too many.
+-- Assumes nothing.
 use mathlib.Core.Logic.{inl}
 use native.Mathlib.Omega.{arith}
 use borrow.Author.Tests.{lt-ltb}

@@ -1,20 +1,24 @@
 -- `solve::groups::find_group` meets its contract: the two parts of a net count say what is found. Assumes nothing.
-use Prim.Native.Nat.{suc, _-_, _<_}
+use Prim.Native.Nat.{ℕ, suc, _-_, _<_}
 use mathlib.Core.Path.{_≡_, sym, subst}
 use native.Mathlib.Omega.{arith}
-use Rattle.solve.specs.Groups.{RowIn, FoundOf}
-use Rattle.solve.proofs.Finding.{found-balanced, found-constant}
 use borrow.Author.Needs.{needs}
+use Rattle.rows.specs.declared.Found.{Found}
+use Rattle.sides.specs.declared.Pair.{Pair}
+use Rattle.solve.specs.Groups.{FindsGroup}
+use Rattle.solve.proofs.Finding.{found-balanced, found-constant}
 use Rattle.solve.proofs.groups.find_group.Statement.{statement}
 use Rattle.solve.proofs.groups.find_group.Tie as tie
+
+-- what is found of a group is found of the same group
+as-group : {pair : Pair} {g group : ℕ} {found : Found} → g ≡ group → FindsGroup pair g found → FindsGroup pair group found
+as-group {pair} {found = found} same finds = subst (λ (g : ℕ). FindsGroup pair g found) same finds
 
 find-rows-requires : tie.Need-find-rows-requires
 find-rows-requires c κs = search needs
 
 returns : tie.Need-returns
-returns c = λ M L R of.
-    let r = c .find-rows .result in
-    subst (λ g. FoundOf 16 (RowIn M L R g) (c .before .before .before .before .before .before .args .pair .variables .count) (r .rows) (r .number)) (sym (c .before .if1 .taken)) (found-balanced of (c .find-rows .ensures))
+returns c = as-group (sym (c .before .if1 .taken)) (λ M L R of. found-balanced of (c .find-rows .ensures))
 
 sub-left : tie.Need-sub-left
 sub-left c = search needs
@@ -32,12 +36,11 @@ find-rows-requires-2 : tie.Need-find-rows-requires-2
 find-rows-requires-2 c κs = search needs
 
 returns-2 : tie.Need-returns-2
-returns-2 c = λ M L R of.
+returns-2 c =
     let a = c .before .before .before .before .before .before .before .before .args in
-    let r = c .find-rows2 .result in
     let above : suc (a .group - 1) ≡ a .group = omega arith in
     let within : a .group - 1 < a .pair .constants .count = omega arith in
-    subst (λ g. FoundOf 16 (RowIn M L R g) (a .pair .variables .count) (r .rows) (r .number)) above (found-constant of within (c .find-rows2 .ensures))
+    as-group above (λ M L R of. found-constant of within (c .find-rows2 .ensures))
 
 pub find-group-spec : {M : Type 1} → statement M
 find-group-spec =

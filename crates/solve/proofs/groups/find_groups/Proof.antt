@@ -1,4 +1,5 @@
--- `solve::groups::find_groups` meets its contract: before each turn the groups before that one stand at their places. Assumes nothing.
+-- `solve::groups::find_groups` meets its contract: before each turn the groups before that one stand at their
+-- places. Assumes nothing.
 use Prim.Native.Nat.{suc, _+_, _*_, _-_, _≤_, _<_}
 use mathlib.Core.Path.{_≡_, refl, _∙_}
 use native.Mathlib.Nat.{mul-le-mul}
@@ -25,7 +26,8 @@ find-group-requires c κs = (c .before .before .pre, omega arith)
 
 returns : tie.Need-returns Inv-loop μ-loop
 returns c M L R of =
-    put-too-many {g = c .before .before .before .loop .group} refl (omega (arith, of .the-constants .how-many)) (c .before .find-group .ensures M L R of .more (c .if1 .taken))
+    let more = c .before .find-group .ensures M L R of .more (c .if1 .taken) in
+    put-too-many {g = c .before .before .before .loop .group} refl (omega (arith, of .the-constants .how-many)) more
 
 slice-aggregate-spread : tie.Need-slice-aggregate-spread Inv-loop μ-loop
 slice-aggregate-spread c = search needs

@@ -42,13 +42,15 @@ part-put-bytes-end : tie.Need-part-put-bytes-end Inv-loop μ-loop
 part-put-bytes-end c = omega (arith, c .before .before .before .before .before .pre .0 .3)
 
 put-bytes-requires : tie.Need-put-bytes-requires Inv-loop μ-loop
-put-bytes-requires c κs = let a = c .before .before .before .before .before .before .args in
+put-bytes-requires c κs =
+    let start = c .before .before .before .before .before .before in
+    let rows = start .args .rows .now in
+    let p = start .pre .0 in
     let l = c .before .before .before .loop in
-    let p = c .before .before .before .before .before .before .pre .0 in
     omega (
       arith,
-      ap length (row-part (a .rows .now) (p .3) (p .0) (p .2) (l .i)),
-      row-fits (a .rows .now) (p .3) (p .0) (p .2) (c .before .before .loop-test .taken) (p .1) (l .inv .1) (c .before .before .before .before .before .before .pre .1),
+      ap length (row-part rows (p .3) (p .0) (p .2) (l .i)),
+      row-fits rows (p .3) (p .0) (p .2) (c .before .before .loop-test .taken) (p .1) (l .inv .1) (start .pre .1),
     )
 
 add-i : tie.Need-add-i Inv-loop μ-loop
@@ -58,18 +60,20 @@ loop-less : tie.Need-loop-less Inv-loop μ-loop
 loop-less c = omega arith
 
 loop-again : tie.Need-loop-again Inv-loop μ-loop
-loop-again c = let a = c .before .before .before .before .before .before .before .before .before .args in
+loop-again c =
+    let start = c .before .before .before .before .before .before .before .before .before in
+    let a = start .args in
+    let p = start .pre .0 in
     let l = c .before .before .before .before .before .before .loop in
-    let p = c .before .before .before .before .before .before .before .before .before .pre .0 in (
-      omega arith,
-      put-row (a .places) (a .group) (a .rows .now) (l .i) (l .inv .1) (row-part (a .rows .now) (p .3) (p .0) (p .2) (l .i)) (c .before .before .put-bytes .ensures),
-    )
+    let bytes = row-part (a .rows .now) (p .3) (p .0) (p .2) (l .i) in
+    (omega arith, put-row (a .places) (a .group) (a .rows .now) (l .i) (l .inv .1) bytes (c .before .before .put-bytes .ensures))
 
 same-length : tie.Need-same-length Inv-loop μ-loop
 same-length c = put-length (c .before .loop .inv .1)
 
 returns : tie.Need-returns Inv-loop μ-loop
-returns c = let a = c .before .before .before .before .args in
+returns c =
+    let a = c .before .before .before .before .args in
     let same : c .before .loop .i ≡ a .count = omega arith in
     put-as (ap (λ (n : ℕ). bytesOf (groupIn (a .places) (a .rows .now) (a .group) n)) same) (c .before .loop .inv .1)
 

@@ -1,4 +1,5 @@
--- `solve::writing::put_groups` meets its contract: before each turn the groups before that one have been put. Assumes nothing.
+-- `solve::writing::put_groups` meets its contract: before each turn the groups before that one have been put.
+-- Assumes nothing.
 use Prim.Native.Nat.{_+_, _*_, _≤_, _<_, _-_}
 use mathlib.Core.Path.{_≡_, sym, ap, _∙_}
 use native.Mathlib.Omega.{arith}
@@ -31,14 +32,15 @@ slice-aggregate-put-group : tie.Need-slice-aggregate-put-group Inv-loop μ-loop
 slice-aggregate-put-group c = search needs
 
 put-group-requires : tie.Need-put-group-requires Inv-loop μ-loop
-put-group-requires c κs = let t = c .before .before .before .before .before .before .before .before .args .table in
-    let w = c .before .before .before .before .before .before .before .before .pre .0 in
+put-group-requires c κs =
+    let start = c .before .before .before .before .before .before .before .before in
+    let t = start .args .table in
+    let w = start .pre .0 in
     let l = c .before .before .before .before .loop in
     let size : length (t .rows) ≡ 480 = search needs in
-    let few : l .group < 5 = omega (arith, w .constants-fit) in (
-      (w .places-fit, w .sizes-fit (l .group), few, size),
-      omega (arith, group-room (t .rows) size (w .places-fit) few (getD (t .sizes) (l .group) 0) (w .sizes-fit (l .group)), l .inv .1, put-length (l .inv .2), c .before .before .before .before .before .before .before .before .pre .1),
-    )
+    let few : l .group < 5 = omega (arith, w .constants-fit) in
+    let room = group-room (t .rows) size (w .places-fit) few (getD (t .sizes) (l .group) 0) (w .sizes-fit (l .group)) in
+    ((w .places-fit, w .sizes-fit (l .group), few, size), omega (arith, room, l .inv .1, put-length (l .inv .2), start .pre .1))
 
 add-group : tie.Need-add-group Inv-loop μ-loop
 add-group c = omega (arith, c .before .before .before .before .before .before .before .before .before .before .before .pre .0 .constants-fit)
@@ -47,8 +49,10 @@ loop-less : tie.Need-loop-less Inv-loop μ-loop
 loop-less c = omega arith
 
 loop-again : tie.Need-loop-again Inv-loop μ-loop
-loop-again c = let t = c .before .before .before .before .before .before .before .before .before .before .before .args .table in
-    let w = c .before .before .before .before .before .before .before .before .before .before .before .pre .0 in
+loop-again c =
+    let start = c .before .before .before .before .before .before .before .before .before .before .before in
+    let t = start .args .table in
+    let w = start .pre .0 in
     let l = c .before .before .before .before .before .before .before .loop in
     let size : length (t .rows) ≡ 480 = search needs in
     let few : l .group < 5 = omega (arith, w .constants-fit) in (
@@ -67,10 +71,13 @@ same-length : tie.Need-same-length Inv-loop μ-loop
 same-length c = put-length (c .before .before .loop .inv .2)
 
 returns : tie.Need-returns Inv-loop μ-loop
-returns c = let t = c .before .before .before .before .before .before .args .table in
-    let same : c .before .before .loop .group ≡ t .unbalanced + 1 = omega arith in (
-      put-as (ap bytesOf (ap (rowsBefore t) same ∙ sym (all-rows (c .before .before .before .before .before .before .pre .0) (search needs)))) (c .before .before .loop .inv .2),
-      omega (arith, c .before .before .before .before .before .before .pre .0 .constants-fit, c .before .before .loop .inv .1),
+returns c =
+    let start = c .before .before .before .before .before .before in
+    let t = start .args .table in
+    let l = c .before .before .loop in
+    let same : l .group ≡ t .unbalanced + 1 = omega arith in (
+      put-as (ap bytesOf (ap (rowsBefore t) same ∙ sym (all-rows (start .pre .0) (search needs)))) (l .inv .2),
+      omega (arith, start .pre .0 .constants-fit, l .inv .1),
     )
 
 pub put-groups-spec : {M : Type 1} → statement M

@@ -1,7 +1,7 @@
 #!/usr/bin/env python3
-"""Make the stored libraries of tests/nightly and what the nightly program must print of them.
+"""Make what tests/nightly runs: the libraries in tests/libraries, and what must be printed of them and of the examples.
 
-    tools/nightly_cases.py SECOND FOLDER
+    tools/nightly_cases.py SECOND
 
 SECOND is the second solver's program; it prints, the proved program does not.
 """
@@ -9,64 +9,54 @@ import subprocess
 import sys
 from pathlib import Path
 
-ATOM = {"v": 0, "c": 64}
+from library import block, left_brackets, library, pair, right_brackets
 
-# document 01, "Pairs worked by hand"; the last has 204 unifiers (source document 002, B.2), more than a page
-WORKED = """
-v0 = v1 c0|v0 v1 = v2 v3|v0 v0 = v1 v2|v0 c0 = v1 c1|v0 v0 = v1 c0|v0 v0 v0 = v1 v1|v0 = v0|c0 = c0|v0 = v0 v1|v0 v1 = c0|v0 v0 = c0|v0 v1 = c0 c1
-|v0 v0 v0 v0 v4 = v1 v2 v3 v4|v0 v0 v0 v0 v4 v5 = v1 v2 v3 v4 v5|v0 v1 v2 = c0 c0 c0 c0|v0 v1 v2 = c0 c0 c0 c0 c0|v0 v0 v0 v0 v0 v0 v0 v0 = v1
-|v0 v0 v0 v0 v0 v0 v0 v0 v0 = v1|v0 = c0 c1 c2 c3|v0 = c0 c1 c2 c3 c4|v0 v1 v2 = v3 v4 v5|v0 v1 v2 = v3 v4 v5 v6|v0 v1 c0 = v2 v3 v4 c1
-"""
+ROOT = Path(__file__).resolve().parent.parent
+EXAMPLES = sorted((ROOT / "examples").glob("*.txt"))
+LIBRARIES = ROOT / "tests" / "libraries"
 
-
-def atoms(text):
-    return [ATOM[word[0]] + int(word[1:]) for word in text.split()]
+# 204 unifiers (source document 002, B.2), more than a page
+LONG = "v0+v1+c0 = v2+v3+v4+c1"
 
 
-def right_comb(side):
-    """128, the first atom, the rest, down to the last atom."""
-    return bytes(b for a in side[:-1] for b in (128, a)) + bytes(side[-1:])
+def damaged(place, whole):
+    """The block with a byte changed, at another place in each."""
+    at = 37 * place % 512
+    return whole[:at] + bytes([whole[at] ^ 1]) + whole[at + 1 :]
 
 
-def left_comb(side):
-    return bytes([128] * (len(side) - 1) + side)
-
-
-def block(place, left, right):
-    head = bytes([place // 256 % 256, place % 256, len(left), len(right)]) + left + right
-    body = head + bytes(510 - len(head))
-    check = 65535 - sum(body) % 65536
-    return body + bytes([check // 256, check % 256])
-
-
-def pairs(texts):
-    sides = [[right_comb(atoms(side)) for side in text.split("=")] for text in texts]
-    return [block(place, *pair) for place, pair in enumerate(sides)]
-
-
-def damaged(blocks):
-    """Every other block with one byte changed, at another place in each."""
-    return [b if i % 2 else b[: 37 * i % 512] + bytes([b[37 * i % 512] ^ 1]) + b[37 * i % 512 + 1 :] for i, b in enumerate(blocks)]
+def nested(first):
+    """64 atoms, the most that brackets can hold."""
+    return [bytes([atom]) for atom in [first] + [0] * 7 + [70] * 56]
 
 
 def cases():
-    worked = pairs(WORKED.replace("\n", "").split("|"))
-    deep = [0] * 8 + [70] * 56
+    """The libraries by name."""
+    worked = list(library((ROOT / "examples" / "worked.txt").open()))
+    worked.append(block(len(worked), *pair(LONG)))
     yield "empty", b""
     yield "short", worked[0][:100]
-    yield "worked", b"".join(worked)
     yield "every_kind", b"".join(worked) + bytes(512) + worked[1][:511]
-    yield "damaged", b"".join(damaged(worked))
-    yield "brackets", block(0, left_comb(deep), right_comb([1] + deep[1:])) + block(1, right_comb(deep), left_comb([1] + deep[1:]))
-    yield "no_variables", b"".join(pairs(["c0 = c0", "c0 c1 = c1 c0", "c0 = c1"]))
+    yield "damaged", b"".join(whole if i % 2 else damaged(i, whole) for i, whole in enumerate(worked))
+    one, other = nested(0), nested(1)
+    yield "brackets", block(0, left_brackets(one), right_brackets(other)) + block(1, right_brackets(one), left_brackets(other))
+    yield "no_variables", b"".join(library(["c0 = c0", "c0+c1 = c1+c0", "c0 = c1"]))
+
+
+def printed(program, made):
+    """What the second solver prints of a library."""
+    return subprocess.run([program, "nightly"], input=made, capture_output=True, check=True).stdout
 
 
 def main():
-    program, folder = sys.argv[1], Path(sys.argv[2])
-    for name, library in cases():
-        (folder / f"{name}.lib").write_bytes(library)
-        printed = subprocess.run([program, "nightly"], input=library, capture_output=True, check=True).stdout
-        (folder / f"{name}.out").write_bytes(printed)
+    if len(sys.argv) != 2:
+        sys.exit(__doc__)
+    for name, made in cases():
+        (LIBRARIES / f"{name}.lib").write_bytes(made)
+        (LIBRARIES / f"{name}.out").write_bytes(printed(sys.argv[1], made))
+    for example in EXAMPLES:
+        made = b"".join(library(example.open()))
+        example.with_suffix(".out").write_bytes(printed(sys.argv[1], made))
 
 
 main()

@@ -8,13 +8,9 @@ The answers come from a reader of blocks of its own, written from document 01.
 """
 import sys
 
-from library import PLUS, block
+from library import PLUS, block, left_brackets, right_brackets, with_check
 
 EXAMPLE = block(0, bytes([PLUS, 0, 1]), bytes([PLUS, 64, 65]))
-
-
-def with_check(filled):
-    return filled + (65535 - sum(filled) % 65536).to_bytes(2, "big")
 
 
 def changed(whole, place, byte):
@@ -22,16 +18,8 @@ def changed(whole, place, byte):
     return with_check(whole[:place] + bytes([byte]) + whole[place + 1 : 510])
 
 
-def left_brackets(atoms):
-    return bytes([PLUS] * (len(atoms) - 1)) + bytes(atoms)
-
-
-def right_brackets(atoms):
-    return b"".join(bytes([PLUS, a]) for a in atoms[:-1]) + bytes(atoms[-1:])
-
-
-UP = list(range(64))
-DOWN = list(range(127, 63, -1))
+UP = [bytes([atom]) for atom in range(64)]
+DOWN = [bytes([atom]) for atom in range(127, 63, -1)]
 
 # name, block, expected number, length of the left buffer and of the right one
 CASES = [

@@ -11,10 +11,10 @@ use mathlib.Core.List.{List, [], _∷_}
 use lib.ListN.{getD}
 use Rattle.ac.specs.Lists.{sum}
 use Rattle.ac.specs.Rows.{_≼_, _≼_.place}
-use Rattle.ac.specs.Equation.{dot, Equation, Solves, Minimal}
-use Rattle.ac.specs.Search.{Enough}
-use Rattle.ac.proofs.Vectors.{weighted, at, dot-weighted, Rest, rest-of}
-use Rattle.ac.proofs.Walk.{weighted-zero, isUp, up, down, Smallest, lambert}
+use Rattle.ac.specs.Equation.{dot, weighted, coefficient, Equation, Solves, Minimal}
+use Rattle.ac.specs.Budgets.{isUp, up, down, upSum, downSum, Enough}
+use Rattle.ac.proofs.Vectors.{dot-weighted, Rest, rest-of}
+use Rattle.ac.proofs.Walk.{weighted-zero, Smallest, lambert}
 
 entry-weighted : (f : ℕ → ℕ) (v : List ℕ) (i : ℕ) → f i * getD v i 0 ≤ weighted f v
 entry-weighted f [] i = omega arith
@@ -23,10 +23,10 @@ entry-weighted f (x ∷ v) (suc i) = omega (arith, entry-weighted (λ j. f (suc 
 
 module _ (E : Equation) {v : List ℕ} (minimal : Minimal E v) where
   abbrev p : ℕ → ℕ
-  p = at (E .left)
+  p = coefficient (E .left)
 
   abbrev n : ℕ → ℕ
-  n = at (E .right)
+  n = coefficient (E .right)
 
   abbrev equal-weighted : (u : List ℕ) → dot (E .left) u + E .left-offset ≡ dot (E .right) u + E .right-offset → weighted p u + E .left-offset ≡ weighted n u + E .right-offset
   equal-weighted u e = omega (arith, dot-weighted (E .left) u, dot-weighted (E .right) u)
@@ -42,10 +42,10 @@ module _ (E : Equation) {v : List ℕ} (minimal : Minimal E v) where
 
   -- the offsets' place in front, with the entry 1
   abbrev p₁ : ℕ → ℕ
-  p₁ = at (E .left-offset ∷ E .left)
+  p₁ = coefficient (E .left-offset ∷ E .left)
 
   abbrev n₁ : ℕ → ℕ
-  n₁ = at (E .right-offset ∷ E .right)
+  n₁ = coefficient (E .right-offset ∷ E .right)
 
   module _ (apart : E .homogeneous ≡ true → E .left-offset ≡ E .right-offset → ⊥) where
     -- where the equation asks for a vector that is not all zero, its sums give one
@@ -85,13 +85,13 @@ module _ (E : Equation) {v : List ℕ} (minimal : Minimal E v) where
     bounded-extended (suc i) = enough .places i
 
     -- Lambert's bound: the entries at places where left is at least right sum to at most the one budget, the others to at most the other.
-    pub lambert-bound : (weighted (up p n) v ≤ up′) × (weighted (down p n) v ≤ down′)
+    pub lambert-bound : (upSum (E .left) (E .right) v ≤ up′) × (downSum (E .left) (E .right) v ≤ down′)
     lambert-bound = by-kind (E .homogeneous) refl (ℕ-discrete (E .left-offset) (E .right-offset))
       where
-        extended : (E .homogeneous ≡ true → E .left-offset ≡ E .right-offset → ⊥) → (weighted (up p n) v ≤ up′) × (weighted (down p n) v ≤ down′)
+        extended : (E .homogeneous ≡ true → E .left-offset ≡ E .right-offset → ⊥) → (upSum (E .left) (E .right) v ≤ up′) × (downSum (E .left) (E .right) v ≤ down′)
         extended apart = omega (arith, lambert p₁ n₁ (1 ∷ v) (smallest-extended apart) down′ up′ (enough .some) bounded-extended)
 
-        by-kind : (b : Bool) → E .homogeneous ≡ b → Dec (E .left-offset ≡ E .right-offset) → (weighted (up p n) v ≤ up′) × (weighted (down p n) v ≤ down′)
+        by-kind : (b : Bool) → E .homogeneous ≡ b → Dec (E .left-offset ≡ E .right-offset) → (upSum (E .left) (E .right) v ≤ up′) × (downSum (E .left) (E .right) v ≤ down′)
         by-kind true t (yes same) = lambert p n v (smallest-balanced t same) down′ up′ (enough .some) (enough .places)
         by-kind true t (no other) = extended (λ t same. other same)
         by-kind false t d = extended (λ t′ same. true≢false (sym t′ ∙ t))

@@ -6,16 +6,10 @@ use native.Mathlib.Omega.{arith}
 use native.Mathlib.Decide.{decLt}
 use lib.ListN.{length, getD}
 use Rattle.ac.specs.Lists.{sum, Ascending, none, next}
-use Rattle.ac.specs.Rows.{_≼_, _≼_.none, place, _≺_, Least}
+use Rattle.ac.specs.Rows.{_≼_, _≺_, Least}
 use Rattle.ac.proofs.Places.{getD-member}
+use Rattle.ac.proofs.Vectors.{≼-entries}
 use Rattle.ac.proofs.Order.{≺-asymmetric}
-
--- at or below, by places
-pub below-by-places : (u v : List ℕ) → length u ≡ length v → ((i : ℕ) → i < length v → getD u i 0 ≤ getD v i 0) → u ≼ v
-below-by-places [] [] long each = none
-below-by-places [] (n ∷ v) long each = absurd (omega arith)
-below-by-places (m ∷ u) [] long each = absurd (omega arith)
-below-by-places (m ∷ u) (n ∷ v) long each = place (each 0 (omega arith)) (below-by-places u v (omega arith) (λ i h. each (suc i) (omega arith)))
 
 -- a vector that is not all zero is above 0 in some place
 pub positive-place : (v : List ℕ) → 0 < sum v → (i : ℕ) × (i < length v) × (0 < getD v i 0)
@@ -57,4 +51,4 @@ row-equal {Has} {rows} k ascending only i j h h′ lower =
     upper = only (getD rows j []) (getD-member rows j [] h′)
 
     below : getD rows i [] ≼ getD rows j []
-    below = below-by-places (getD rows i []) (getD rows j []) (low .0 ∙ sym (upper .0)) (λ p l. lower p (subst (λ n. p < n) (upper .0) l))
+    below = ≼-entries (getD rows i []) (getD rows j []) (low .0 ∙ sym (upper .0)) (λ p l. lower p (subst (λ n. p < n) (upper .0) l))

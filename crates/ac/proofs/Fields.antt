@@ -4,22 +4,14 @@ use native.Mathlib.Omega.{arith}
 use native.Mathlib.Nat.{eq-or-lt-of-le, suc-inj, suc-sub-suc, mul-zero, zero-div, mod-eq-of-lt}
 use mathlib.Core.Path.{_≡_, refl, sym, ap, subst, _∙_}
 use mathlib.Core.Logic.{⊎-elim}
-use mathlib.Core.Bool.{false}
 use mathlib.Core.List.{List, [], _∷_}
 use lib.ListN.{length, getD}
 use lib.Pow.{pow-pos, shr-shr, field, mod-pow-add, mod-mod-pow}
-use Rattle.ac.specs.Lists.{from, below}
-use Rattle.ac.specs.Rows.{Group, Groups}
+use Rattle.ac.specs.Lists.{from}
+use Rattle.ac.specs.Rows.{Group, Groups, rowsAt}
 use Rattle.ac.specs.Selection.{Within, none, index}
 use Rattle.ac.specs.Keys.{Layout, Fits, Candidate, bit, bits, fieldsOf, fieldAt, selectionAt}
-use Rattle.ac.proofs.Places.{getD-map}
-use Rattle.ac.proofs.Keys.{length-from, next-field}
-
--- the rows of the group at a place
-abbrev pub rowsAt : List Group → ℕ → List (List ℕ)
-rowsAt [] place = []
-rowsAt (g ∷ gs) zero = g .rows
-rowsAt (g ∷ gs) (suc place) = rowsAt gs place
+use Rattle.ac.proofs.Keys.{next-field}
 
 -- within their groups, place by place
 pub within-places : {gs : List Group} {is : List ℕ} → Within gs is → (place : ℕ) → place < length gs → getD is place 0 < length (rowsAt gs place)
@@ -34,17 +26,6 @@ places-within [] (i ∷ is) e each = absurd (omega arith)
 places-within (g ∷ gs) [] e each = absurd (omega arith)
 places-within (g ∷ gs) (i ∷ is) e each =
     index (each 0 (omega arith)) (places-within gs is (omega arith) (λ place h. each (suc place) (omega arith)))
-
-getD-from : (a n i : ℕ) → i < n → getD (from a n) i 0 ≡ a + i
-getD-from a zero i h = absurd (omega arith)
-getD-from a (suc n) zero h = omega arith
-getD-from a (suc n) (suc i) h = getD-from (suc a) n i (omega arith) ∙ omega arith
-
--- what stands at a place among the lowest n bits is the bit of that place
-pub bits-at : (n m i : ℕ) → i < n → getD (bits n m) i false ≡ bit m i
-bits-at n m i h =
-    let within : i < length (below n) = omega (arith, length-from 0 n) in
-    getD-map (bit m) (below n) i 0 false within ∙ ap (bit m) (getD-from 0 n i h ∙ omega arith)
 
 module _ (lay : Layout) where
   pub length-fieldsOf : (k : ℕ) (gs : List Group) (m : ℕ) → length gs ≤ k → length (fieldsOf lay k gs m) ≡ length gs
@@ -98,10 +79,6 @@ module _ {lay : Layout} {G : Groups} (fits : Fits lay G) (key : ℕ) where
   index-at place h =
       field-of lay (lay .constants) (G .constants) (key / 2 ^ (lay .rows)) place (fits .few-constants) h
       ∙ ap (λ (x : ℕ). x % 2 ^ (lay .index-bits)) (shr-shr key (lay .rows) (lay .index-bits * (lay .constants - suc place)))
-
-  -- a balanced row is taken exactly if the bit of its place is set
-  pub take-at : (place : ℕ) → place < length (G .balanced) → getD (selectionAt lay G key .takes) place false ≡ bit key place
-  take-at place h = bits-at (length (G .balanced)) key place h
 
   -- the fields counted from the lowest
   from-lowest : (j : ℕ) → j < lay .constants

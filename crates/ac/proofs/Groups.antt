@@ -3,33 +3,28 @@ use Prim.Native.Nat.{ℕ}
 use mathlib.Core.Path.{_≡_, refl, sym, ap, ap₂, subst, _∙_}
 use mathlib.Core.List.{List, [], _∷_, map, List·Memᴰ, List·Memᴰ·head, List·Memᴰ·tail, Memᴰ·of-map, nil≢cons, head-eq-of-cons-eq, tail-eq-of-cons-eq}
 use mathlib.Core.Logic.{Iff·symm}
-use lib.ListN.{length, length-map}
-use Rattle.ac.specs.Pair.{Mode, count, variables, unbalanced}
+use Rattle.ac.specs.Pair.{Mode, unbalanced}
 use Rattle.ac.specs.Rows.{Exactly, RowOf, Group, Groups, GroupsOf}
 use Rattle.ac.specs.Equation.{balancedEquation, equationOf}
 use Rattle.ac.specs.Search.{groupOf, groups}
 use Rattle.ac.proofs.Vectors.{exactly-same}
 use Rattle.ac.proofs.Order.{exactly-unique}
 use Rattle.ac.proofs.Bridge.{balanced-row-is-minimal, row-of-constant-is-minimal}
-use Rattle.ac.proofs.Solutions.{minimal-solutions-exact}
+use Rattle.ac.proofs.Search.{minimal-solutions-exact}
 
 module _ (M : Mode) (L R : List ℕ) where
-  -- both sides of the pair's equations have a coefficient for each variable
-  same-coefficients : length (map (λ x. count x L) (variables M L R)) ≡ length (map (λ x. count x R) (variables M L R))
-  same-coefficients = length-map (variables M L R) (λ x. count x L) ∙ sym (length-map (variables M L R) (λ x. count x R))
-
   constants-of : (cs : List ℕ) → map (λ (g : Group). g .constant) (map (groupOf M L R) cs) ≡ cs
   constants-of [] = refl
   constants-of (c ∷ cs) = ap (λ ds. c ∷ ds) (constants-of cs)
 
   group-rows : (c : ℕ) → Exactly (RowOf M L R c) (groupOf M L R c .rows)
-  group-rows c = exactly-same (λ v. Iff·symm (row-of-constant-is-minimal M L R c v)) (minimal-solutions-exact (equationOf M L R c) same-coefficients)
+  group-rows c = exactly-same (λ v. Iff·symm (row-of-constant-is-minimal M L R c v)) (minimal-solutions-exact (equationOf M L R c))
 
   -- Every pair has its groups.
   pub groups-exist : GroupsOf M L R (groups M L R)
   groups-exist =
       record {
-        balanced-rows = exactly-same (λ v. Iff·symm (balanced-row-is-minimal M L R v)) (minimal-solutions-exact (balancedEquation M L R) same-coefficients);
+        balanced-rows = exactly-same (λ v. Iff·symm (balanced-row-is-minimal M L R v)) (minimal-solutions-exact (balancedEquation M L R));
         the-constants = constants-of (unbalanced M L R);
         constant-rows = λ g m. by-origin g (Memᴰ·of-map (groupOf M L R) (unbalanced M L R) m);
       }

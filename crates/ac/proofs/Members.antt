@@ -8,6 +8,7 @@ use mathlib.Core.List.{List, [], _∷_, _++_, map, List·Memᴰ, List·Memᴰ·h
 use mathlib.Core.List.{List·Memᴰ·append-cases, Memᴰ·append-left, Memᴰ·append-right}
 use Rattle.ac.specs.Lists.{below, keep, filter, flatMap, Ascending, none, next}
 use Rattle.ac.proofs.Places.{from-bounds, from-member}
+use Rattle.ac.proofs.Order.{ascending-append}
 
 -- the numbers below n
 pub below-members : (n : ℕ) {i : ℕ} → List·Memᴰ i (below n) → i < n
@@ -51,15 +52,6 @@ member-splits {A = A} (List·Memᴰ·head {x = b} {xs = rest} e) = ([], rest, ap
 member-splits {A = A} (List·Memᴰ·tail {x = b} m) =
     let t = member-splits m in
     (b ∷ t .0, t .1, ap {B = List A} (λ l. b ∷ l) (t .2))
-
-module _ {A : Type 0} {_before_ : A → A → Type 0} where
-  -- two ascending lists, all of the one before all of the other
-  pub ascending-append : {xs ys : List A} → Ascending _before_ xs → Ascending _before_ ys
-      → ((a b : A) → List·Memᴰ a xs → List·Memᴰ b ys → _before_ a b) → Ascending _before_ (xs ++ ys)
-  ascending-append none later between = later
-  ascending-append {ys = ys} (next {a = a} {rest = rest} first here) later between =
-      next (λ b m. ⊎-elim (λ h. first b h) (λ h. between a b (List·Memᴰ·head refl) h) (List·Memᴰ·append-cases rest m))
-      (ascending-append here later (λ c b m h. between c b (List·Memᴰ·tail m) h))
 
 -- an order that implies another on the members
 pub ascending-in : {A : Type 0} {_before_ _earlier_ : A → A → Type 0} {xs : List A}

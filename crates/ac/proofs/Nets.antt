@@ -5,9 +5,8 @@ use mathlib.Core.Path.{_≡_, refl, sym, ap, _∙_}
 use mathlib.Core.Logic.{_↔_}
 use mathlib.Core.List.{List, [], _∷_}
 use lib.ListN.{length, getD}
-use Rattle.ac.specs.Equation.{Equation, Solves, Minimal}
-use Rattle.ac.specs.Search.{beyond, netted}
-use Rattle.ac.proofs.Vectors.{same-length, least-same, weighted, at, dot-weighted}
+use Rattle.ac.specs.Equation.{weighted, coefficient, Equation, Solves, Minimal, beyond, netted}
+use Rattle.ac.proofs.Vectors.{same-length, least-same, dot-weighted}
 
 pub record SameNets (E F : Equation) : Type 0 where
   pub homogeneous : E .homogeneous ≡ F .homogeneous
@@ -44,7 +43,7 @@ module _ {E F : Equation} (same : SameNets E F) where
               arith,
               s .equal,
               same .offsets,
-              weighted-differences (at (E .left)) (at (E .right)) (at (F .left)) (at (F .right)) v (λ i h. same .places i (let k : i < length (E .left) = omega arith in k)),
+              weighted-differences (coefficient (E .left)) (coefficient (E .right)) (coefficient (F .left)) (coefficient (F .right)) v (λ i h. same .places i (let k : i < length (E .left) = omega arith in k)),
               dot-weighted (E .left) v,
               dot-weighted (E .right) v,
               dot-weighted (F .left) v,

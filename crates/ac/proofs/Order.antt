@@ -4,9 +4,9 @@ use native.Mathlib.Omega.{arith}
 use mathlib.Core.Path.{ap, _≡_, refl, sym, ap₂, subst, _∙_}
 use mathlib.Core.Logic.{_↔_, _⊎_, inl, inr}
 use mathlib.Core.Bool.{Bool, true, false}
-use mathlib.Core.List.{List, [], _∷_, _++_, List·Memᴰ·append-cases, List·Memᴰ, List·Memᴰ·head, List·Memᴰ·tail, List·Memᴰ·not-nil, List·Memᴰ·eq-of-singleton}
+use mathlib.Core.List.{List, [], _∷_, _++_, List·Memᴰ·append-cases, List·Memᴰ, List·Memᴰ·head, List·Memᴰ·tail, List·Memᴰ·not-nil}
 use Rattle.ac.specs.Lists.{keep, filter, Ascending, Ascending.none, Ascending.next}
-use Rattle.ac.specs.Rows.{Exactly, _≼_, _≼_.place, _≺_, _≺_.here, _≺_.later}
+use Rattle.ac.specs.Rows.{Exactly, _≺_, _≺_.here, _≺_.later}
 
 -- no vector is before another and that one before it
 pub ≺-asymmetric : {u v : List ℕ} → u ≺ v → v ≺ u → ⊥
@@ -14,11 +14,6 @@ pub ≺-asymmetric : {u v : List ℕ} → u ≺ v → v ≺ u → ⊥
 ≺-asymmetric (here h) (later l) = omega arith
 ≺-asymmetric (later l) (here h) = omega arith
 ≺-asymmetric (later l) (later l′) = ≺-asymmetric l l′
-
--- what is at or below a vector does not come after it
-pub ≼-not-after : {u v : List ℕ} → u ≼ v → v ≺ u → ⊥
-≼-not-after (place h below) (here h′) = omega arith
-≼-not-after (place h below) (later l) = ≼-not-after below l
 
 module _ {A : Type 0} {_before_ : A → A → Type 0} (asymmetric : (a b : A) → _before_ a b → _before_ b a → ⊥) where
   -- the first members of two ascending lists with the same members are equal
@@ -63,9 +58,6 @@ module _ {A : Type 0} {_before_ : A → A → Type 0} where
   pub ascending-single : (a : A) → Ascending _before_ (a ∷ [])
   ascending-single a = next (λ b m. absurd (List·Memᴰ·not-nil m)) none
 
-  pub ascending-next : {a : A} {xs : List A} → Ascending _before_ (a ∷ xs) → ((b : A) → List·Memᴰ b xs → _before_ a b) × Ascending _before_ xs
-  ascending-next (next others ascending) = (others, ascending)
-
   pub ascending-append : {xs ys : List A} → Ascending _before_ xs → Ascending _before_ ys
       → ((a b : A) → List·Memᴰ a xs → List·Memᴰ b ys → _before_ a b) → Ascending _before_ (xs ++ ys)
   ascending-append none ascending-ys apart = ascending-ys
@@ -75,11 +67,6 @@ module _ {A : Type 0} {_before_ : A → A → Type 0} where
       by-part : (b : A) → List·Memᴰ b xs ⊎ List·Memᴰ b ys → _before_ a b
       by-part b (inl m) = others b m
       by-part b (inr m) = apart a b (List·Memᴰ·head refl) m
-
-  -- one more behind all others
-  pub ascending-last : {xs : List A} {a : A} → Ascending _before_ xs → ((b : A) → List·Memᴰ b xs → _before_ b a) → Ascending _before_ (xs ++ (a ∷ []))
-  ascending-last {a = a} ascending each =
-      ascending-append ascending (ascending-single a) (λ b c m m′. subst (λ d. _before_ b d) (sym (List·Memᴰ·eq-of-singleton m′)) (each b m))
 
 -- The members that pass a test, and their order.
 module _ {A : Type 0} (test : A → Bool) where

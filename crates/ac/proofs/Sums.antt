@@ -10,8 +10,9 @@ use lib.IntN.{pos, negℤ}
 use Rattle.ac.specs.Lists.{sum}
 use Rattle.ac.specs.Pair.{Mode, count, net, variables}
 use Rattle.ac.specs.Rows.{IsVector, weight, Least, _≼_, Exactly, Group, Groups, GroupsOf}
-use Rattle.ac.specs.Equation.{dot, Equation, Solves, Minimal, balancedEquation, combined, SumOf, RowAndSum}
-use Rattle.ac.proofs.Vectors.{same-length, ≼-refl, ≼-trans, decide-≼, least-unless, at, dot-weighted, Rest, rest-of, exactly-same}
+use Rattle.ac.specs.Equation.{dot, coefficient, Equation, Solves, Minimal, balancedEquation, combined, SumOf, RowAndSum}
+use Rattle.ac.proofs.Vectors.{same-length, ≼-refl, ≼-trans, decide-≼, least-unless, dot-weighted, Rest, rest-of, exactly-same}
+use Rattle.ac.proofs.Places.{getD-member}
 use Rattle.ac.proofs.Bridge.{weight-zero, weight-of-constant, balanced-row-is-minimal, row-of-constant-is-minimal}
 
 -- Some row is below.
@@ -21,12 +22,6 @@ pub record RowBelow (rows : List (List ℕ)) (v : List ℕ) : Type 0 where
   pub index : ℕ
   pub within : index < length rows
   pub below : getD rows index [] ≼ v
-
--- the row at an index within the list is a member of it
-pub member-at : (rows : List (List ℕ)) (i : ℕ) → i < length rows → List·Memᴰ (getD rows i []) rows
-member-at [] i h = absurd (omega arith)
-member-at (r ∷ rows) zero h = List·Memᴰ·head refl
-member-at (r ∷ rows) (suc i) h = List·Memᴰ·tail (member-at rows i (omega arith))
 
 first-below : {r : List ℕ} {rows : List (List ℕ)} {v : List ℕ} → r ≼ v → RowBelow (r ∷ rows) v
 first-below h = record { index = 0; within = omega arith; below = h }
@@ -117,14 +112,14 @@ minimal-below E {rows} exact = row-below rows (λ v vector least. exact .all v (
 
 module _ (left right : List ℕ) {balanced : List (List ℕ)} (exact : Exactly (Minimal (homogeneousOf left right)) balanced) where
   dot-rest : (l : List ℕ) {u v : List ℕ} (r : Rest u v) → dot l v ≡ dot l u + dot l (r .rest)
-  dot-rest l {u} {v} r = omega (arith, dot-weighted l v, dot-weighted l u, dot-weighted l (r .rest), r .products (at l))
+  dot-rest l {u} {v} r = omega (arith, dot-weighted l v, dot-weighted l u, dot-weighted l (r .rest), r .products (coefficient l))
 
   -- no balanced row is all zero, and both sums of a row agree
   row-positive : (b : ℕ) → b < length balanced → 0 < sum (getD balanced b [])
-  row-positive b h = exact .only (getD balanced b []) (member-at balanced b h) .least .has .not-all-zero refl
+  row-positive b h = exact .only (getD balanced b []) (getD-member balanced b [] h) .least .has .not-all-zero refl
 
   row-equal : (b : ℕ) → b < length balanced → dot left (getD balanced b []) ≡ dot right (getD balanced b [])
-  row-equal b h = omega (arith, exact .only (getD balanced b []) (member-at balanced b h) .least .has .equal)
+  row-equal b h = omega (arith, exact .only (getD balanced b []) (getD-member balanced b [] h) .least .has .equal)
 
   no-rows : {v : List ℕ} → sum v ≤ 0 → SumOf balanced v
   no-rows {v} small =
@@ -175,7 +170,7 @@ module _ (left right : List ℕ) {balanced : List (List ℕ)} (exact : Exactly (
       with-row row =
           let r : Rest (getD rows (row .index) []) v = rest-of (row .below) in
           let equal : dot left (getD rows (row .index) []) + a ≡ dot right (getD rows (row .index) []) + b =
-          exact-rows .only (getD rows (row .index) []) (member-at rows (row .index) (row .within)) .least .has .equal in
+          exact-rows .only (getD rows (row .index) []) (getD-member rows (row .index) [] (row .within)) .least .has .equal in
           let s : SumOf balanced (r .rest) =
           homogeneous-sum (r .rest) (same-length (r .below) ∙ vector)
           (let e : dot left (r .rest) ≡ dot right (r .rest) = omega (arith, dot-rest left r, dot-rest right r, equal, solves .equal) in e) in

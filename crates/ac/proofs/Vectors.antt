@@ -8,7 +8,7 @@ use mathlib.Core.Logic.{_↔_}
 use mathlib.Core.List.{List, [], _∷_}
 use lib.ListN.{length, getD}
 use Rattle.ac.specs.Lists.{sum}
-use Rattle.ac.specs.Equation.{dot}
+use Rattle.ac.specs.Equation.{dot, weighted, coefficient}
 use Rattle.ac.specs.Rows.{Least, Exactly, _≼_, _≼_.none, _≼_.place}
 
 -- At or below.
@@ -34,6 +34,18 @@ pub ≼-equal : {u v : List ℕ} → u ≼ v → sum v ≤ sum u → u ≡ v
 ≼-equal none le = refl
 ≼-equal (place {m = m} {n = n} {u = u} {v = v} h below) le =
     ap₂ {C = List ℕ} (λ a w. a ∷ w) (let e : m ≡ n = omega (arith, sum-mono below) in e) (≼-equal below (let h′ : sum v ≤ sum u = omega arith in h′))
+
+-- at or below, entry by entry
+pub ≼-entry : {u v : List ℕ} → u ≼ v → (i : ℕ) → getD u i 0 ≤ getD v i 0
+≼-entry none i = le-refl 0
+≼-entry (place h below) zero = h
+≼-entry (place h below) (suc i) = ≼-entry below i
+
+pub ≼-entries : (u v : List ℕ) → length u ≡ length v → ((i : ℕ) → i < length v → getD u i 0 ≤ getD v i 0) → u ≼ v
+≼-entries [] [] same each = none
+≼-entries [] (n ∷ v) same each = absurd (omega arith)
+≼-entries (m ∷ u) [] same each = absurd (omega arith)
+≼-entries (m ∷ u) (n ∷ v) same each = place (each 0 (omega arith)) (≼-entries u v (omega arith) (λ i h. each (suc i) (omega arith)))
 
 -- what is least for one property is least for another that holds of the same vectors
 pub least-same : {Has Has′ : List ℕ → Type 0} {v : List ℕ}
@@ -64,20 +76,11 @@ least-unless {Has} {v} has smaller = record { has = has; no-other = λ u below h
     by-sum u below h (yes le) = ≼-equal below le
     by-sum u below h (no gt) = absurd (smaller u below (omega arith) h)
 
--- The sum of the entries, each times the coefficient of its place.
-abbrev pub weighted : (ℕ → ℕ) → List ℕ → ℕ
-weighted p [] = 0
-weighted p (x ∷ v) = p 0 * x + weighted (λ i. p (suc i)) v
-
--- the coefficients that a list gives, 0 after its end
-abbrev pub at : List ℕ → ℕ → ℕ
-at l i = getD l i 0
-
 pub weighted-none : (v : List ℕ) → weighted (λ i. 0) v ≡ 0
 weighted-none [] = refl
 weighted-none (x ∷ v) = omega (arith, weighted-none v)
 
-pub dot-weighted : (l v : List ℕ) → dot l v ≡ weighted (at l) v
+pub dot-weighted : (l v : List ℕ) → dot l v ≡ weighted (coefficient l) v
 dot-weighted [] v = sym (weighted-none v)
 dot-weighted (c ∷ l) [] = refl
 dot-weighted (c ∷ l) (x ∷ v) = ap (λ z. c * x + z) (dot-weighted l v)

@@ -12,11 +12,12 @@ use mathlib.Core.Logic.{_⊎_, inl, inr}
 use mathlib.Core.Bool.{Bool, true, false, not, cond}
 use mathlib.Core.List.{List, [], _∷_, List·Memᴰ, List·Memᴰ·head, List·Memᴰ·tail, List·Memᴰ·not-nil}
 use lib.ListN.{length}
-use lib.Dec.{leb}
 use borrow.Author.Tests.{leb-true, leb-false, not-true, not-false}
 use Rattle.ac.specs.Lists.{sum}
 use Rattle.ac.specs.Rows.{_≼_, _≼_.none, _≼_.place}
-use Rattle.ac.proofs.Vectors.{≼-refl, ≼-trans, ≼-equal, sum-mono, weighted, Rest, rest-of}
+use Rattle.ac.specs.Equation.{weighted}
+use Rattle.ac.specs.Budgets.{isUp, up, down}
+use Rattle.ac.proofs.Vectors.{≼-refl, ≼-trans, ≼-equal, sum-mono, Rest, rest-of}
 use Rattle.ac.proofs.Pigeonhole.{Distinct, Distinct.none, Distinct.also, pigeonhole}
 
 -- Sums over the entries.
@@ -184,16 +185,6 @@ module _ (q r : ℕ → ℕ) (first limit : ℕ) where
         met-more : (t : ℕ) → List·Memᴰ t (s ∷ st .starts) → Met (unit .next) t
         met-more t (List·Memᴰ·head e) = record { vector = u; below = unit .above; earlier = omega (arith, longer unit); there = omega (arith, there) }
         met-more t (List·Memᴰ·tail m) = met-later (unit .above) (st .met t m)
-
--- whether a unit at a place is up, and the places' shares in the two sums
-abbrev pub isUp : (ℕ → ℕ) → (ℕ → ℕ) → ℕ → Bool
-isUp p n i = leb (n i) (p i)
-
-abbrev pub up : (ℕ → ℕ) → (ℕ → ℕ) → ℕ → ℕ
-up p n i = cond (isUp p n i) 1 0
-
-abbrev pub down : (ℕ → ℕ) → (ℕ → ℕ) → ℕ → ℕ
-down p n i = cond (isUp p n i) 0 1
 
 -- v solves weighted p v = weighted n v, and nothing that does, below it and not all zero, is smaller
 pub record Smallest (p n : ℕ → ℕ) (v : List ℕ) : Type 0 where

@@ -6,13 +6,14 @@ use mathlib.Core.List.{List, [], _∷_, List·Memᴰ, List·Memᴰ·head, List·
 use borrow.Author.Tests.{eqb-true}
 use lib.Dec.{eqb}
 use lib.ListN.{length}
+use Rattle.ac.specs.Lists.{every}
 use Rattle.ac.specs.Pair.{unifying}
 use Rattle.ac.specs.Rows.{Group, Groups}
 use Rattle.ac.specs.Keys.{layout, keys}
 use Rattle.ac.specs.Search.{groups}
 use Rattle.ac.specs.Values.{Binding}
 use Rattle.ac.proofs.Groups.{groups-exist, groups-unique}
-use Rattle.ac.proofs.Tests.{both, every, every-member, Tests, equalLists, lists-equal}
+use Rattle.ac.proofs.Tests.{both, every-member, Tests, equalLists, lists-equal}
 use Rattle.ac.specs.Worked.{Printed, rows, balanced-rows, rows-of, the-keys, substitutions, Pair, pairs, valuesOf, Holds, AsPrinted}
 
 abbrev equalBindings : Binding → Binding → Bool

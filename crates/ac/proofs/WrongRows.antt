@@ -1,20 +1,24 @@
 -- Document 01's plausible errors on rows, each as a wrong definition whose rows differ in number from the right ones at a small pair.
-use Prim.Native.Nat.{ℕ, _+_}
+use Prim.Native.Nat.{ℕ, _+_, max}
 use native.Mathlib.Omega.{arith}
 use mathlib.Core.Path.{ap}
 use mathlib.Core.Logic.{_≢_}
 use mathlib.Core.Bool.{Bool, true, false, not, cond, _&&_, _||_}
 use mathlib.Core.List.{List, [], _∷_, _++_, map}
 use lib.ListN.{length, getD, drop}
-use lib.Dec.{eqb}
+use lib.Dec.{leb, eqb}
 use Rattle.ac.specs.Lists.{filter, sum}
 use Rattle.ac.specs.Pair.{Mode, unifying, count, variables, unbalanced}
 use Rattle.ac.specs.Equation.{Equation, balancedEquation, equationOf}
-use Rattle.ac.specs.Search.{lower, kept, solutions, budgetUp, budgetDown, minimalSolutions, groups}
+use Rattle.ac.specs.Search.{lower, leastOf, candidates, minimalSolutions, groups}
 
--- "Bounding a variable by the counts on its own side. The other side sets it: see pair 6." The two budgets are exchanged.
+-- "Bounding a variable by the counts on its own side. The other side sets it: see pair 6."
+abbrev withinOwnSide : List ℕ → List ℕ → List ℕ → Bool
+withinOwnSide left right [] = true
+withinOwnSide left right (n ∷ v) = leb n (max (getD left 0 0) (getD right 0 0)) && withinOwnSide (drop 1 left) (drop 1 right) v
+
 abbrev boundedByOwnSide : Equation → List (List ℕ)
-boundedByOwnSide E = kept (solutions E (budgetDown E) (budgetUp E))
+boundedByOwnSide E = leastOf (filter (withinOwnSide (E .left) (E .right)) (candidates E))
 
 -- pair 6, v0+v0+v0 and v1+v1: the row 23 is missed
 pub own-side-differs : boundedByOwnSide (balancedEquation unifying (0 ∷ 0 ∷ 0 ∷ []) (1 ∷ 1 ∷ [])) ≢ groups unifying (0 ∷ 0 ∷ 0 ∷ []) (1 ∷ 1 ∷ []) .balanced
@@ -80,7 +84,7 @@ keptByLast found [] = found
 keptByLast found (v ∷ candidates) = keptByLast (cond (lastLower found v) found (found ++ (v ∷ []))) candidates
 
 abbrev comparedWithLast : Equation → List (List ℕ)
-comparedWithLast E = keptByLast [] (solutions E (budgetUp E) (budgetDown E))
+comparedWithLast E = keptByLast [] (candidates E)
 
 -- v0+v0 and v1+v2+v2: 202 is kept after 101 and 120, since only 120 is looked at
 pub last-only-differs : comparedWithLast (balancedEquation unifying (0 ∷ 0 ∷ []) (1 ∷ 2 ∷ 2 ∷ [])) ≢ groups unifying (0 ∷ 0 ∷ []) (1 ∷ 2 ∷ 2 ∷ []) .balanced

@@ -1,6 +1,6 @@
 -- The working form in ℕ: a weight is 0, or minus a constant's net count, exactly when two sums of naturals agree.
 -- `proofs/Bridge.antt` ties it to the signed weight of document 01.
-use Prim.Native.Nat.{ℕ, _+_, _*_, _<_}
+use Prim.Native.Nat.{ℕ, suc, _+_, _*_, _-_, _<_}
 use mathlib.Core.Path.{_≡_}
 use mathlib.Core.Bool.{Bool, true, false}
 use mathlib.Core.List.{List, [], _∷_, map}
@@ -14,6 +14,15 @@ abbrev pub dot : List ℕ → List ℕ → ℕ
 dot [] v = 0
 dot (c ∷ cs) [] = 0
 dot (c ∷ cs) (n ∷ v) = c * n + dot cs v
+
+-- the same with the coefficients as a function of the place: the sum of the entries, each times the coefficient of its place
+abbrev pub weighted : (ℕ → ℕ) → List ℕ → ℕ
+weighted p [] = 0
+weighted p (x ∷ v) = p 0 * x + weighted (λ i. p (suc i)) v
+
+-- the coefficients that a list gives, 0 after its end
+abbrev pub coefficient : List ℕ → ℕ → ℕ
+coefficient l i = getD l i 0
 
 -- left · v + left-offset = right · v + right-offset; where `homogeneous`, of vectors that are not all zero
 pub record Equation : Type 0 where
@@ -31,6 +40,23 @@ pub record Solves (E : Equation) (v : List ℕ) : Type 0 where
 pub record Minimal (E : Equation) (v : List ℕ) : Type 0 where
   pub vector : length v ≡ length (E .left)
   pub least : Least (Solves E) v
+
+-- what the first numbers are beyond the second, place by place
+abbrev pub beyond : List ℕ → List ℕ → List ℕ
+beyond [] ms = []
+beyond (n ∷ ns) [] = n ∷ beyond ns []
+beyond (n ∷ ns) (m ∷ ms) = (n - m) ∷ beyond ns ms
+
+-- The equation of net parts: left is what left is beyond right, and right what right is beyond left.
+abbrev pub netted : Equation → Equation
+netted E =
+    record {
+      left = beyond (E .left) (E .right);
+      right = beyond (E .right) (E .left);
+      left-offset = E .left-offset - E .right-offset;
+      right-offset = E .right-offset - E .left-offset;
+      homogeneous = E .homogeneous;
+    }
 
 -- the equations whose minimal solutions are the rows of a pair
 module _ (M : Mode) (L R : List ℕ) where

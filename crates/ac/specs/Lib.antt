@@ -3,6 +3,7 @@ pub mod Term
 pub mod Pair
 pub mod Rows
 pub mod Equation
+pub mod Budgets
 pub mod Search
 pub mod Selection
 pub mod Keys

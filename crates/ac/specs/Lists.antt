@@ -1,6 +1,6 @@
 -- Words on lists that the definitions share.
 use Prim.Native.Nat.{ℕ, zero, suc, _+_}
-use mathlib.Core.Bool.{Bool, true, false}
+use mathlib.Core.Bool.{Bool, true, false, _&&_}
 use mathlib.Core.List.{List, [], _∷_, _++_, List·Memᴰ}
 use lib.ListN.{length, drop}
 
@@ -22,6 +22,11 @@ keep false a rest = rest
 abbrev pub filter {ℓ} : {A : Type ℓ} → (A → Bool) → List A → List A
 filter passes [] = []
 filter passes (a ∷ rest) = keep (passes a) a (filter passes rest)
+
+-- every member passes the test
+abbrev pub every : {A : Type 0} → (A → Bool) → List A → Bool
+every passes [] = true
+every passes (a ∷ rest) = passes a && every passes rest
 
 -- for each member a list, one after the other
 abbrev pub flatMap {ℓ κ} : {A : Type ℓ} {B : Type κ} → (A → List B) → List A → List B

@@ -1,8 +1,8 @@
 -- Pages of the list (document 01, "The questions").
-use Prim.Native.Nat.{ℕ, suc, _+_, _<_, _≤_}
+use Prim.Native.Nat.{ℕ, _+_, _<_, _≤_}
 use mathlib.Core.Path.{_≡_}
 use mathlib.Core.Bool.{Bool}
-use mathlib.Core.List.{List, [], _∷_, _++_, List·Memᴰ}
+use mathlib.Core.List.{List, List·Memᴰ}
 use lib.ListN.{length, take}
 use lib.Dec.{ltb}
 use Rattle.ac.specs.Lists.{flatMap, Ascending}
@@ -15,13 +15,6 @@ page begin wanted keys = take wanted (remaining begin keys)
 -- whether more follow
 abbrev pub more : Begin → ℕ → List ℕ → Bool
 more begin wanted keys = ltb wanted (length (remaining begin keys))
-
--- Pages asked for one after the other, each after the last key of the one before and each of any count, until nothing remains; `wanted i` is the
--- count of the page asked for after i others.
-pub data Asked (keys : List ℕ) : (ℕ → ℕ) → Begin → List (List ℕ) → Type 0 where
-  no-more : {wanted : ℕ → ℕ} {begin : Begin} → remaining begin keys ≡ [] → Asked keys wanted begin []
-  one-more : {wanted : ℕ → ℕ} {begin : Begin} {pages : List (List ℕ)} (before : List ℕ) (last : ℕ) → page begin (wanted 0) keys ≡ before ++ last ∷ []
-      → Asked keys (λ i. wanted (suc i)) (after last) pages → Asked keys wanted begin (page begin (wanted 0) keys ∷ pages)
 
 -- the pages one after the other
 abbrev pub together : List (List ℕ) → List ℕ

@@ -1,3 +1,4 @@
-pub mod Places
+pub mod Pages
 pub mod Sides
 pub mod KeyLines
+pub mod Batches

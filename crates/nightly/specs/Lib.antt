@@ -1,2 +1,4 @@
 pub mod Asked
+pub mod Text
+pub mod Putting
 pub mod Printed

@@ -1,28 +1,17 @@
 -- At or below in every place, place by place, of a row that stands in a list of bytes.
-use Prim.Native.Nat.{ℕ, zero, suc, _+_, _*_, _≤_, _<_}
+use Prim.Native.Nat.{ℕ, _+_, _*_, _≤_, _<_}
 use native.Mathlib.Omega.{arith}
 use native.Mathlib.Nat.{suc-mul, mul-le-mul-right}
 use mathlib.Core.Path.{_≡_, sym, subst, _∙_}
-use mathlib.Core.List.{List, [], _∷_}
+use mathlib.Core.List.{List}
 use lib.ListN.{length, getD, drop, length-take, length-drop}
 use lib.Seq.{getD-take, getD-drop}
 use borrow.Author.Count.{below-more}
-use Rattle.ac.specs.Rows.{_≼_, _≼_.none, _≼_.place}
+use Rattle.ac.specs.Rows.{_≼_}
+use Rattle.ac.proofs.Vectors.{≼-entry, ≼-entries}
 use Rattle.rows.specs.Flat.{rowsOf}
 use Rattle.rows.specs.Kept.{Lower}
 use Rattle.rows.proofs.Flat.{rowAt, Index, index-of, row-found}
-
-≼-entry : {u v : List ℕ} → u ≼ v → (j : ℕ) → getD u j 0 ≤ getD v j 0
-≼-entry none j = omega arith
-≼-entry (place h below) zero = h
-≼-entry (place h below) (suc j) = ≼-entry below j
-
-≼-entries : (u v : List ℕ) → length u ≡ length v → ((j : ℕ) → j < length v → getD u j 0 ≤ getD v j 0) → u ≼ v
-≼-entries [] [] same each = none
-≼-entries [] (n ∷ v) same each = absurd (omega arith)
-≼-entries (m ∷ u) [] same each = absurd (omega arith)
-≼-entries (m ∷ u) (n ∷ v) same each =
-    place (each 0 (omega arith)) (≼-entries u v (omega arith) (λ j h. each (suc j) (let h′ : j < length v = h in omega arith)))
 
 -- every row stands within the bytes
 pub row-within : (k : ℕ) {row count : ℕ} → row < count → row * k + k ≤ count * k

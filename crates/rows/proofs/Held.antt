@@ -11,15 +11,16 @@ use Rattle.ac.specs.Equation.{Equation, Solves, Minimal}
 use Rattle.ac.specs.Search.{minimalSolutions}
 use Rattle.ac.proofs.Vectors.{same-length, ≼-trans, ≼-equal, sum-mono, exactly-same}
 use Rattle.ac.proofs.Order.{≺-asymmetric, ascending-single, ascending-append}
-use Rattle.ac.proofs.Sums.{RowBelow, member-at, minimal-below}
-use Rattle.ac.proofs.Solutions.{minimal-solutions-exact}
+use Rattle.ac.proofs.Places.{getD-member}
+use Rattle.ac.proofs.Search.{minimal-solutions-exact}
+use Rattle.ac.proofs.Sums.{RowBelow, minimal-below}
 use Rattle.rows.specs.Flat.{rowsOf}
 use Rattle.rows.specs.Kept.{Holds, Holds.few, Holds.more, Upto, RowBefore, RowUpto, Lower, Keeps, Advances}
 use Rattle.rows.proofs.Flat.{length-rows, rows-put}
 use Rattle.rows.proofs.Prefix.{Begins, Smaller, upto-cases, before-upto, before-longer, before-number-cases, upto-before-next, before-next-upto, upto-shorter, number-upto, begins-upto, begins-whole, ≼-before}
 
 -- The next vector, which solves the equation: the rows before it are found.
-module _ (E : Equation) (sides : length (E .left) ≡ length (E .right)) {v : List ℕ} (vector : length v ≡ length (E .left)) (solves : Solves E v)
+module _ (E : Equation) {v : List ℕ} (vector : length v ≡ length (E .left)) (solves : Solves E v)
     {rows : List (List ℕ)} (found : Exactly (RowBefore E v) rows) where
   -- where one of them is lower, it is no row, and the rows up to it are those before it
   not-minimal : Lower rows v → Minimal E v → ⊥
@@ -41,7 +42,7 @@ module _ (E : Equation) (sides : length (E .left) ≡ length (E .right)) {v : Li
   minimal-unless none-lower = record { vector = vector; least = record { has = solves; no-other = no-other } }
     where
       exact : Exactly (Minimal E) (minimalSolutions E)
-      exact = minimal-solutions-exact E sides
+      exact = minimal-solutions-exact E
 
       no-other : (u : List ℕ) → u ≼ v → Solves E u → u ≡ v
       no-other u below solves-u = by-order (≼-before (≼-trans (b .below) below))
@@ -53,7 +54,7 @@ module _ (E : Equation) (sides : length (E .left) ≡ length (E .right)) {v : Li
           g = getD (minimalSolutions E) (b .index) []
 
           minimal-g : Minimal E g
-          minimal-g = exact .only g (member-at (minimalSolutions E) (b .index) (b .within))
+          minimal-g = exact .only g (getD-member (minimalSolutions E) (b .index) [] (b .within))
 
           by-order : (g ≺ v) ⊎ (g ≡ v) → u ≡ v
           by-order (inl before) =
@@ -93,14 +94,14 @@ module _ {limit n : ℕ} {v bytes : List ℕ} (fits : n ≤ limit) where
   keeps-lower lower =
       record {
         counted = omega arith;
-        found = λ E sides vector solves held.
-            few fits (subst (λ k. Exactly (RowUpto E v) (rowsOf k n bytes)) vector (upto-lower E sides vector solves (rows-of-vector E vector held) lower));
+        found = λ E vector solves held.
+            few fits (subst (λ k. Exactly (RowUpto E v) (rowsOf k n bytes)) vector (upto-lower E vector solves (rows-of-vector E vector held) lower));
       }
 
   module _ (none-lower : Lower (rowsOf (length v) n bytes) v → ⊥) where
-    next : (E : Equation) → length (E .left) ≡ length (E .right) → length v ≡ length (E .left) → Solves E v
+    next : (E : Equation) → length v ≡ length (E .left) → Solves E v
         → Holds limit (length (E .left)) (RowBefore E v) bytes n → Exactly (RowUpto E v) (rowsOf (length v) n bytes ++ (v ∷ []))
-    next E sides vector solves held = upto-more E sides vector solves (rows-of-vector E vector held) none-lower
+    next E vector solves held = upto-more E vector solves (rows-of-vector E vector held) none-lower
 
     pub keeps-full : n ≡ limit → Keeps limit v bytes n bytes (n + 1)
     keeps-full full = record { counted = omega arith; found = found }
@@ -108,9 +109,9 @@ module _ {limit n : ℕ} {v bytes : List ℕ} (fits : n ≤ limit) where
         long : limit < length (rowsOf (length v) n bytes ++ (v ∷ []))
         long = omega (arith, length-append (rowsOf (length v) n bytes) (v ∷ []), length-rows (length v) n bytes)
 
-        found : (E : Equation) → length (E .left) ≡ length (E .right) → length v ≡ length (E .left) → Solves E v → Advances E v limit bytes n bytes (n + 1)
-        found E sides vector solves held =
-            let rows = next E sides vector solves held in
+        found : (E : Equation) → length v ≡ length (E .left) → Solves E v → Advances E v limit bytes n bytes (n + 1)
+        found E vector solves held =
+            let rows = next E vector solves held in
             subst (Holds limit (length (E .left)) (RowUpto E v) bytes) (let e : suc limit ≡ n + 1 = omega arith in e)
             (more (rows .ascending) (rows .only) long)
 
@@ -121,11 +122,11 @@ module _ {limit n : ℕ} {v bytes : List ℕ} (fits : n ≤ limit) where
         rows′ : rowsOf (length v) (suc n) bytes′ ≡ rowsOf (length v) n bytes ++ (v ∷ [])
         rows′ = ap (rowsOf (length v) (suc n)) put ∙ rows-put (length v) n bytes v room refl
 
-        found : (E : Equation) → length (E .left) ≡ length (E .right) → length v ≡ length (E .left) → Solves E v → Advances E v limit bytes n bytes′ (n + 1)
-        found E sides vector solves held =
+        found : (E : Equation) → length v ≡ length (E .left) → Solves E v → Advances E v limit bytes n bytes′ (n + 1)
+        found E vector solves held =
             subst (Holds limit (length (E .left)) (RowUpto E v) bytes′) (sym (add-one n))
             (few (let h : suc n ≤ limit = omega arith in h)
-            (subst (λ k. Exactly (RowUpto E v) (rowsOf k (suc n) bytes′)) vector (rw rows′ (next E sides vector solves held))))
+            (subst (λ k. Exactly (RowUpto E v) (rowsOf k (suc n) bytes′)) vector (rw rows′ (next E vector solves held))))
 
 -- From one prefix to the next.
 

@@ -9,4 +9,3 @@ pub mod LargestBytes
 pub mod Walking
 pub mod Turns
 pub mod Whole
-pub mod Laws

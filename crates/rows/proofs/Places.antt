@@ -13,9 +13,10 @@ use borrow.Author.Tests.{le-ltb, ltb-false}
 use Rattle.ac.specs.Lists.{sum}
 use Rattle.ac.specs.Rows.{_≼_, _≼_.place}
 use Rattle.ac.specs.Equation.{Equation, Solves, Minimal, dot}
+use Rattle.ac.specs.Budgets.{upSum, downSum}
 use Rattle.ac.proofs.Vectors.{≼-refl}
 use Rattle.rows.specs.declared.standing.Standing.{Standing}
-use Rattle.rows.specs.Places.{Stands, upSum, downSum, budgetOf, afterChoice, Possible}
+use Rattle.rows.specs.Places.{Stands, budgetOf, afterChoice, Possible}
 
 -- one place more in the prefix
 pub one-place : (p : List ℕ) (n : ℕ) (rest : List ℕ) → (p ++ n ∷ []) ++ rest ≡ p ++ n ∷ rest
@@ -58,7 +59,6 @@ module _ {E : Equation} {p left right : List ℕ} {l r : ℕ} {at : Standing} (s
     pub after-choice : Stands E (p ++ n ∷ []) left right (afterChoice at l r n)
     after-choice =
         record {
-          sides = s .sides;
           level = omega (arith, s .level);
           places = omega (arith, s .places, length-append p (n ∷ []));
           solves = λ rest long e positive.

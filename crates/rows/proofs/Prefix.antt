@@ -35,11 +35,6 @@ pub before-longer : {p v : List ℕ} (q : List ℕ) → v ≺ p → v ≺ (p ++ 
 before-longer q (here h) = here h
 before-longer q (later before) = later (before-longer q before)
 
-pub before-longer-upto : (p q : List ℕ) {v : List ℕ} → v ≺ (p ++ q) → Upto p v
-before-longer-upto [] q before = begins
-before-longer-upto (n ∷ p) q (here h) = here h
-before-longer-upto (n ∷ p) q (later before) = later (before-longer-upto p q before)
-
 -- v begins with the prefix and a number below n
 pub record Smaller (prefix : List ℕ) (n : ℕ) (v : List ℕ) : Type 0 where
   pub number : ℕ

@@ -75,6 +75,3 @@ ranges-even at l r last same small enough =
       within = rw e small;
       covers = λ n p. (omega arith, le-trans (le-min (rw e at (p .within)) (p .even same)) enough);
     }
-
-pub ranges-all : (at : Standing) (l r : ℕ) (last : Bool) {most : ℕ} → most ≡ budgetOf at l r → Ranges at l r last (record { first = 0; most = most })
-ranges-all at l r last e = record { within = omega arith; covers = λ n p. (omega arith, omega (arith, p .within)) }

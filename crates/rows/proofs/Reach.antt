@@ -8,11 +8,11 @@ use mathlib.Core.List.{List, [], _∷_, _++_}
 use lib.ListN.{length, getD}
 use lib.Dec.{leb}
 use borrow.Author.Tests.{leb-true, leb-false}
-use Rattle.ac.specs.Equation.{Equation, Minimal}
-use Rattle.ac.proofs.Vectors.{weighted, dot-weighted, at as coefficient}
-use Rattle.ac.proofs.Walk.{up, down}
+use Rattle.ac.specs.Equation.{weighted, coefficient, Equation, Minimal}
+use Rattle.ac.specs.Budgets.{up, down, upSum, downSum}
+use Rattle.ac.proofs.Vectors.{dot-weighted}
 use Rattle.rows.specs.declared.standing.Standing.{Standing}
-use Rattle.rows.specs.Places.{Stands, upSum, downSum, Apart, Apart.left-short, Apart.right-short}
+use Rattle.rows.specs.Places.{Stands, Apart, Apart.left-short, Apart.right-short}
 use Rattle.rows.proofs.Places.{rest-places}
 
 -- Where at each place p gains on q at most so much for each unit that f counts, so do the sums.

@@ -13,7 +13,7 @@ use Rattle.ac.specs.Equation.{Equation}
 use Rattle.ac.proofs.Vectors.{exactly-same}
 use Rattle.ac.proofs.Order.{≺-asymmetric}
 use Rattle.ac.proofs.Bound.{lambert-bound}
-use Rattle.ac.proofs.Solutions.{minimal-solutions-exact}
+use Rattle.ac.proofs.Search.{minimal-solutions-exact}
 use Rattle.rows.specs.declared.standing.Standing.{Standing}
 use Rattle.rows.specs.Found.{equation, Finds, Finds.few, Finds.more}
 use Rattle.rows.specs.Kept.{Holds, Holds.few, Holds.more, Upto.begins, RowBefore, RowUpto}
@@ -41,10 +41,9 @@ starts-from-largest {left} {right} lefts rights left-sum right-sum counts up-bud
 
 -- before the first place, with the offsets as the sums so far
 pub stands-start : {E : Equation} {standing : Standing} → length (E .left) ≡ length (E .right) → Starts E standing → Stands E [] (E .left) (E .right) standing
-stands-start {E} sides starts =
+stands-start {E} level starts =
     record {
-      sides = sides;
-      level = sides;
+      level = level;
       places = omega arith;
       solves = λ rest long e positive.
           record { equal = omega (arith, starts .left-sum, starts .right-sum); not-all-zero = λ t. positive (starts .counts ∙ ap not t) };
@@ -100,9 +99,9 @@ ascending-within (next {a = a} {rest = xs} after-a ascending-a) (next {a = b} {r
         omega (arith, rests (λ v m′. later-member (λ e. ≺-asymmetric (after-a v m′) (subst (λ w. w ≺ a) (sym e) (after-b a m))) (within v (List·Memᴰ·tail m′))))
 
 -- at the end all rows are found, or more than the limit
-pub finds-all : {E : Equation} → length (E .left) ≡ length (E .right) → {limit : ℕ} {bytes : List ℕ} {n : ℕ}
+pub finds-all : {E : Equation} {limit : ℕ} {bytes : List ℕ} {n : ℕ}
     → Holds limit (length (E .left)) (RowUpto E []) bytes n → Finds limit E bytes n
-finds-all sides (few small found) = few small (exactly-same (λ v. (λ u. u .0, λ minimal. (minimal, begins))) found)
-finds-all {E} sides (more ascending only many) =
-    let exact = minimal-solutions-exact E sides in
+finds-all (few small found) = few small (exactly-same (λ v. (λ u. u .0, λ minimal. (minimal, begins))) found)
+finds-all {E} (more ascending only many) =
+    let exact = minimal-solutions-exact E in
     more exact (le-trans many (ascending-within ascending (exact .ascending) (λ v m. exact .all v (only v m .0))))

@@ -48,4 +48,4 @@ pub record Tells (test : Bool) (So : Type 0) : Type 0 where
 -- A vector that solves an equation has been kept, if it is a row.
 pub record Keeps (limit : ℕ) (v bytes : List ℕ) (n : ℕ) (bytes′ : List ℕ) (n′ : ℕ) : Type 0 where
   pub counted : n′ ≤ suc limit
-  pub found : (E : Equation) → length (E .left) ≡ length (E .right) → length v ≡ length (E .left) → Solves E v → Advances E v limit bytes n bytes′ n′
+  pub found : (E : Equation) → length v ≡ length (E .left) → Solves E v → Advances E v limit bytes n bytes′ n′

@@ -7,23 +7,13 @@ use lib.ListN.{length}
 use lib.Dec.{leb, ltb}
 use Rattle.ac.specs.Lists.{sum}
 use Rattle.ac.specs.Equation.{Equation, Solves, Minimal, dot}
-use Rattle.ac.proofs.Vectors.{weighted, at as coefficient}
-use Rattle.ac.proofs.Walk.{up, down}
+use Rattle.ac.specs.Budgets.{upSum, downSum}
 use Rattle.rows.specs.declared.standing.Standing.{Standing}
 use Rattle.rows.specs.declared.standing.Range.{Range}
-
--- of the numbers at the places that are left, the sum of those whose left coefficient is at least the right one, and the sum of the others
-module _ (left right rest : List ℕ) where
-  abbrev pub upSum : ℕ
-  upSum = weighted (up (coefficient left) (coefficient right)) rest
-
-  abbrev pub downSum : ℕ
-  downSum = weighted (down (coefficient left) (coefficient right)) rest
 
 -- The walk stands after a prefix, with the coefficients of the places that are left. A rest solves with the prefix exactly if it makes the two sums
 -- equal and, where an all-zero rest does not count, is not all zero; and the rest of a row is within the two budgets.
 pub record Stands (E : Equation) (prefix left right : List ℕ) (at : Standing) : Type 0 where
-  pub sides : length (E .left) ≡ length (E .right)
   pub level : length left ≡ length right
   pub places : length prefix + length left ≡ length (E .left)
   pub solves : (rest : List ℕ) → length rest ≡ length left → dot left rest + at .left ≡ dot right rest + at .right → (at .counts ≡ false → 0 < sum rest)

@@ -5,7 +5,7 @@ use mathlib.Core.Bool.{not}
 use mathlib.Core.List.{List, []}
 use lib.ListN.{length, getD, take, drop}
 use Rattle.ac.specs.Equation.{Equation}
-use Rattle.ac.specs.Search.{Enough}
+use Rattle.ac.specs.Budgets.{Enough}
 use Rattle.rows.specs.declared.standing.Standing.{Standing}
 use Rattle.rows.specs.Kept.{Advances}
 use Rattle.rows.specs.Places.{Stands, Room}

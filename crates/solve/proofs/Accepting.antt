@@ -5,7 +5,7 @@ use native.Mathlib.Decide.{ℕ-discrete}
 use mathlib.Core.Path.{_≡_, refl, sym, ap, subst, _∙_}
 use mathlib.Core.Bool.{true, false, false≢true}
 use mathlib.Core.List.{List, List·Memᴰ}
-use lib.ListN.{length, getD, take, set}
+use lib.ListN.{length, getD, take, set, length-take}
 use lib.Seq.{take-take, getD-set-same, getD-set-other}
 use Rattle.ac.specs.Pair.{Mode, variables, unbalanced}
 use Rattle.ac.specs.Rows.{Exactly, Group, RowOf}
@@ -103,7 +103,19 @@ module _ {M : Mode} {L R : List ℕ} {pair : Pair} (of : PairOf M L R pair) (roo
   pub table-of : TableOf M L R tableWith
   table-of =
       record {
-        within = record { places-fit = roomy .variables-fit; constants-fit = roomy .constants-fit; sizes-fit = known .sizes-fit };
+        within =
+            record {
+              places-fit = roomy .variables-fit;
+              constants-fit = roomy .constants-fit;
+              constants-held =
+                  omega (
+                    arith,
+                    ap length the-constants,
+                    length-take (pair .constants .count) four,
+                    of .the-constants .how-many,
+                  );
+              sizes-fit = known .sizes-fit;
+            };
         the-variables = take-atoms (of .the-variables);
         the-places = of .the-variables .how-many;
         the-groups =

@@ -8,8 +8,7 @@ use mathlib.Core.List.{List, [], _∷_, map}
 use lib.ListN.{length, getD, take, length-map}
 use Rattle.ac.specs.Pair.{Mode, count, variables, unbalanced}
 use Rattle.ac.specs.Rows.{Exactly}
-use Rattle.ac.specs.Equation.{Equation, Minimal}
-use Rattle.ac.specs.Search.{beyond, netted}
+use Rattle.ac.specs.Equation.{Equation, Minimal, beyond, netted}
 use Rattle.ac.proofs.Vectors.{exactly-same}
 use Rattle.ac.proofs.Bridge.{balanced-row-is-minimal, row-of-constant-is-minimal}
 use Rattle.ac.proofs.Nets.{netted-minimal, length-beyond}

@@ -37,6 +37,7 @@ groupsIn t = record { balanced = groupAt t 0; constants = groupsFrom t 1 (take (
 pub record Within (t : Table) : Type 0 where
   pub places-fit : t .places ≤ 6
   pub constants-fit : t .unbalanced ≤ 4
+  pub constants-held : t .unbalanced ≤ length (t .constants)
   pub sizes-fit : (g : ℕ) → getD (t .sizes) g 0 ≤ 16
 
 -- the table is that of the pair: its variables and exactly its rows

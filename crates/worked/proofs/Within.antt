@@ -12,10 +12,11 @@ use lib.IntN.{natAbs}
 use lib.ListN.{length, getD}
 use Rattle.ac.specs.Pair.{unifying, count, net, variables, unbalanced}
 use Rattle.ac.specs.Rows.{Group, Groups}
+use Rattle.ac.specs.Lists.{every}
 use Rattle.ac.specs.Search.{groups}
 use Rattle.ac.proofs.Counts.{count-append, count-member}
 use Rattle.ac.proofs.Groups.{groups-exist, groups-unique}
-use Rattle.ac.proofs.Tests.{both, every, every-member}
+use Rattle.ac.proofs.Tests.{both, every-member}
 use Rattle.sides.specs.Limits.{limits}
 use Rattle.sides.specs.Given.{Side, left, right, WrongLength, ManyRows, balanced, of-a-constant, PairGiven, side-length, no-atom, many-variables, far-net-count, many-constants, many-rows}
 use Rattle.sides.proofs.NetCounts.{natAbs-difference}

@@ -8,12 +8,13 @@ use borrow.Author.Tests.{leb-true}
 use lib.Dec.{leb}
 use lib.ListN.{length}
 use Rattle.ac.specs.Pair.{unifying}
+use Rattle.ac.specs.Lists.{every}
 use Rattle.ac.specs.Search.{groups}
 use Rattle.ac.specs.Keys.{layout, listed, keys}
 use Rattle.ac.specs.Worked.{Printed, rows, balanced-rows, rows-of, the-keys, substitutions, Pair, pairs, Holds}
 use Rattle.ac.proofs.Groups.{groups-exist, groups-unique}
 use Rattle.ac.proofs.Places.{getD-member}
-use Rattle.ac.proofs.Tests.{every, every-member}
+use Rattle.ac.proofs.Tests.{every-member}
 use Rattle.ac.proofs.Worked.{worked-pairs}
 use Rattle.sides.specs.Limits.{limits}
 use Rattle.sides.specs.Given.{PairGiven}

@@ -49,7 +49,7 @@ returns c =
     let at-start = at-walk .before .before .before .before .before in
     let entry = at-start .before .before .before .before .before .before in
     let E = equation (entry .args .left .now) (entry .args .right .now) (entry .args .left-offset) (entry .args .right-offset) (entry .args .homogeneous) in
-    finds-all (sym (entry .pre .rights))
+    finds-all
     (at-walk .walk .ensures .found E (stands-start {E = E} (sym (entry .pre .rights)) (at-start .start .ensures)) (holds-start E (entry .args .limit) (entry .args .rows .now)))
 
 pub search-spec : {M : Type 1} → statement M

@@ -42,7 +42,7 @@ settles-kept : {limit n n′ : ℕ} {v bytes bytes′ : List ℕ} {at : Standing
 settles-kept {v = v} equal counts kept =
     record {
       counted = kept .counted;
-      found = λ E s. kept .found E (s .sides) (omega (arith, s .places))
+      found = λ E s. kept .found E (omega (arith, s .places))
           (subst (Solves E) (append-nil v) (s .solves [] refl (omega arith) (λ zero. absurd (true≢false (sym counts ∙ zero)))));
     }
 

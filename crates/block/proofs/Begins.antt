@@ -66,6 +66,7 @@ after-plus {bytes} (plus s t) b = go (b .writable) (let e : bytes ≡ (encode s 
 pub first-missing : {bytes : List ℕ} → ((t : Term) → Begins bytes t → ⊥) → (t : Term) → Begins (128 ∷ bytes) t → ⊥
 first-missing none t b = let w = after-plus t b in none (w .left) (w .first)
 
+-- nor where none stands after the first
 pub second-missing :
     {bytes : List ℕ} {s : Term} (b : Begins bytes s) →
     ((t : Term) → Begins (b .rest) t → ⊥) →
@@ -80,5 +81,6 @@ second-missing {bytes} {s} b none t c =
 pub writes-begins : {bytes : List ℕ} {t : Term} → Writes bytes t → Begins bytes t
 writes-begins {bytes} {t} w = record { rest = []; splits = w .exactly ∙ sym (append-nil (encode t)); writable = w .writable }
 
+-- bytes that begin with no term are none
 pub nothing-is-no-term : {bytes : List ℕ} → ((t : Term) → Begins bytes t → ⊥) → NoTerm bytes
 nothing-is-no-term none t w = none t (writes-begins w)

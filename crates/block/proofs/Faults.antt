@@ -17,6 +17,7 @@ pub record Stray (b : ℕ) : Type 0 where
   pub no-plus : b ≡ 128 → ⊥
   pub no-atom : MayBeWritten b → ⊥
 
+-- what is wrong with bytes that are no term
 pub data Fault (bytes : List ℕ) : Type 0 where
   -- it ends early: with bytes added it is a term
   ends-early : (b : ℕ) (more : List ℕ) (t : Term) → Writes (bytes ++ b ∷ more) t → Fault bytes
@@ -31,9 +32,11 @@ no-stray (one m) (List·Memᴰ·head e) s = s .no-atom (rw e m)
 no-stray (two v w) (List·Memᴰ·head e) s = s .no-plus e
 no-stray (two {s = t} v w) (List·Memᴰ·tail m) s = ⊎-elim (λ l. no-stray v l s) (λ r. no-stray w r s) (List·Memᴰ·append-cases (encode t) m)
 
+-- the empty list has no first byte
 no-more : {b : ℕ} {l : List ℕ} → [] ≡ b ∷ l → ⊥
 no-more e = omega (arith, ap length e)
 
+-- bytes with a fault are no term
 pub fault-is-no-term : {bytes : List ℕ} → Fault bytes → NoTerm bytes
 fault-is-no-term {bytes} (ends-early b more t w) s v =
     no-more
@@ -49,6 +52,7 @@ data Terms : ℕ → List ℕ → Type 0 where
   none : Terms 0 []
   next : {k : ℕ} {t : Term} {bytes : List ℕ} → Writable t → Terms k bytes → Terms (suc k) (encode t ++ bytes)
 
+-- the variable v0, k times, is k terms
 variables : (k : ℕ) → Terms k (replicate k 0)
 variables zero = none
 variables (suc k) = next (one {a = 0} (omega arith)) (variables k)
@@ -64,16 +68,19 @@ data Found (k : ℕ) (bytes : List ℕ) : Type 0 where
   early : (b : ℕ) (more : List ℕ) → Terms k (bytes ++ b ∷ more) → Found k bytes
   stray : (b : ℕ) → List·Memᴰ b bytes → Stray b → Found k bytes
 
+-- an atom before what is found where k terms are looked for is one term more
 after-atom : {k a : ℕ} {bytes : List ℕ} → MayBeWritten a → Found k bytes → Found (suc k) (a ∷ bytes)
 after-atom {a = a} m (whole front rest ts e) = whole (a ∷ front) rest (next (one m) ts) (ap (λ (l : List ℕ). a ∷ l) e)
 after-atom m (early b more ts) = early b more (next (one m) ts)
 after-atom m (stray b i s) = stray b (List·Memᴰ·tail i) s
 
+-- a plus before what is found where k + 2 terms are looked for joins the first two
 after-plus : {k : ℕ} {bytes : List ℕ} → Found (suc (suc k)) bytes → Found (suc k) (128 ∷ bytes)
 after-plus (whole front rest ts e) = whole (128 ∷ front) rest (join ts) (ap (λ (l : List ℕ). 128 ∷ l) e)
 after-plus (early b more ts) = early b more (join ts)
 after-plus (stray b i s) = stray b (List·Memᴰ·tail i) s
 
+-- bytes read from their front, with the number of terms still looked for
 look : (bytes : List ℕ) (k : ℕ) → Found k bytes
 look [] zero = whole [] [] none refl
 look [] (suc k) = early 0 (replicate k 0) (next (one {a = 0} (omega arith)) (variables k))
@@ -85,9 +92,11 @@ look (a ∷ bytes) (suc k) = go (decLt a 128) (ℕ-discrete a 128) (look bytes)
     go (no m) (yes e) later = rw e (after-plus (later (suc (suc k))))
     go (no m) (no p) later = stray a (List·Memᴰ·head refl) (record { no-plus = p; no-atom = m })
 
+-- one term by itself
 one-term : {bytes : List ℕ} → Terms 1 bytes → (t : Term) × Writes bytes t
 one-term (next {t = t} w none) = (t, record { exactly = append-nil (encode t); writable = w })
 
+-- and bytes that are no term have a fault
 pub no-term-is-fault : {bytes : List ℕ} → NoTerm bytes → Fault bytes
 no-term-is-fault {bytes} no-one = go (look bytes 1)
   where

@@ -30,15 +30,18 @@ later-kind : {tag : ℕ} → 1 < tag → OneOf (0 ∷ 1 ∷ []) tag → ⊥
 later-kind above (inl e) = omega arith
 later-kind above (inr e) = omega arith
 
+-- a variable or a constant may be written
 pub atom-may-be-written : {b : ℕ} {kind : Kind} → Classified b kind → OneOf (0 ∷ 1 ∷ []) (tagOf the-type kind) → MayBeWritten b
 atom-may-be-written (variable h) first-two = omega arith
 atom-may-be-written (constant l h) first-two = h
 atom-may-be-written (Classified.plus e) first-two = absurd (later-kind (omega arith) first-two)
 atom-may-be-written (refused h) first-two = absurd (later-kind (omega arith) first-two)
 
+-- a plus is byte 128
 pub plus-is-128 : {b : ℕ} → Classified b Plus → b ≡ 128
 plus-is-128 (Classified.plus e) = e
 
+-- a byte that is refused is above 128
 pub refused-is-above : {b : ℕ} → Classified b Refused → 128 < b
 refused-is-above (refused h) = h
 
@@ -51,6 +54,7 @@ module _ {bytes buffer after : List ℕ} {r : Flattened} (some : 0 < length byte
   pub after-first-byte : Flattens (getD bytes 0 0 ∷ take (length bytes - 1) (drop 1 bytes)) buffer r after → Flattens bytes buffer r after
   after-first-byte f = subst (λ (l : List ℕ). Flattens l buffer r after) (sym (first-byte bytes some)) f
 
+  -- and where it is a plus
   pub after-plus-byte : getD bytes 0 0 ≡ 128 → Flattens (128 ∷ take (length bytes - 1) (drop 1 bytes)) buffer r after → Flattens bytes buffer r after
   after-plus-byte is-plus f = after-first-byte (rw is-plus f)
 
@@ -71,6 +75,7 @@ pub record FoundTerm (bytes buffer : List ℕ) (used filled : ℕ) (after : List
   pub filled-is : filled ≡ length (flatten term)
   pub after-is : after ≡ receives buffer (flatten term)
 
+-- where flattening finds a term
 pub when-found :
     {bytes buffer after : List ℕ} {r : Flattened} {used filled : ℕ} →
     Flattens bytes buffer r after →
@@ -79,6 +84,7 @@ pub when-found :
 when-found (found {t} b) e = record { term = t; begins = b; used-is = cc e; filled-is = cc e; after-is = refl }
 when-found (nothing none) e = apart (cc e)
 
+-- and where it finds nothing, there is none
 pub when-nothing :
     {bytes buffer after : List ℕ} {r : Flattened} →
     Flattens bytes buffer r after →
@@ -88,6 +94,7 @@ pub when-nothing :
 when-nothing (found b) e = apart (cc e)
 when-nothing (nothing none) e = none
 
+-- a list without members is the empty one
 length-zero : (l : List ℕ) → length l ≡ 0 → l ≡ []
 length-zero [] e = refl
 length-zero (a ∷ l) e = absurd (omega (arith, e))
@@ -116,6 +123,7 @@ module _ {bytes buffer after : List ℕ} {used filled : ℕ} (f : FoundTerm byte
       } in
       rw (f .filled-is, f .after-is) (atoms exact)
 
+  -- where bytes are left over, they are none
   pub left-over-is-no-term : used < length bytes → NoTerm bytes
   left-over-is-no-term over t w =
       let same : f .term ≡ t = one-reading (f .begins .writable) (w .writable) (sym (f .begins .splits) ∙ writes-begins w .splits) .0 in
@@ -125,12 +133,14 @@ module _ {bytes buffer after : List ℕ} {used filled : ℕ} (f : FoundTerm byte
   front-is : take filled after ≡ flatten (f .term)
   front-is = ap (take filled) (f .after-is) ∙ take-at (flatten (f .term)) (drop (length (flatten (f .term))) buffer) filled (sym (f .filled-is))
 
+  -- and what stands after them
   back-is : take (length after - filled) (drop filled after) ≡ drop (length (flatten (f .term))) buffer
   back-is =
       part-to-end after filled
       ∙ ap (drop filled) (f .after-is)
       ∙ drop-at (flatten (f .term)) (drop (length (flatten (f .term))) buffer) filled (sym (f .filled-is))
 
+  -- there is room for the atoms
   pub filled-within : filled ≤ length after
   filled-within = omega (arith, simp length-append at (ap length (f .after-is)), f .filled-is)
 
@@ -143,6 +153,7 @@ module _ {bytes buffer after : List ℕ} {used filled : ℕ} (f : FoundTerm byte
   second-sizes fits same =
       simp (part-to-end, length-drop) (let sizes : (used ≤ length bytes) × (used + 1 ≡ 2 * filled) = found-sizes in omega arith)
 
+  -- where no second term stands there is no term
   pub second-nothing : ((t : Term) → Begins (take (length bytes - used) (drop used bytes)) t → ⊥) → (t : Term) → Begins (128 ∷ bytes) t → ⊥
   second-nothing none = second-missing (f .begins) (rw rest-is at none)
 
@@ -153,12 +164,15 @@ module _ {bytes buffer after : List ℕ} {used filled : ℕ} (f : FoundTerm byte
       both : Begins (128 ∷ bytes) (plus (f .term) (g .term))
       both = plus-begins (f .begins) (rw rest-is at (g .begins))
 
+      -- the plus, the first term's bytes and the second's
       bytes-add-up : length (encode (plus (f .term) (g .term))) ≡ 1 + used + used′
       bytes-add-up = omega (arith, length-append (encode (f .term)) (encode (g .term)), f .used-is, g .used-is)
 
+      -- the first term's atoms and the second's
       atoms-add-up : length (flatten (plus (f .term) (g .term))) ≡ filled + filled′
       atoms-add-up = omega (arith, length-append (flatten (f .term)) (flatten (g .term)), f .filled-is, g .filled-is)
 
+      -- the buffer has the first term's atoms, and the second's behind them
       buffer-holds-both : receives buffer (flatten (plus (f .term) (g .term))) ≡ putMid filled (length after - filled) after end
       buffer-holds-both =
           cc (

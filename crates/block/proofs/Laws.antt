@@ -10,6 +10,7 @@ use Rattle.block.specs.declared.ReadAnswer.{ReadAnswer}
 use Rattle.block.specs.declared.ReadAnswer.the-variants.{Sides}
 use Rattle.block.proofs.Apart.{apart}
 
+-- the lengths that are returned lie within the buffers
 lengths-within :
     {block : List ℕ} {number : ℕ} {left right l r : List ℕ} {o : ReadOutcome} {m n : ℕ} →
     ReadPromise block number left right o l r →

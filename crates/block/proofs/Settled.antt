@@ -1,7 +1,7 @@
 -- Which number is the first that a block gives: a law for each way in which reading it ends.
 use Prim.Native.Nat.{ℕ, _≤_, _<_, min}
 use mathlib.Core.Path.{_≡_, refl, _∙_}
-use mathlib.Core.Bool.{Bool, true, false, not, _&&_}
+use mathlib.Core.Bool.{Bool, true, false, not}
 use mathlib.Core.Logic.{_⊎_, inl, inr}
 use mathlib.Core.List.{List, [], _∷_, List·Memᴰ, List·Memᴰ·head, List·Memᴰ·tail}
 use native.Mathlib.Decide.{decLt}
@@ -14,16 +14,13 @@ use Rattle.numbers.specs.Numbers.{numberOf}
 use Rattle.numbers.specs.declared.Refusal.{Refusal}
 use Rattle.numbers.specs.First.{First, NoneOf, here, later, end, also}
 use Rattle.numbers.specs.declared.Refusal.the-variants as refusal
+use Rattle.numbers.proofs.Carried.{and-true}
 use Rattle.block.specs.Front.{Writes}
 use Rattle.block.specs.Block.{blockNumber, leftLength, rightLength, leftTerm, rightTerm, filler, check, checkOfBytes}
 use Rattle.block.specs.Table.{ReadGiven, block-length, check-differs, block-number, term-length, no-term, filler-byte, short-buffer, NoLength, NoTerm}
 use Rattle.block.specs.Read.{refused, ReadPromise, is-refused}
 use Rattle.block.specs.Inner.{IsLength, TermLengths, within, outside, allZero, blockNumbers, Refuses, GoodHeader}
 use Rattle.block.proofs.Apart.{apart}
-
-and-true : (x y : Bool) → x && y ≡ true → (x ≡ true) × (y ≡ true)
-and-true true y e = (refl, e)
-and-true false y e = apart (cc e)
 
 -- a length from 1 to 127 is none that no term may have
 is-length : {n : ℕ} → IsLength n → NoLength n → ⊥
@@ -35,6 +32,7 @@ pub tested-outside : {m n : ℕ} {b : Bool} → TermLengths m n b → not b ≡ 
 tested-outside (within l r) e = apart (cc e)
 tested-outside (outside h) e = h
 
+-- and that both are within
 pub tested-within : {m n : ℕ} {b : Bool} → TermLengths m n b → not b ≡ false → IsLength m × IsLength n
 tested-within (within l r) e = (l, r)
 tested-within (outside h) e = apart (cc e)
@@ -50,6 +48,7 @@ record OtherThanZero (bytes : List ℕ) : Type 0 where
   member : List·Memᴰ byte bytes
   not-zero : byte ≡ 0 → ⊥
 
+-- a byte that is not 0 is found from the front
 other-than-zero : (bytes : List ℕ) → allZero bytes ≡ false → OtherThanZero bytes
 other-than-zero [] e = apart (cc e)
 other-than-zero (a ∷ bytes) e = go (eqb a 0) refl (other-than-zero bytes)
@@ -60,7 +59,7 @@ other-than-zero (a ∷ bytes) e = go (eqb a 0) refl (other-than-zero bytes)
 
 -- a row of the table that is not given
 module _ {block : List ℕ} {number : ℕ} {left right : List ℕ} where
-  not-1 : length block ≡ 512 → ReadGiven block number left right 1 → ⊥
+  pub not-1 : length block ≡ 512 → ReadGiven block number left right 1 → ⊥
   not-1 e (block-length h) = h e
 
   not-2 : check block ≡ checkOfBytes block → ReadGiven block number left right 2 → ⊥
@@ -82,17 +81,21 @@ module _ {block : List ℕ} {number : ℕ} {left right : List ℕ} where
 
 -- the first number that the block itself gives
 module _ {block : List ℕ} {number : ℕ} where
+  -- number 1
   pub block-length-first : (length block ≡ 512 → ⊥) → Refuses block number refusal.BlockLength
   block-length-first h = record { first = λ left right. here (block-length h) }
 
   module _ (whole : length block ≡ 512) where
+    -- number 2
     pub check-first : (check block ≡ checkOfBytes block → ⊥) → Refuses block number refusal.Check
     check-first h = record { first = λ left right. later (not-1 whole) (here (check-differs h)) }
 
     module _ (checked : check block ≡ checkOfBytes block) where
+      -- number 3, where the check agrees
       pub block-number-first : (blockNumber block ≡ number → ⊥) → Refuses block number refusal.BlockNumber
       block-number-first h = record { first = λ left right. later (not-1 whole) (later (not-2 checked) (here (block-number h))) }
 
+      -- number 4, where the check and the number agree
       pub term-length-first :
           blockNumber block ≡ number →
           NoLength (leftLength block) ⊎ NoLength (rightLength block) →
@@ -112,15 +115,18 @@ module _ {block : List ℕ} {number : ℕ} where
         (later (not-3 (good .numbered))
         (later (not-4 (good .left-length) (good .right-length)) f)))
 
+    -- number 5
     pub term-first : NoTerm (leftTerm block) ⊎ NoTerm (rightTerm block) → Refuses block number refusal.Term
     term-first h = record { first = λ left right. after-header (here (no-term h)) }
 
     module _ {s t : Term} (v : Writes (leftTerm block) s) (w : Writes (rightTerm block) t) where
+      -- number 6
       pub filler-first : allZero (filler block) ≡ false → Refuses block number refusal.Filler
       filler-first e =
           let other = other-than-zero (filler block) e in
           record { first = λ left right. after-header (later (not-5 v w) (here (filler-byte (other .byte) (other .member) (other .not-zero)))) }
 
+      -- no number is left
       pub none-given : allZero (filler block) ≡ true → (left right : List ℕ) → NoneOf (ReadGiven block number left right) blockNumbers
       none-given e left right =
           also (not-1 (good .whole))
@@ -142,9 +148,11 @@ module _ {block : List ℕ} {number : ℕ} {left right : List ℕ} where
   short-buffer-first h = is-refused (here (short-buffer (shorter-is-short (length left) (length right) h)))
 
   module _ (left-fits : 64 ≤ length left) (right-fits : 64 ≤ length right) where
+    -- both buffers are long enough
     pub not-16 : ReadGiven block number left right 16 → ⊥
     not-16 (short-buffer (inl h)) = omega arith
     not-16 (short-buffer (inr h)) = omega arith
 
+    -- the block's own number, where 16 is not given
     pub promised-refusal : {why : Refusal} → Refuses block number why → ReadPromise block number left right (refused (numberOf why)) left right
     promised-refusal r = is-refused (later not-16 (r .first left right))

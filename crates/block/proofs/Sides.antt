@@ -42,6 +42,7 @@ pub record HeaderLengths (block : List ℕ) (number left right : ℕ) : Type 0 w
   pub left-is : left ≡ leftLength block
   pub right-is : right ≡ rightLength block
 
+-- where the header is good
 pub when-lengths :
     {block : List ℕ} {number left right : ℕ} {h : Header} →
     SettlesHeader block number h →
@@ -50,6 +51,7 @@ pub when-lengths :
 when-lengths (is-refused r) e = apart (cc e)
 when-lengths (is-good g) e = record { good = g; left-is = cc e; right-is = cc e }
 
+-- and where it is refused
 pub when-refused :
     {block : List ℕ} {number : ℕ} {h : Header} {why : Refusal} →
     SettlesHeader block number h →
@@ -66,6 +68,7 @@ pub record SideTerm (bytes : List ℕ) (count : ℕ) (after : List ℕ) : Type 0
   pub count-is : count ≡ length (flatten term)
   pub after-is : after ≡ receives buffer (flatten term)
 
+-- where the bytes are a term
 pub when-atoms :
     {bytes buffer after : List ℕ} {count : ℕ} {s : Side} →
     TakesApart bytes buffer s after →
@@ -74,6 +77,7 @@ pub when-atoms :
 when-atoms {buffer = buffer} (atoms {t} w) e = record { buffer = buffer; term = t; writes = w; count-is = cc e; after-is = refl }
 when-atoms (no-term none) e = apart (cc e)
 
+-- and where they are none
 pub when-no-term : {bytes buffer after : List ℕ} {s : Side} → TakesApart bytes buffer s after → s ≡ side.NoTerm → NoTerm bytes
 when-no-term (atoms w) e = apart (cc e)
 when-no-term (no-term none) e = none
@@ -82,6 +86,7 @@ module _ {bytes after : List ℕ} {count : ℕ} (f : SideTerm bytes count after)
   pub count-within : count ≤ length after
   count-within = omega (arith, simp length-append at (ap length (f .after-is)), f .count-is)
 
+  -- the front of the array is the flattened side
   side-is : take count after ≡ flatten (f .term)
   side-is = ap (take count) (f .after-is) ∙ take-at (flatten (f .term)) (drop (length (flatten (f .term))) (f .buffer)) count (sym (f .count-is))
 
@@ -104,6 +109,7 @@ module _ {block : List ℕ} {number l r : ℕ} (h : HeaderLengths block number l
   pub terms-fit : (length block ≡ 512) × (l ≤ 127) × (r ≤ 127)
   terms-fit = (h .good .whole, omega (arith, h .left-is, h .good .left-length), omega (arith, h .right-is, h .good .right-length))
 
+  -- the parts of the block that are lent: the left term, the right term and the filler
   abbrev leftPart : List ℕ
   leftPart = take (4 + l - 4) (drop 4 block)
 
@@ -113,6 +119,7 @@ module _ {block : List ℕ} {number l r : ℕ} (h : HeaderLengths block number l
   abbrev fillerPart : List ℕ
   fillerPart = take (510 - (4 + l + r)) (drop (4 + l + r) block)
 
+  -- each is the part that the block's definition names
   left-part-is : leftPart ≡ leftTerm block
   left-part-is = part-is-slice 4 (4 + l) block (omega arith) ∙ rw (h .left-is)
 
@@ -122,12 +129,14 @@ module _ {block : List ℕ} {number l r : ℕ} (h : HeaderLengths block number l
   filler-part-is : fillerPart ≡ filler block
   filler-part-is = part-is-slice (4 + l + r) 510 block (omega (arith, terms-fit)) ∙ rw (h .left-is, h .right-is)
 
+  -- a term has at most 127 bytes
   pub left-short : length leftPart ≤ 127
   left-short = simp length-take (omega (arith, terms-fit))
 
   pub right-short : length rightPart ≤ 127
   right-short = simp length-take (omega (arith, terms-fit))
 
+  -- where a part is no term, the number is 5
   pub left-missing : NoTerm leftPart → Refuses block number refusal.Term
   left-missing none = term-first (h .good) (inl (rw left-part-is at none))
 
@@ -145,9 +154,11 @@ module _ {block : List ℕ} {number l r : ℕ} (h : HeaderLengths block number l
       right-writes : Writes (rightTerm block) (g .term)
       right-writes = rw right-part-is at (g .writes)
 
+      -- where a filler byte is not 0, the number is 6
       pub filler-wrong : {z : Bool} → z ≡ allZero fillerPart → not z ≡ true → Refuses block number refusal.Filler
       filler-wrong {z} e t = filler-first (h .good) left-writes right-writes (rw filler-part-is at (sym e ∙ not-true z t))
 
+      -- and where all is well, the sides are read
       pub sides-read :
           {z : Bool} {left right left-exit right-exit : List ℕ} →
           64 ≤ length left →

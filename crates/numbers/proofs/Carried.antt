@@ -9,7 +9,8 @@ use borrow.Author.Tests.{leb-true, eqb-false, not-true}
 use lib.Dec.{leb, eqb}
 use Rattle.numbers.specs.First.{First, NoneOf, here, later, end, also}
 
-and-true : (a b : Bool) → (a && b) ≡ true → (a ≡ true) × (b ≡ true)
+-- where two truth values are true together, each is
+pub and-true : (a b : Bool) → (a && b) ≡ true → (a ≡ true) × (b ≡ true)
 and-true true b e = (refl, e)
 and-true false b e = absurd (let z : _≡_ {A = ℕ} 0 1 = cc e in omega arith)
 
@@ -18,6 +19,7 @@ abbrev pub inside : ℕ → ℕ → List ℕ → Bool
 inside low high [] = true
 inside low high (n ∷ ns) = leb low n && (leb n high && inside low high ns)
 
+-- so each of its numbers lies between them
 pub numbers-between : (low high : ℕ) (ns : List ℕ) → inside low high ns ≡ true → {m : ℕ} → List·Memᴰ m ns → (low ≤ m) × (m ≤ high)
 numbers-between low high [] e mem = absurd (List·Memᴰ·not-nil mem)
 numbers-between low high (n ∷ ns) e (List·Memᴰ·head same) =
@@ -34,6 +36,7 @@ module _ {Given Other : ℕ → Type 0} where
   first-carried agree (later skip first) =
       later (λ given. skip (agree _ (List·Memᴰ·head refl) .1 given)) (first-carried (λ m mem. agree m (List·Memᴰ·tail mem)) first)
 
+  -- and where none of them is given in the one, none is in the other
   pub none-carried : {ns : List ℕ} → ((m : ℕ) → List·Memᴰ m ns → Other m → Given m) → NoneOf Given ns → NoneOf Other ns
   none-carried back end = end
   none-carried back (also skip none) =

@@ -36,6 +36,7 @@ rows =
 refusalOf : ℕ → Refusal
 refusalOf n = getD rows n BlockLength
 
+-- each refusal stands in the row of its number
 refusalOf-numberOf : (r : Refusal) → refusalOf (numberOf r) ≡ r
 unfolding rows refusalOf
 refusalOf-numberOf BlockLength = refl

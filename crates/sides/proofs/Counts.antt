@@ -10,24 +10,17 @@ use native.Mathlib.Numerals.{add-one}
 use lib.ListN.{length, getD, set, take, replicate, length-take, length-set}
 use lib.Seq.{take-suc, getD-set-same, getD-set-other}
 use lib.Dec.{eqb, ltb}
-use borrow.Author.Tests.{eq-eqb, ne-eqb, lt-ltb, le-ltb}
+use borrow.Author.Tests.{lt-ltb, le-ltb}
 use Rattle.ac.specs.Pair.{count, same}
+use Rattle.ac.proofs.Places.{getD-member}
+use Rattle.ac.proofs.Counts.{same-self, same-other, count-append}
 use Rattle.sides.specs.Limits.{limits}
 use Rattle.sides.specs.Given.{WrongLength, WrongByte}
 use Rattle.sides.specs.Counts.{Occurrences}
-use Rattle.sides.proofs.Lists.{at-member, getD-replicate-same}
+use Rattle.sides.proofs.Lists.{getD-replicate-same}
 use Rattle.sides.proofs.Telling.{at-most}
 
-same-self : (a : ℕ) → same a a ≡ 1
-same-self a = rw (eq-eqb a a refl)
-
-same-other : (a b : ℕ) → (a ≡ b → ⊥) → same a b ≡ 0
-same-other a b differ = rw (ne-eqb a b differ)
-
-count-snoc : (a : ℕ) (s : List ℕ) (x : ℕ) → count a (s ++ x ∷ []) ≡ count a s + same a x
-count-snoc a [] x = omega arith
-count-snoc a (b ∷ s) x = omega (arith, count-snoc a s x)
-
+-- two atoms are the same once at most
 same-le : (a b : ℕ) → same a b ≤ 1
 same-le a b = go (eqb a b) refl
   where
@@ -46,7 +39,7 @@ pub counts-more : (side table : List ℕ) (i : ℕ) → i < length side → getD
 counts-more side table i within place counts =
     record {
       places = simp length-set (counts .places);
-      entries = λ a. go a (ℕ-discrete a x) ∙ sym (ap (count a) one-more ∙ count-snoc a (take i side) x);
+      entries = λ a. go a (ℕ-discrete a x) ∙ sym (ap (count a) one-more ∙ count-append a (take i side) (x ∷ []));
     }
   where
     x : ℕ
@@ -55,10 +48,11 @@ counts-more side table i within place counts =
     one-more : take (i + 1) side ≡ take i side ++ x ∷ []
     one-more = ap (λ (n : ℕ). take n side) (add-one i) ∙ take-suc side i 0 within
 
-    go : (a : ℕ) → Dec (a ≡ x) → getD (set table x (getD table x 0 + 1)) a 0 ≡ count a (take i side) + same a x
-    go a (yes e) = rw e (getD-set-same table x (getD table x 0 + 1) 0 place ∙ omega (arith, counts .entries x, same-self x))
+    go : (a : ℕ) → Dec (a ≡ x) → getD (set table x (getD table x 0 + 1)) a 0 ≡ count a (take i side) + count a (x ∷ [])
+    go a (yes e) = rw e (getD-set-same table x (getD table x 0 + 1) 0 place ∙ omega (arith, counts .entries x, same-self x x refl))
     go a (no differ) = getD-set-other table x a (getD table x 0 + 1) 0 differ ∙ omega (arith, counts .entries a, same-other a x differ)
 
+-- nothing is counted yet
 pub counts-none : Occurrences [] (replicate 128 0)
 counts-none = record { places = refl; entries = λ a. getD-replicate-same 128 a 0 }
 
@@ -66,9 +60,10 @@ counts-none = record { places = refl; entries = λ a. getD-replicate-same 128 a 
 pub right-length : (side : List ℕ) → (WrongLength limits side → ⊥) → length side ≤ 64
 right-length side right = at-most (length side) 64 (λ long. right (inr long))
 
+-- and each byte is an atom
 pub right-byte : (side : List ℕ) (i : ℕ) → i < length side → (WrongByte limits side → ⊥) → getD side i 0 < 128
 right-byte side i within right =
-    at-most (suc (getD side i 0)) 128 (λ high. right (record { byte = getD side i 0; held = at-member side i within; above = omega arith }))
+    at-most (suc (getD side i 0)) 128 (λ high. right (record { byte = getD side i 0; held = getD-member side i 0 within; above = omega arith }))
 
 -- a count so far is below the limit of a byte
 pub count-so-far : (side table : List ℕ) (i x : ℕ) → Occurrences (take i side) table → (WrongLength limits side → ⊥) → getD table x 0 ≤ 64
@@ -79,9 +74,11 @@ count-so-far side table i x counts right =
 abbrev pub TrueBelow : ℕ → List Bool → Type 0
 TrueBelow n table = (atom : ℕ) → getD table atom false ≡ ltb atom n
 
+-- at first it is true nowhere
 pub true-below-none : (size : ℕ) → TrueBelow 0 (replicate size false)
 true-below-none size atom = getD-replicate-same size atom false ∙ sym (le-ltb atom 0 (omega arith))
 
+-- and then at one atom more
 pub true-below-more : (n : ℕ) (table : List Bool) → n < length table → TrueBelow n table → TrueBelow (n + 1) (set table n true)
 true-below-more n table within below atom = go (ℕ-discrete atom n) (decLt atom n)
   where

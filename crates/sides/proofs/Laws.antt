@@ -7,13 +7,13 @@ use lib.ListN.{length, getD, take, length-map, List·getD-append}
 use lib.Seq.{take-at}
 use lib.IntN.{natAbs}
 use Rattle.ac.specs.Pair.{Mode, count, net, variables, unbalanced}
+use Rattle.ac.proofs.Places.{getD-map}
 use Rattle.numbers.specs.First.{NoneOf, end, also}
 use Rattle.sides.specs.Limits.{Limits}
 use Rattle.sides.specs.Given.{PairGiven, side-length, no-atom, many-variables, far-net-count, many-constants, many-rows}
 use Rattle.sides.specs.Gathered.{excess, padded, Held}
 use Rattle.sides.specs.Parted.{partingNumbers}
 use Rattle.sides.specs.declared.Gathered.{Gathered}
-use Rattle.sides.proofs.Lists.{getD-map}
 use Rattle.sides.proofs.Telling.{at-most}
 use Rattle.sides.proofs.NetCounts.{natAbs-difference}
 
@@ -23,9 +23,10 @@ take-padded list {n} how-many = take-at list _ n (sym how-many)
 
 -- each place in use has what was made of the atom there
 getD-padded : (f : ℕ → ℕ) (list : List ℕ) {i : ℕ} → i < length list → getD (padded (map f list)) i 0 ≡ f (getD list i 0)
-getD-padded f list {i} used = List·getD-append (map f list) _ 0 i (rw length-map used) ∙ getD-map f list i used
+getD-padded f list {i} used = List·getD-append (map f list) _ 0 i (rw length-map used) ∙ getD-map f list i 0 0 used
 
 module _ {L R found : List ℕ} {gathered : Gathered} (held : Held L R found gathered) where
+  -- the places in use hold the atoms found and the two parts of their net counts
   pub take-atoms : take (gathered .count) (gathered .atoms) ≡ found
   take-atoms = rw (held .the-atoms) (take-padded found (held .how-many))
 
@@ -35,6 +36,7 @@ module _ {L R found : List ℕ} {gathered : Gathered} (held : Held L R found gat
   pub take-right : take (gathered .count) (gathered .right) ≡ map (excess R L) found
   take-right = rw (held .right-parts) (take-padded (map (excess R L) found) (held .how-many ∙ sym (length-map found (excess R L))))
 
+  -- and one by one
   pub left-at : (i : ℕ) → i < length found → getD (gathered .left) i 0 ≡ excess L R (getD found i 0)
   left-at i used = rw (held .left-parts) (getD-padded (excess L R) found used)
 
@@ -48,6 +50,7 @@ pub record Within (limits : Limits) (M : Mode) (L R : List ℕ) : Type 0 where
   pub near-left : (atom : ℕ) → excess L R atom ≤ limits .net-count
   pub near-right : (atom : ℕ) → excess R L atom ≤ limits .net-count
 
+-- where 7 to 11 are not given
 pub within-limits : {limits : Limits} {M : Mode} {L R : List ℕ} → NoneOf (PairGiven limits M L R) partingNumbers → Within limits M L R
 within-limits {limits} {M} {L} {R} (also not7 (also not8 (also not9 (also not10 (also not11 end))))) =
     record {

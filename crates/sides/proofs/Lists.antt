@@ -1,9 +1,9 @@
--- Facts about lists: members and places, and filtered lists one member at a time.
+-- Facts about lists: members and places, and lists one member at a time.
 use mathlib.Core.Path.{_≡_, refl, sym, ap, _∙_, fun-ext}
 use mathlib.Core.Bool.{Bool, true, false}
 use mathlib.Core.List.{List, [], _∷_, _++_, map, List·Memᴰ, List·Memᴰ·head, List·Memᴰ·tail}
 use Prim.Native.Nat.{ℕ, zero, suc, _+_, _<_}
-use native.Mathlib.Nat.{not-suc-le-zero, le-of-suc-le-suc, zero-add}
+use native.Mathlib.Nat.{zero-add}
 use native.Mathlib.Numerals.{add-one}
 use native.Mathlib.Omega.{arith}
 use lib.ListN.{length, getD, replicate, length-append}
@@ -14,27 +14,16 @@ pub member-at : {x : ℕ} {xs : List ℕ} → List·Memᴰ x xs → (i : ℕ) ×
 member-at (List·Memᴰ·head e) = (0, omega arith, sym e)
 member-at (List·Memᴰ·tail m) = let t = member-at m in (suc (t .0), omega arith, t .2)
 
--- what stands at a place is a member
-pub at-member : (xs : List ℕ) (i : ℕ) → i < length xs → List·Memᴰ (getD xs i 0) xs
-at-member [] i h = absurd (not-suc-le-zero h)
-at-member (x ∷ xs) zero h = List·Memᴰ·head refl
-at-member (x ∷ xs) (suc i) h = List·Memᴰ·tail (at-member xs i (le-of-suc-le-suc h))
-
--- a list that is made place by place from another has its values there
-pub getD-map : (f : ℕ → ℕ) (xs : List ℕ) (i : ℕ) → i < length xs → getD (map f xs) i 0 ≡ f (getD xs i 0)
-getD-map f [] i h = absurd (not-suc-le-zero h)
-getD-map f (x ∷ xs) zero h = refl
-getD-map f (x ∷ xs) (suc i) h = getD-map f xs i (le-of-suc-le-suc h)
-
--- past the end of a list of one value as at each of its places
+-- a list of one value has it at each place, and past its end it is the default
 pub getD-replicate-same {ℓ} : {A : Type ℓ} (n i : ℕ) (a : A) → getD (replicate n a) i a ≡ a
 getD-replicate-same zero i a = refl
 getD-replicate-same (suc n) zero a = refl
 getD-replicate-same (suc n) (suc i) a = getD-replicate-same n i a
 
-pub map-append : (f : ℕ → ℕ) (xs ys : List ℕ) → map f (xs ++ ys) ≡ map f xs ++ map f ys
+-- what is made of a list joined from two, and which of its members pass
+pub map-append {ℓ} : {A : Type ℓ} (f : ℕ → A) (xs ys : List ℕ) → map f (xs ++ ys) ≡ map f xs ++ map f ys
 map-append f [] ys = refl
-map-append f (x ∷ xs) ys = ap (λ (l : List ℕ). f x ∷ l) (map-append f xs ys)
+map-append f (x ∷ xs) ys = ap (λ l. f x ∷ l) (map-append f xs ys)
 
 keep-append : (b : Bool) (x : ℕ) (xs ys : List ℕ) → keep b x xs ++ ys ≡ keep b x (xs ++ ys)
 keep-append true x xs ys = refl
@@ -45,7 +34,7 @@ filter-append p [] ys = refl
 filter-append p (x ∷ xs) ys = ap (λ (l : List ℕ). keep (p x) x l) (filter-append p xs ys) ∙ sym (keep-append (p x) x (filter p xs) (filter p ys))
 
 -- the last of the numbers from a on
-from-last : (a n : ℕ) → from a (suc n) ≡ from a n ++ (a + n) ∷ []
+pub from-last : (a n : ℕ) → from a (suc n) ≡ from a n ++ (a + n) ∷ []
 from-last a zero = ap (λ (m : ℕ). m ∷ []) (omega arith)
 from-last a (suc n) = ap (λ (l : List ℕ). a ∷ l) (from-last (suc a) n ∙ ap (λ (m : ℕ). from (suc a) n ++ m ∷ []) (omega arith))
 
@@ -60,5 +49,6 @@ filter-below p n =
 pub filter-same : (p q : ℕ → Bool) (xs : List ℕ) → ((x : ℕ) → p x ≡ q x) → filter p xs ≡ filter q xs
 filter-same p q xs same = ap (λ f. filter f xs) (fun-ext same)
 
+-- one member more
 pub length-snoc : (xs : List ℕ) (x : ℕ) → length (xs ++ x ∷ []) ≡ length xs + 1
 length-snoc xs x = length-append xs (x ∷ [])

@@ -40,9 +40,11 @@ module _ {M : Mode} {L R : List ℕ} {counts : Counts} (counted : CountsOf M L R
       let right : getD (counts .right) atom 0 ≡ 0 = List·getD-eq-default (counts .right) 0 (omega (arith, counted .on-right .places)) in
       omega (arith, left, right)
 
+  -- where the counts are more than 8 apart, number 10 is given
   pub far-given : (atom : ℕ) → 8 < apart counts atom → PairGiven limits M L R 10
   far-given atom far = far-net-count atom (omega (arith, net-apart atom))
 
+  -- and where they are nowhere, it is not
   pub near-not-given : ((atom : ℕ) → atom < 128 → apart counts atom ≤ 8) → PairGiven limits M L R 10 → ⊥
   near-not-given near (far-net-count atom far) = go (decLt atom 128)
     where

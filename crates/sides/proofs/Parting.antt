@@ -22,6 +22,7 @@ use Rattle.sides.specs.declared.Parted.{Parted}
 use Rattle.sides.proofs.Telling.{tells-less, tells-either, tells-same, at-most}
 
 module _ {numbers : List ℕ} {M : Mode} {L R : List ℕ} {parted : Parted} where
+  -- a number that is given refuses
   pub parted-refused : {refusal : Refusal} → parted .verdict ≡ Refused refusal → First (PairGiven limits M L R) numbers (numberOf refusal)
       → PartedOf numbers M L R parted
   parted-refused {refusal} verdict first =
@@ -36,6 +37,7 @@ module _ {numbers : List ℕ} {M : Mode} {L R : List ℕ} {parted : Parted} wher
       not-both : parted .verdict ≡ Accepted → ⊥
       not-both e = let z : _≡_ {A = ℕ} 0 1 = cc (verdict, e) in omega arith
 
+  -- where none is, the pair is accepted
   pub parted-accepted : parted .verdict ≡ Accepted → NoneOf (PairGiven limits M L R) numbers → PairOf M L R (parted .pair)
       → PartedOf numbers M L R parted
   parted-accepted verdict none pair =
@@ -68,6 +70,7 @@ tells-many {limit = limit} {number = number} found given many how-many =
 
 -- what tells of each number
 module _ {M : Mode} {L R : List ℕ} where
+  -- what each number says
   wrong-length : PairGiven limits M L R 7 → WrongLength limits L ⊎ WrongLength limits R
   wrong-length (side-length left wrong) = inl wrong
   wrong-length (side-length right wrong) = inr wrong
@@ -82,6 +85,7 @@ module _ {M : Mode} {L R : List ℕ} where
   more-constants : PairGiven limits M L R 11 → 4 < length (unbalanced M L R)
   more-constants (many-constants many) = many
 
+  -- and what tells of it
   pub tells-7 : {first second : Bool} → Tells (WrongLength limits L) first → Tells (WrongLength limits R) second
       → Tells (PairGiven limits M L R 7) (first || second)
   tells-7 = tells-sides {Wrong = WrongLength limits} (λ side is-side wrong. side-length is-side wrong) wrong-length

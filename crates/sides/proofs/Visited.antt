@@ -50,6 +50,7 @@ pub record Visited (p : ℕ → Bool) (f g : ℕ → ℕ) (atom number : ℕ) (a
   pub right-numbers : Stored (map g (filter p (below atom))) rights
 
 module _ (p : ℕ → Bool) (f g : ℕ → ℕ) where
+  -- before the first atom
   pub visited-none : Visited p f g 0 0 (replicate 6 0) (replicate 6 0) (replicate 6 0)
   visited-none = record { how-many = refl; few = omega arith; the-atoms = λ fits. refl; left-numbers = λ fits. refl; right-numbers = λ fits. refl }
 
@@ -96,6 +97,7 @@ isCounted kind counts atom = isOf kind (getD (counts .moving) atom false) (getD 
 abbrev pub exceeds : List ℕ → List ℕ → ℕ → ℕ
 exceeds table other atom = getD table atom 0 - getD other atom 0
 
+-- the counts in the tables are those of the sides
 exceeds-excess : {side other table table′ : List ℕ} → Occurrences side table → Occurrences other table′ → exceeds table table′ ≡ excess side other
 exceeds-excess in-side in-other = fun-ext (λ a. rw (in-side .entries a, in-other .entries a))
 
@@ -105,6 +107,7 @@ module _ {M : Mode} {L R : List ℕ} {counts : Counts} (counted : CountsOf M L R
       filter-same (isCounted kind counts) (λ a. isOf kind (M .moves a) (count a L) (count a R)) atoms
       (λ a. rw (counted .moves a, counted .on-left .entries a, counted .on-right .entries a))
 
+  -- so those of the kind by the tables are those of the sides
   counted-all : (kind : Kind) → filter (isCounted kind counts) atoms ≡ allOf kind M L R
   counted-all Variable = counted-is Variable
   counted-all Constant = counted-is Constant

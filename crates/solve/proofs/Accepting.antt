@@ -19,6 +19,7 @@ use Rattle.solve.specs.declared.groups.Groups.{Groups}
 use Rattle.sides.proofs.Laws.{take-atoms}
 use Rattle.solve.proofs.Counting.{twelve-given}
 
+-- before the first group
 pub groups-none : {Row : ℕ → List ℕ → Type 0} {places : ℕ} {rows sizes : List ℕ} → ((g : ℕ) → getD sizes g 0 ≡ 0)
     → GroupsUpto 16 Row places rows sizes 0
 groups-none empty = record { sizes-fit = λ g. omega (arith, empty g); the-rows = λ g h. absurd (omega arith) }
@@ -52,9 +53,11 @@ groups-next {Row} {places} {count} {group} {bytes} {before} {after} {sizes} ther
 
 -- a group with too many rows, and all groups put
 module _ {M : Mode} {L R : List ℕ} {places : ℕ} {groups : Groups} where
+  -- number 12 is given
   pub put-too-many : {g : ℕ} → groups .fits ≡ false → g ≤ length (unbalanced M L R) → More 16 (RowIn M L R g) → GroupsFound M L R places groups
   put-too-many {g} told within more = record { if-true = λ e. absurd (false≢true (sym told ∙ e)); if-false = λ e. twelve-given g within more }
 
+  -- all groups are found
   pub put-all : {upto : ℕ} → groups .fits ≡ true → upto ≡ suc (length (unbalanced M L R))
       → GroupsUpto 16 (RowIn M L R) places (groups .rows) (groups .sizes) upto → GroupsFound M L R places groups
   put-all told all known =
@@ -84,12 +87,14 @@ module _ {M : Mode} {L R : List ℕ} {pair : Pair} (of : PairOf M L R pair) (roo
         sizes = sizes;
       }
 
+  -- its constants are the unbalanced ones
   the-constants : take (pair .constants .count) four ≡ unbalanced M L R
   the-constants =
       ap (take (pair .constants .count)) first-four
       ∙ take-take (pair .constants .count) 4 (pair .constants .atoms) (roomy .constants-fit)
       ∙ take-atoms (of .the-constants)
 
+  -- each of them has its own rows
   rows-of-constant : (h : Group) → List·Memᴰ h (groupsIn tableWith .constants) → Exactly (RowOf M L R (h .constant)) (h .rows)
   rows-of-constant h member =
       subst (λ c. Exactly (RowOf M L R c) (h .rows)) (sym (s .its-constant ∙ ap (λ cs. getD cs (s .place) 0) the-constants))
@@ -100,6 +105,7 @@ module _ {M : Mode} {L R : List ℕ} {pair : Pair} (of : PairOf M L R pair) (roo
       s : Stands tableWith 1 (take (pair .constants .count) four) h
       s = groupsFrom-stands tableWith 1 (take (pair .constants .count) four) member
 
+  -- so the table is that of the pair
   pub table-of : TableOf M L R tableWith
   table-of =
       record {

@@ -14,10 +14,9 @@ use Rattle.sides.specs.Given.{PairGiven}
 use Rattle.sides.proofs.Laws.{sides-number}
 use Rattle.table.specs.Table.{groupsIn, TableOf}
 use Rattle.table.specs.declared.Table.{Table}
-use Rattle.table.proofs.Groups.{length-groupAt}
+use Rattle.table.proofs.Groups.{length-groupAt, how-many-constants}
 use Rattle.solve.specs.Given.{rowsBuffer, RowsGiven, of-the-sides, short-buffer, pairNumbers}
 use Rattle.solve.specs.Rows.{refused, groups, size, sizesOf, allRows, bytesOf, RowsPromise, is-refused, is-answered}
-use Rattle.solve.proofs.Putting.{how-many-constants}
 
 module _ {M : Mode} {L R out : List ℕ} where
   -- each row of Rows' table is the row of the sides or of the buffer
@@ -28,21 +27,24 @@ module _ {M : Mode} {L R out : List ℕ} where
       row-of (of-the-sides given) = sides-row (sides-number given) given
       row-of (short-buffer short) = buffer-row short
 
+  -- number 16
   pub short-refused : length out < rowsBuffer → RowsPromise M L R out (refused 16) out
   short-refused short = is-refused (first-short made short)
 
   module _ (long : rowsBuffer ≤ length out) where
+    -- a number from 7 to 12
     pub sides-refused : {n : ℕ} → First (PairGiven limits M L R) pairNumbers n → RowsPromise M L R out (refused n) out
     sides-refused first = is-refused (first-of-sides made long refl [] first)
 
-    pub rows-answered : {t : Table} {after : List ℕ} {next first second third fourth : ℕ} → TableOf M L R t → length (t .constants) ≡ 4
+    -- the rows, and the sizes of the groups
+    pub rows-answered : {t : Table} {after : List ℕ} {next first second third fourth : ℕ} → TableOf M L R t
         → NoneOf (PairGiven limits M L R) pairNumbers → Put out 0 (bytesOf (allRows (groupsIn t))) next after → next ≤ 480
         → first ≡ size (groupsIn t) 0 → second ≡ size (groupsIn t) 1 → third ≡ size (groupsIn t) 2 → fourth ≡ size (groupsIn t) 3
         → RowsPromise M L R out (groups (getD (t .sizes) 0 0) (t .unbalanced) first second third fourth) after
-    rows-answered {t} {after} {next} {first} {second} {third} {fourth} of room none put within e₁ e₂ e₃ e₄ =
+    rows-answered {t} {after} {next} {first} {second} {third} {fourth} of none put within e₁ e₂ e₃ e₄ =
         subst (λ o. RowsPromise M L R out o after) sizes
         (subst (RowsPromise M L R out (sizesOf (groupsIn t))) (sym (put-received put (omega arith)))
         (is-answered (none-of-sides made long refl none) (of .the-groups)))
       where
         sizes : sizesOf (groupsIn t) ≡ groups (getD (t .sizes) 0 0) (t .unbalanced) first second third fourth
-        sizes = cc (length-groupAt t 0, how-many-constants (of .within) room, e₁, e₂, e₃, e₄)
+        sizes = cc (length-groupAt t 0, how-many-constants t (of .within), e₁, e₂, e₃, e₄)

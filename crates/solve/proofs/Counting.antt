@@ -7,11 +7,11 @@ use lib.ListN.{length, getD, take}
 use Rattle.ac.specs.Pair.{Mode, unbalanced}
 use Rattle.ac.specs.Rows.{GroupsOf}
 use Rattle.ac.specs.Search.{groupOf, groups}
+use Rattle.ac.proofs.Places.{getD-member}
 use Rattle.ac.proofs.Order.{exactly-unique}
 use Rattle.ac.proofs.Groups.{groups-exist, groups-unique}
 use Rattle.sides.specs.Limits.{limits}
 use Rattle.sides.specs.Given.{ManyRows, ManyRows.balanced, ManyRows.of-a-constant, PairGiven, many-rows}
-use Rattle.sides.proofs.Lists.{at-member}
 use Rattle.table.specs.Table.{groupsIn, Within}
 use Rattle.table.specs.declared.Table.{Table}
 use Rattle.table.proofs.Groups.{length-groupAt, groupsFrom-stands}
@@ -44,7 +44,7 @@ module _ {M : Mode} {L R : List ℕ} where
       c = getD (unbalanced M L R) g 0
 
       member : List·Memᴰ (groupOf M L R c) (map (groupOf M L R) (unbalanced M L R))
-      member = Memᴰ·map (groupOf M L R) (at-member (unbalanced M L R) g within)
+      member = Memᴰ·map (groupOf M L R) (getD-member (unbalanced M L R) g 0 within)
 
   -- where a table holds the pair's groups, 12 is not given
   pub twelve-not-given : {t : Table} → Within t → GroupsOf M L R (groupsIn t) → PairGiven limits M L R 12 → ⊥

@@ -20,6 +20,7 @@ use Rattle.solve.proofs.Lists.{flatMap-append, AllOf, length-bytes}
 
 -- Bytes of rows, cut again.
 
+-- rows of so many bytes each
 rows-again : (places : ℕ) (rows : List (List ℕ)) (rest : List ℕ) → AllOf places rows → rowsOf places (length rows) (bytesOf rows ++ rest) ≡ rows
 rows-again places [] rest long = refl
 rows-again places (row ∷ rows) rest long =
@@ -31,6 +32,7 @@ rows-again places (row ∷ rows) rest long =
     its : length row ≡ places
     its = long row (List·Memᴰ·head refl)
 
+-- groups of such rows
 cut-again : (places : ℕ) (gs : List (List (List ℕ))) (rest : List ℕ) → ((rows : List (List ℕ)) → List·Memᴰ rows gs → AllOf places rows)
     → cut places (map length gs) (bytesOf (flatMap (λ rows. rows) gs) ++ rest) ≡ gs
 cut-again places [] rest long = refl
@@ -53,13 +55,16 @@ cut-again places (rows ∷ gs) rest long =
 
 -- The groups of a pair as lists of rows.
 
+-- the rows of each group, the balanced ones first
 abbrev rowsOfEach : Groups → List (List (List ℕ))
 rowsOfEach G = G .balanced ∷ map (λ (g : Group). g .rows) (G .constants)
 
+-- all rows are those of each group
 all-rows-each : (gs : List Group) → flatMap (λ (g : Group). g .rows) gs ≡ flatMap (λ rows. rows) (map (λ (g : Group). g .rows) gs)
 all-rows-each [] = refl
 all-rows-each (g ∷ gs) = ap (λ l. g .rows ++ l) (all-rows-each gs)
 
+-- and so are the sizes
 sizes-each : (gs : List Group) → map (λ (g : Group). length (g .rows)) gs ≡ map length (map (λ (g : Group). g .rows) gs)
 sizes-each [] = refl
 sizes-each (g ∷ gs) = ap (λ l. length (g .rows) ∷ l) (sizes-each gs)
@@ -96,6 +101,7 @@ module _ {M : Mode} {L R : List ℕ} {G : Groups} (of : GroupsOf M L R G) where
       let group = Memᴰ·of-map (λ (g : Group). g .rows) (G .constants) member in
       of .constant-rows (group .0) (group .1) .only row (subst (List·Memᴰ row) (sym (group .2)) m) .vector
 
+  -- what is cut from the buffer are the groups' rows
   cut-buffer : length (G .constants) ≤ 4 → (out : List ℕ)
       → cut (length (variables M L R)) (groupSizes (sizesOf G)) (receives out (bytesOf (allRows G))) ≡ rowsOfEach G
   cut-buffer few out =

@@ -76,11 +76,13 @@ module _ {M : Mode} {L R : List ℕ} {pair : Pair} (of : PairOf M L R pair) wher
             homogeneous = homogeneous;
           }
 
+  -- the balanced rows: no offset, and not all zero
   pub found-balanced : {n : ℕ} {bytes : List ℕ}
       → Finds 16 (parts 0 0 true) bytes n
       → FoundOf 16 (RowIn M L R 0) (pair .variables .count) bytes n
   found-balanced = found-rows (balanced-row-is-minimal M L R)
 
+  -- the rows of a constant: its net parts are the offsets
   pub found-constant : {g n : ℕ} {bytes : List ℕ} → g < pair .constants .count
       → Finds 16 (parts (getD (pair .constants .left) g 0) (getD (pair .constants .right) g 0) false) bytes n
       → FoundOf 16 (RowIn M L R (suc g)) (pair .variables .count) bytes n

@@ -6,8 +6,10 @@ use mathlib.Core.Path.{_≡_, refl, sym, ap, ap₂, _∙_}
 use mathlib.Core.List.{List, [], _∷_, _++_, map, append-assoc, append-nil, List·Memᴰ, List·Memᴰ·head, List·Memᴰ·tail}
 use lib.ListN.{length, length-append}
 use Rattle.ac.specs.Lists.{from, below, flatMap}
+use Rattle.sides.proofs.Lists.{from-last, map-append}
 use Rattle.solve.specs.Rows.{bytesOf}
 
+-- functions that agree on the numbers from a on, or below one, make the same of them
 from-same {ℓ} : {A : Type ℓ} (f g : ℕ → A) (a n : ℕ) → ((i : ℕ) → a ≤ i → i < a + n → f i ≡ g i) → map f (from a n) ≡ map g (from a n)
 from-same f g a zero same = refl
 from-same f g a (suc n) same =
@@ -16,26 +18,28 @@ from-same f g a (suc n) same =
 pub below-same {ℓ} : {A : Type ℓ} (f g : ℕ → A) (n : ℕ) → ((i : ℕ) → i < n → f i ≡ g i) → map f (below n) ≡ map g (below n)
 below-same f g n same = from-same f g 0 n (λ i low high. same i (omega arith))
 
--- the last of the numbers from a on
-pub from-snoc {ℓ} : {A : Type ℓ} (f : ℕ → A) (a n : ℕ) → map f (from a (suc n)) ≡ map f (from a n) ++ (f (a + n) ∷ [])
-from-snoc f a zero = ap (λ k. f k ∷ []) (omega arith)
-from-snoc f a (suc n) = ap (λ xs. f a ∷ xs) (from-snoc f (suc a) n ∙ ap (λ k. map f (from (suc a) n) ++ (f k ∷ [])) (omega arith))
-
+-- lists joined from two
 pub flatMap-append {ℓ κ} : {A : Type ℓ} {B : Type κ} (f : A → List B) (xs ys : List A) → flatMap f (xs ++ ys) ≡ flatMap f xs ++ flatMap f ys
 flatMap-append f [] ys = refl
 flatMap-append f (x ∷ xs) ys = ap (λ l. f x ++ l) (flatMap-append f xs ys) ∙ sym (append-assoc (f x) (flatMap f xs) (flatMap f ys))
 
-pub flatMap-from-snoc {ℓ} : {B : Type ℓ} (f : ℕ → List B) (a n : ℕ) → flatMap f (from a (suc n)) ≡ flatMap f (from a n) ++ f (a + n)
-flatMap-from-snoc f a zero = append-nil (f a) ∙ ap f (omega arith)
-flatMap-from-snoc f a (suc n) =
-    ap (λ l. f a ++ l) (flatMap-from-snoc f (suc a) n ∙ ap (λ k. flatMap f (from (suc a) n) ++ f k) (omega arith))
-    ∙ sym (append-assoc (f a) (flatMap f (from (suc a) n)) (f (a + suc n)))
+-- what is made of the last of the numbers from a on stands last
+pub map-from-last {ℓ} : {A : Type ℓ} (f : ℕ → A) (a n : ℕ) → map f (from a (suc n)) ≡ map f (from a n) ++ (f (a + n) ∷ [])
+map-from-last f a n = ap (map f) (from-last a n) ∙ map-append f (from a n) ((a + n) ∷ [])
+
+pub flatMap-from-last {ℓ} : {B : Type ℓ} (f : ℕ → List B) (a n : ℕ) → flatMap f (from a (suc n)) ≡ flatMap f (from a n) ++ f (a + n)
+flatMap-from-last f a n =
+    ap (flatMap f) (from-last a n)
+    ∙ flatMap-append f (from a n) ((a + n) ∷ [])
+    ∙ ap (λ l. flatMap f (from a n) ++ l) (append-nil (f (a + n)))
 
 -- Rows of so many places each, as bytes.
 
+-- each row has so many places
 abbrev pub AllOf : ℕ → List (List ℕ) → Type 0
 AllOf places rows = (row : List ℕ) → List·Memᴰ row rows → length row ≡ places
 
+-- then there are as many bytes as rows times places
 pub length-bytes : (places : ℕ) (rows : List (List ℕ)) → AllOf places rows → length (bytesOf rows) ≡ length rows * places
 length-bytes places [] long = sym (zero-mul places)
 length-bytes places (row ∷ rows) long =

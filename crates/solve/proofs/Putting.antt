@@ -13,9 +13,9 @@ use Rattle.buffer.specs.Put.{Put}
 use Rattle.buffer.proofs.Puts.{put-then, put-as, put-length}
 use Rattle.table.specs.Table.{rowIn, groupIn, groupAt, groupsFrom, groupsIn, Within}
 use Rattle.table.specs.declared.Table.{Table}
-use Rattle.table.proofs.Groups.{length-groupAt, length-groupsFrom}
+use Rattle.table.proofs.Groups.{length-groupAt, length-groupsFrom, how-many-constants}
 use Rattle.solve.specs.Rows.{size, allRows, bytesOf}
-use Rattle.solve.proofs.Lists.{from-snoc, flatMap-append, flatMap-from-snoc, AllOf, length-bytes}
+use Rattle.solve.proofs.Lists.{map-from-last, flatMap-append, flatMap-from-last, AllOf, length-bytes}
 use Rattle.ac.proofs.Keys.{length-from}
 use Rattle.ac.proofs.Members.{below-members}
 
@@ -25,15 +25,17 @@ use Rattle.ac.proofs.Members.{below-members}
 bytes-next : (places group : ℕ) (rows : List ℕ) (i : ℕ)
     → bytesOf (groupIn places rows group (suc i)) ≡ bytesOf (groupIn places rows group i) ++ rowIn places rows group i
 bytes-next places group rows i =
-    ap bytesOf (from-snoc (rowIn places rows group) 0 i)
+    ap bytesOf (map-from-last (rowIn places rows group) 0 i)
     ∙ flatMap-append (λ row. row) (groupIn places rows group i) (rowIn places rows group (0 + i) ∷ [])
     ∙ ap (λ l. bytesOf (groupIn places rows group i) ++ l)
     (append-nil (rowIn places rows group (0 + i)) ∙ ap (rowIn places rows group) (let e : 0 + i ≡ i = omega arith in e))
 
 module _ (rows : List ℕ) {places group : ℕ} (size : length rows ≡ 480) (narrow : places ≤ 6) (few-groups : group < 5) where
+  -- a row has a byte for each place
   row-length : (i : ℕ) → i < 16 → length (rowIn places rows group i) ≡ places
   row-length i h = length-take-le places (drop (96 * group + 6 * i) rows) (omega (arith, length-drop (96 * group + 6 * i) rows))
 
+  -- and a group as many bytes as rows times places
   pub bytes-length : (count : ℕ) → count ≤ 16 → length (bytesOf (groupIn places rows group count)) ≡ count * places
   bytes-length count few =
       length-bytes places (groupIn places rows group count) each
@@ -67,6 +69,7 @@ module _ (rows : List ℕ) {places group : ℕ} (size : length rows ≡ 480) (na
   row-part i =
       ap (λ n. take n (drop (96 * group + 6 * i) rows)) (let e : 96 * group + 6 * i + places - (96 * group + 6 * i) ≡ places = omega arith in e)
 
+-- one row more is put
 pub put-row : (places group : ℕ) (rows : List ℕ) (i : ℕ) {at next n : ℕ} {out mid after bytes : List ℕ}
     → Put out at (bytesOf (groupIn places rows group i)) next mid → bytes ≡ rowIn places rows group i → Put mid next bytes n after → Put out at (bytesOf (groupIn places rows group (i + 1))) n after
 put-row places group rows i before same put =
@@ -81,6 +84,7 @@ put-row places group rows i before same put =
 abbrev pub rowsBefore : Table → ℕ → List (List ℕ)
 rowsBefore t group = flatMap (groupAt t) (below group)
 
+-- one group more is put
 pub put-group : (t : Table) (group : ℕ) {at next n : ℕ} {out mid after : List ℕ} → Put out at (bytesOf (rowsBefore t group)) next mid
     → Put mid next (bytesOf (groupAt t group)) n after → Put out at (bytesOf (rowsBefore t (group + 1))) n after
 put-group t group before put =
@@ -88,25 +92,27 @@ put-group t group before put =
     (sym (flatMap-append (λ row. row) (rowsBefore t group) (groupAt t group))
     ∙ ap bytesOf
     (ap (λ k. rowsBefore t group ++ groupAt t k) (let e : group ≡ 0 + group = omega arith in e)
-    ∙ sym (flatMap-from-snoc (groupAt t) 0 group)
+    ∙ sym (flatMap-from-last (groupAt t) 0 group)
     ∙ ap (rowsBefore t) (sym (add-one group))))
     (put-then before put)
 
+-- the rows of the constants' groups stand by number
 rows-groupsFrom : (t : Table) (first : ℕ) (cs : List ℕ)
     → flatMap (λ (g : Group). g .rows) (groupsFrom t first cs) ≡ flatMap (groupAt t) (from first (length cs))
 rows-groupsFrom t first [] = refl
 rows-groupsFrom t first (c ∷ cs) = ap (λ l. groupAt t first ++ l) (rows-groupsFrom t (suc first) cs)
 
 -- all rows are those of the groups up to the last constant's
-pub all-rows : {t : Table} → Within t → length (t .constants) ≡ 4 → allRows (groupsIn t) ≡ rowsBefore t (t .unbalanced + 1)
-all-rows {t} within room =
+pub all-rows : {t : Table} → Within t → allRows (groupsIn t) ≡ rowsBefore t (t .unbalanced + 1)
+all-rows {t} within =
     ap (λ l. groupAt t 0 ++ l)
     (rows-groupsFrom t 1 (take (t .unbalanced) (t .constants))
-    ∙ ap (λ n. flatMap (groupAt t) (from 1 n)) (length-take-le (t .unbalanced) (t .constants) (omega (arith, within .constants-fit))))
+    ∙ ap (λ n. flatMap (groupAt t) (from 1 n)) (length-take-le (t .unbalanced) (t .constants) (within .constants-held)))
     ∙ ap (rowsBefore t) (sym (add-one (t .unbalanced)))
 
 -- The sizes of the constants' groups.
 
+-- each group has the size beside it
 size-from : (t : Table) (first : ℕ) (cs : List ℕ) (i : ℕ) → i < length cs
     → getD (map (λ (g : Group). length (g .rows)) (groupsFrom t first cs)) i 0 ≡ getD (t .sizes) (first + i) 0
 size-from t first [] i h = absurd (omega arith)
@@ -114,21 +120,20 @@ size-from t first (c ∷ cs) zero h = length-groupAt t first ∙ ap (λ g. getD 
 size-from t first (c ∷ cs) (suc i) h =
     size-from t (suc first) cs i (omega arith) ∙ ap (λ g. getD (t .sizes) g 0) (let e : suc first + i ≡ first + suc i = omega arith in e)
 
-module _ {t : Table} (within : Within t) (room : length (t .constants) ≡ 4) where
+module _ {t : Table} (within : Within t) where
   abbrev used : List ℕ
   used = take (t .unbalanced) (t .constants)
 
-  pub how-many-constants : length (groupsIn t .constants) ≡ t .unbalanced
-  how-many-constants = length-groupsFrom t 1 used ∙ length-take-le (t .unbalanced) (t .constants) (omega (arith, within .constants-fit))
-
+  -- the size of a constant that is there
   pub size-there : (place : ℕ) → place < t .unbalanced → getD (t .sizes) (place + 1) 0 ≡ size (groupsIn t) place
   size-there place h =
       sym
-      (size-from t 1 used place (omega (arith, how-many-constants, length-groupsFrom t 1 used))
+      (size-from t 1 used place (omega (arith, how-many-constants t within, length-groupsFrom t 1 used))
       ∙ ap (λ g. getD (t .sizes) g 0) (let e : 1 + place ≡ place + 1 = omega arith in e))
 
+  -- and of one that is not
   pub size-beyond : (place : ℕ) → t .unbalanced ≤ place → 0 ≡ size (groupsIn t) place
   size-beyond place h =
       sym
       (List·getD-eq-default (map (λ (g : Group). length (g .rows)) (groupsIn t .constants)) 0
-      (omega (arith, how-many-constants, length-map (groupsIn t .constants) (λ (g : Group). length (g .rows)))))
+      (omega (arith, how-many-constants t within, length-map (groupsIn t .constants) (λ (g : Group). length (g .rows)))))

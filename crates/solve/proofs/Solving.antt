@@ -20,6 +20,7 @@ use Rattle.solve.specs.Groups.{Roomy}
 use Rattle.solve.specs.declared.Solved.{Solved}
 
 module _ {M : Mode} {L R : List ℕ} {solved : Solved} where
+  -- a number that is given refuses
   pub solved-refused : {numbers : List ℕ} {why : Refusal} → solved .verdict ≡ Refused why → First (PairGiven limits M L R) numbers (numberOf why)
       → SolvedOf numbers M L R solved
   solved-refused {numbers} {why} told first =
@@ -29,6 +30,7 @@ module _ {M : Mode} {L R : List ℕ} {solved : Solved} where
         the-table = λ e. absurd (let z : _≡_ {A = ℕ} 0 1 = cc in omega arith);
       }
 
+  -- where none is, the pair is accepted
   pub solved-accepted : {numbers : List ℕ} → solved .verdict ≡ Accepted → NoneOf (PairGiven limits M L R) numbers → TableOf M L R (solved .table)
       → SolvedOf numbers M L R solved
   solved-accepted told none table =

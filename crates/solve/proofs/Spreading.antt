@@ -14,7 +14,7 @@ use Rattle.rows.specs.Flat.{rowsOf}
 use Rattle.rows.proofs.Flat.{rowAt, rows-snoc}
 use Rattle.table.specs.Table.{rowIn}
 use Rattle.solve.specs.Groups.{Spreads}
-use Rattle.solve.proofs.Lists.{below-same, from-snoc}
+use Rattle.solve.proofs.Lists.{below-same, map-from-last}
 
 -- What stands at one place of a list is not touched by what is put at another.
 
@@ -22,6 +22,7 @@ use Rattle.solve.proofs.Lists.{below-same, from-snoc}
 abbrev Apart : ℕ → ℕ → ℕ → ℕ → Type 0
 Apart start size at many = (start + size ≤ at) ⊎ (at + many ≤ start)
 
+-- one byte
 set-apart : (l : List ℕ) (i v start size : ℕ) → Apart start size i 1 → take size (drop start (set l i v)) ≡ take size (drop start l)
 set-apart l i v start size (inl before) =
     let e : i ≡ start + (i - start) = omega arith in
@@ -31,6 +32,7 @@ set-apart l i v start size (inl before) =
     ∙ take-set-le size (drop start l) (i - start) v far
 set-apart l i v start size (inr after) = ap (take size) (drop-set-lt start l i v (let h : i < start = omega arith in h))
 
+-- several bytes
 sets-apart : (l : List ℕ) (at : ℕ) (vs : List ℕ) (start size : ℕ) → Apart start size at (length vs)
     → take size (drop start (sets l at vs)) ≡ take size (drop start l)
 sets-apart l at [] start size h = refl
@@ -56,7 +58,7 @@ rows-by-index k zero bytes = refl
 rows-by-index k (suc n) bytes =
     rows-snoc k n bytes
     ∙ ap₂ {C = List (List ℕ)} (λ rs i. rs ++ (rowAt k bytes i ∷ [])) (rows-by-index k n bytes) (let e : n ≡ 0 + n = omega arith in e)
-    ∙ sym (from-snoc (rowAt k bytes) 0 n)
+    ∙ sym (map-from-last (rowAt k bytes) 0 n)
 
 -- the bytes of a row that is to be put, within those found
 module _ {i count : ℕ} (places : ℕ) (found : List ℕ) (within : i < count) (room : count * places ≤ length found) where
@@ -77,6 +79,7 @@ pub record SpreadTo (places group : ℕ) (found before : List ℕ) (i : ℕ) (ro
   pub stored : (j : ℕ) → j < i → rowIn places rows group j ≡ rowAt places found j
   pub others : (other j : ℕ) → (other ≡ group → ⊥) → j < 16 → rowIn places rows other j ≡ rowIn places before other j
 
+-- before the first turn
 pub spread-none : {places group : ℕ} {found before : List ℕ} → length before ≡ 480 → SpreadTo places group found before 0 before
 spread-none size = record { size = size; stored = λ j h. absurd (omega arith); others = λ other j differs h. refl }
 
@@ -92,6 +95,7 @@ rows-apart {places} {g} {h} {i} {j} narrow differs first second = go (decLt h g)
         after = elim (decLt g h) [ yes l ↦ l | no l ↦ absurd (differs (omega arith)) ]
 
 module _ {places group : ℕ} {found before : List ℕ} (narrow : places ≤ 6) (few-groups : group < 5) where
+  -- one row more
   pub spread-next : {i : ℕ} {rows after bytes : List ℕ} {next : ℕ} → i < 16 → length bytes ≡ places → bytes ≡ rowAt places found i
       → SpreadTo places group found before i rows → Put rows (96 * group + 6 * i) bytes next after → SpreadTo places group found before (i + 1) after
   spread-next {i} {rows} {after} {bytes} fits long row known put =
@@ -121,6 +125,7 @@ module _ {places group : ℕ} {found before : List ℕ} (narrow : places ≤ 6) 
           let same : j ≡ i = omega arith in
           ap (rowIn places after group) same ∙ there ∙ row ∙ ap (rowAt places found) (sym same)
 
+-- after the last turn
 pub spread-all : {places group count : ℕ} {found before rows : List ℕ} → count ≤ 16 → SpreadTo places group found before count rows
     → Spreads places group count found before rows
 spread-all {places} {group} {count} {found} {before} {rows} few known =

@@ -12,9 +12,11 @@ use Rattle.table.specs.Table.{rowAt, groupAt, groupsFrom, groupsIn, With
 use Rattle.table.specs.declared.Table.{Table}
 
 module _ (t : Table) where
+  -- a group has as many rows as its size says
   pub length-groupAt : (g : ℕ) → length (groupAt t g) ≡ getD (t .sizes) g 0
   length-groupAt g = length-map (from 0 (getD (t .sizes) g 0)) (rowAt t g) ∙ length-from 0 (getD (t .sizes) g 0)
 
+  -- there is a group for each constant, and it is that constant's
   pub length-groupsFrom : (g : ℕ) (cs : List ℕ) → length (groupsFrom t g cs) ≡ length cs
   length-groupsFrom g [] = refl
   length-groupsFrom g (c ∷ cs) = ap suc (length-groupsFrom (suc g) cs)
@@ -35,6 +37,7 @@ module _ (t : Table) where
     pub its-constant : h .constant ≡ getD cs place 0
     pub its-rows : h .rows ≡ groupAt t (first + place)
 
+  -- each of them stands somewhere
   pub groupsFrom-stands : (first : ℕ) (cs : List ℕ) {h : Group} → List·Memᴰ h (groupsFrom t first cs) → Stands first cs h
   groupsFrom-stands first (c ∷ cs) (List·Memᴰ·head e) =
       record {

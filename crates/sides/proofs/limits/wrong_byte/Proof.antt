@@ -6,7 +6,8 @@ use borrow.Author.Needs.{needs}
 use borrow.Author.Count.{below-more}
 use lib.ListN.{length, getD}
 use denote.Ref.{now}
-use Rattle.sides.proofs.Lists.{member-at, at-member}
+use Rattle.ac.proofs.Places.{getD-member}
+use Rattle.sides.proofs.Lists.{member-at}
 use Rattle.sides.proofs.Telling.{tells-true, tells-false}
 use Rattle.sides.proofs.limits.wrong_byte.Statement.{statement}
 use Rattle.sides.proofs.limits.wrong_byte.Tie as tie
@@ -27,7 +28,7 @@ returns : tie.Need-returns Inv-loop μ-loop
 returns c =
     let side = now (c .before .before .before .before .args .side) in
     let i = c .before .before .before .loop .i in
-    tells-true (record { byte = getD side i 0; held = at-member side i (c .before .before .loop-test .taken); above = c .if1 .taken })
+    tells-true (record { byte = getD side i 0; held = getD-member side i 0 (c .before .before .loop-test .taken); above = c .if1 .taken })
 
 add-i : tie.Need-add-i Inv-loop μ-loop
 add-i c = search needs

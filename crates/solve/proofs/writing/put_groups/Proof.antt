@@ -76,7 +76,7 @@ returns c =
     let t = start .args .table in
     let l = c .before .before .loop in
     let same : l .group ≡ t .unbalanced + 1 = omega arith in (
-      put-as (ap bytesOf (ap (rowsBefore t) same ∙ sym (all-rows (start .pre .0) (search needs)))) (l .inv .2),
+      put-as (ap bytesOf (ap (rowsBefore t) same ∙ sym (all-rows (start .pre .0)))) (l .inv .2),
       omega (arith, start .pre .0 .constants-fit, l .inv .1),
     )
 

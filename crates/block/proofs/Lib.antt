@@ -6,5 +6,4 @@ pub mod Settled
 pub mod Sides
 pub mod Faults
 pub mod Determined
-pub mod Laws
 pub mod Zeros

@@ -7,10 +7,9 @@ use mathlib.Core.Logic.{⊎-elim}
 use mathlib.Core.List.{List, [], _∷_}
 use lib.ListN.{length, getD}
 use lib.Pow.{pow-pos, shr-shr, field, mod-pow-add, mod-mod-pow}
-use Rattle.ac.specs.Lists.{from}
 use Rattle.ac.specs.Rows.{Group, Groups}
 use Rattle.ac.specs.Selection.{Within, none, index}
-use Rattle.ac.specs.Keys.{Layout, Fits, Candidate, bit, bits, fieldsOf, fieldAt, selectionAt}
+use Rattle.ac.specs.Keys.{Layout, Fits, Candidate, fieldsOf, fieldAt, selectionAt}
 use Rattle.ac.proofs.Keys.{next-field}
 
 -- the rows of the group at a place

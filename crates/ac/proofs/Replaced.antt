@@ -2,14 +2,14 @@
 use Prim.Native.Nat.{ℕ, _+_, _<_}
 use mathlib.Core.Path.{_≡_, refl, sym, ap, _∙_}
 use mathlib.Core.Bool.{Bool, true, false, not, cond, _&&_, true≢false, and-eq-true-iff}
-use mathlib.Core.List.{List, map, List·Memᴰ}
+use mathlib.Core.List.{List, List·Memᴰ}
 use native.Mathlib.Omega.{arith}
 use native.Mathlib.Decide.{ℕ-discrete, decLt}
 use lib.Dec.{eqb}
 use borrow.Author.Tests.{eqb-false, not-true, ne-eqb, lt-ltb}
 use Rattle.ac.specs.Lists.{Ascending}
 use Rattle.ac.specs.Pair.{Mode, IsSide, count, occurs, atoms, variables, unbalanced}
-use Rattle.ac.specs.Equation.{dot}
+use Rattle.ac.specs.Equation.{dot, onLeft, onRight}
 use Rattle.ac.specs.Replacement.{Replacement, put, occurrences}
 use Rattle.ac.proofs.Order.{filter-member, member-filter, filter-ascending}
 use Rattle.ac.proofs.Places.{from-bounds, from-member, from-ascending}
@@ -21,13 +21,6 @@ pub data Kind (M : Mode) (L R : List ℕ) (b : ℕ) : Type 0 where
   other : (List·Memᴰ b (unbalanced M L R) → ⊥) → staying (M .moves) b L ≡ staying (M .moves) b R → Kind M L R b
 
 module _ (M : Mode) (L R : List ℕ) where
-  -- the variables' occurrences on the left and on the right
-  abbrev pub onLeft : List ℕ
-  onLeft = map (λ x. count x L) (variables M L R)
-
-  abbrev pub onRight : List ℕ
-  onRight = map (λ x. count x R) (variables M L R)
-
   -- what makes an atom a variable, and what an unbalanced constant
   abbrev isVariable : ℕ → Bool
   isVariable a = M .moves a && occurs L R a
@@ -91,12 +84,12 @@ module _ (M : Mode) (L R : List ℕ) where
         go false e (no differ) = constant (unbalanced-member b (differ-small b differ) e differ) (stay false e L) (stay false e R)
 
     module _ (θ : Replacement) (b : ℕ) where
-      pub count-left : count b (put (M .moves) θ L) ≡ dot onLeft (occurrences θ (variables M L R) b) + staying (M .moves) b L
+      pub count-left : count b (put (M .moves) θ L) ≡ dot (onLeft M L R) (occurrences θ (variables M L R) b) + staying (M .moves) b L
       count-left =
           count-put (M .moves) θ b variables-ascending variables-move L
           (λ a m moves. moving-variable a (left a m) (omega (arith, count-some a L m)) moves)
 
-      pub count-right : count b (put (M .moves) θ R) ≡ dot onRight (occurrences θ (variables M L R) b) + staying (M .moves) b R
+      pub count-right : count b (put (M .moves) θ R) ≡ dot (onRight M L R) (occurrences θ (variables M L R) b) + staying (M .moves) b R
       count-right =
           count-put (M .moves) θ b variables-ascending variables-move R
           (λ a m moves. moving-variable a (right a m) (omega (arith, count-some a R m)) moves)

@@ -12,13 +12,13 @@ use lib.Seq.{ext-getD}
 use Rattle.ac.specs.Lists.{Ascending}
 use Rattle.ac.specs.Pair.{Mode, IsSide, same, count, variables, unbalanced}
 use Rattle.ac.specs.Rows.{Group, Groups, GroupsOf}
-use Rattle.ac.specs.Equation.{dot}
+use Rattle.ac.specs.Equation.{dot, onLeft, onRight}
 use Rattle.ac.specs.Selection.{Selection, SelectionOf, Within, none, index, Taken, takenRows, takenBalanced, taken, allReached, placeOf, admissible, value}
 use Rattle.ac.specs.Replacement.{put, occurrences, NonEmpty, Unifies}
 use Rattle.ac.proofs.Places.{getD-map, getD-member, placeOf-getD, placeOf-lt}
 use Rattle.ac.proofs.Counts.{same-self, same-other, count-none, count-once, staying}
 use Rattle.ac.proofs.Taken.{total, count-valueAt, reached-value, allReached-reached, admissible-reaches}
-use Rattle.ac.proofs.Replaced.{onLeft, onRight, variables-ascending, unbalanced-ascending, Kind, constant, other, kind-of, count-left, count-right}
+use Rattle.ac.proofs.Replaced.{variables-ascending, unbalanced-ascending, Kind, constant, other, kind-of, count-left, count-right}
 use Rattle.ac.proofs.Constants.{constantsOf}
 use Rattle.ac.proofs.Bridge.{weight-zero, weight-of-constant}
 
@@ -115,12 +115,12 @@ module _ (M : Mode) (L R : List ℕ) (left : IsSide L) (right : IsSide R) (G : G
       → dot (onLeft M L R) v + count (g .constant) L ≡ dot (onRight M L R) v + count (g .constant) R
   rows-solve g m v n =
       let row = groups .constant-rows g m .only v n in
-      weight-of-constant M L R (g .constant) v (row .vector) .0 (row .least .has)
+      weight-of-constant M L R (g .constant) v .0 (row .least .has)
 
   balanced-solve : (v : List ℕ) → List·Memᴰ v (G .balanced) → dot (onLeft M L R) v ≡ dot (onRight M L R) v
   balanced-solve v m =
       let row = groups .balanced-rows .only v m in
-      weight-zero M L R v (row .vector) .0 (row .least .has .1)
+      weight-zero M L R v .0 (row .least .has .1)
 
   module _ (new : ℕ) (s : Selection) (selection : SelectionOf G s) where
     abbrev constantRows : List Taken

@@ -13,7 +13,7 @@ use Rattle.ac.proofs.Vectors.{same-length, ≼-trans, ≼-equal, sum-mono, exac
 use Rattle.ac.proofs.Order.{≺-asymmetric, ascending-single, ascending-append}
 use Rattle.ac.proofs.Places.{getD-member}
 use Rattle.ac.proofs.Search.{minimal-solutions-exact}
-use Rattle.ac.proofs.Sums.{RowBelow, minimal-below}
+use Rattle.ac.proofs.RowBelow.{RowBelow, minimal-below}
 use Rattle.rows.specs.Flat.{rowsOf}
 use Rattle.rows.specs.Kept.{Holds, Holds.few, Holds.more, Upto, RowBefore, RowUpto, Lower, Keeps, Advances}
 use Rattle.rows.proofs.Flat.{length-rows, rows-put}

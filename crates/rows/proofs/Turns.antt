@@ -25,6 +25,13 @@ pub record Choice (limit : ℕ) (left right mostLeft mostRight vector bytes : Li
   pub within : place < length left
   pub ranges : Ranges at (getD left place 0) (getD right place 0) (eqb (place + 1) (length left)) range
 
+-- so it does before a place that is not the end
+pub choice-here : {limit : ℕ} {left right mostLeft mostRight vector bytes : List ℕ} {place n : ℕ} {at : Standing} {range : Range}
+    → Ready limit left right mostLeft mostRight vector bytes place n at → (place ≡ length left → ⊥)
+    → Ranges at (getD left place 0) (getD right place 0) (eqb (place + 1) (length left)) range
+    → Choice limit left right mostLeft mostRight vector bytes place n at range
+choice-here ready not-end ranges = record { ready = ready; within = omega (arith, ready .within); ranges = ranges }
+
 -- from there it has reached some rows: the numbers before the place are as they were
 pub record Reached (limit : ℕ) (left right vector₀ bytes₀ : List ℕ) (place n₀ : ℕ) (at : Standing)
     (Row : Equation → List ℕ → Type 0) (vector bytes : List ℕ) (n : ℕ) : Type 0 where

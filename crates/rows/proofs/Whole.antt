@@ -20,7 +20,7 @@ use Rattle.rows.specs.Kept.{Holds, Holds.few, Holds.more, Upto.begins, R
 use Rattle.rows.specs.Places.{Stands}
 use Rattle.rows.specs.Walk.{Starts, Searchable, Ready, AtMost, Tops}
 use Rattle.rows.proofs.Prefix.{nothing-before}
-use Rattle.rows.proofs.LargestBytes.{at-most-everywhere}
+use Rattle.rows.proofs.Tops.{at-most-everywhere}
 
 -- budgets from the largest coefficients, the offsets among them, are enough
 pub starts-from-largest : {left right : List ℕ} {a b mostLeft mostRight : ℕ} {h : Bool} {standing : Standing} → AtMost left 0 mostLeft → AtMost right 0 mostRight

@@ -1,10 +1,10 @@
 -- What the walk is given at a place, and what it gives.
 use Prim.Native.Nat.{ℕ, suc, _*_, _≤_, _<_}
 use mathlib.Core.Path.{_≡_}
-use mathlib.Core.Bool.{not}
+use mathlib.Core.Bool.{Bool, not}
 use mathlib.Core.List.{List, []}
 use lib.ListN.{length, getD, take, drop}
-use Rattle.ac.specs.Equation.{Equation}
+use Rattle.ac.specs.Equation.{Equation, equation}
 use Rattle.ac.specs.Budgets.{Enough}
 use Rattle.rows.specs.declared.standing.Standing.{Standing}
 use Rattle.rows.specs.Kept.{Advances}
@@ -30,6 +30,11 @@ pub record Starts (E : Equation) (at : Standing) : Type 0 where
   pub counts : at .counts ≡ not (E .homogeneous)
   pub enough : Enough E (at .up) (at .down)
   pub room : Room at
+
+-- so for every equation with these offsets whose coefficients are at most these
+abbrev pub StartsAll : ℕ → ℕ → ℕ → ℕ → Bool → Standing → Type 0
+StartsAll mostLeft mostRight left-offset right-offset homogeneous at =
+    (left right : List ℕ) → AtMost left 0 mostLeft → AtMost right 0 mostRight → Starts (equation left right left-offset right-offset homogeneous) at
 
 -- coefficients with their tops, a vector and bytes of the lengths that go with them, and a place of the vector
 pub record Ready (limit : ℕ) (left right mostLeft mostRight vector bytes : List ℕ) (place n : ℕ) (at : Standing) : Type 0 where

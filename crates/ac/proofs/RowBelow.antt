@@ -58,6 +58,7 @@ module _ {Has : List ℕ → Type 0} {k : ℕ} (rows : List (List ℕ)) (all : (
               let b : RowBelow rows u = smaller u less (same-length below ∙ vector) h in
               none (record { index = b .index; within = b .within; below = ≼-trans (b .below) below })
 
+  -- Below every vector with the property there is a row.
   pub row-below : (v : List ℕ) → length v ≡ k → Has v → RowBelow rows v
   row-below v = row-below-sum (suc (sum v)) v (omega arith)
 

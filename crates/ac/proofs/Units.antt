@@ -20,10 +20,12 @@ sum-weighted : (v : List ℕ) → sum v ≡ weighted (λ i. 1) v
 sum-weighted [] = refl
 sum-weighted (x ∷ v) = omega (arith, sum-weighted v)
 
+-- one more at each place adds the sum of the entries
 pub weighted-suc : (p : ℕ → ℕ) (v : List ℕ) → weighted (λ i. suc (p i)) v ≡ weighted p v + sum v
 weighted-suc p [] = refl
 weighted-suc p (x ∷ v) = omega (arith, weighted-suc (λ i. p (suc i)) v)
 
+-- of a vector that is all zero every such sum is 0
 pub weighted-zero : (p : ℕ → ℕ) (v : List ℕ) → sum v ≤ 0 → weighted p v ≡ 0
 weighted-zero p [] small = refl
 weighted-zero p (x ∷ v) small =
@@ -35,6 +37,7 @@ pub record Zero (v : List ℕ) : Type 0 where
   pub below : zeros ≼ v
   pub empty : sum zeros ≡ 0
 
+-- it has the entry 0 at each place
 pub zero-below : (v : List ℕ) → Zero v
 zero-below [] = record { zeros = []; below = none; empty = refl }
 zero-below (x ∷ v) = let z : Zero v = zero-below v in

@@ -1,5 +1,5 @@
--- The working form in ℕ: a weight is 0, or minus a constant's net count, exactly when two sums of naturals agree.
--- `proofs/Bridge.antt` ties it to the signed weight of document 01.
+-- The working form in ℕ of the weights of document 01, "From sides to equations": a weight is 0, or minus a constant's net count, exactly when two sums
+-- of naturals agree. `proofs/Bridge.antt` proves it.
 use Prim.Native.Nat.{ℕ, suc, _+_, _*_, _-_, _<_}
 use mathlib.Core.Path.{_≡_}
 use mathlib.Core.Bool.{Bool, true, false}

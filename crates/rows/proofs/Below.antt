@@ -40,9 +40,11 @@ entry : (k : ℕ) (rows : List ℕ) (row j : ℕ) → j < k → getD (rowAt k ro
 entry k rows row j h = getD-take k (drop (row * k) rows) j 0 h ∙ getD-drop (row * k) rows j 0
 
 module _ {rows vector : List ℕ} {row : ℕ} where
+  -- at first no place has been compared
   pub compared-none : Compared rows vector row 0
   compared-none = record { within = omega arith; fine = λ j h. absurd (omega arith) }
 
+  -- one place more
   pub compared-more : {place : ℕ} → Compared rows vector row place → place < length vector → getD rows (row * length vector + place) 0 ≤ getD vector place 0
       → Compared rows vector row (place + 1)
   compared-more {place} d h le =

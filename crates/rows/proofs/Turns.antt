@@ -75,6 +75,7 @@ module _ {limit : ℕ} {left right mostLeft mostRight vector₀ bytes₀ : List 
       no-row s [] minimal = omega (arith, rest-places s [] minimal, length-drop place left, choice .within)
       no-row s (m ∷ rest) minimal = omega (arith, in-range s m rest minimal)
 
+  -- the first turn: no row has a smaller number
   pub first-turn : range .first ≤ range .most
       → Turn limit left right mostLeft mostRight vector₀ bytes₀ place n₀ at range vector₀ bytes₀ (range .first) n₀
   first-turn some =
@@ -139,6 +140,7 @@ module _ {limit : ℕ} {left right mostLeft mostRight vector₀ bytes₀ : List 
           found = λ E s before. rw prefix-here at (walks .found E (stands-next s) (rw prefix-here (turn .reached .found E s before)));
         }
 
+    -- the next number's turn
     pub next-turn : (number ≡ range .most → ⊥)
         → Turn limit left right mostLeft mostRight vector₀ bytes₀ place n₀ at range vector′ bytes′ (number + 1) n′
     next-turn more =

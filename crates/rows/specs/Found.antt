@@ -1,4 +1,4 @@
--- What is found of the rows of one equation.
+-- What is found of the rows of one equation (document 01, "From sides to equations"; number 12: more than 16 of a kind).
 use Prim.Native.Nat.{ℕ, suc, _≤_, _<_}
 use mathlib.Core.List.{List}
 use lib.ListN.{length}

@@ -7,16 +7,10 @@ use mathlib.Core.Logic.{⊎-elim}
 use mathlib.Core.List.{List, [], _∷_}
 use lib.ListN.{length, getD}
 use lib.Pow.{pow-pos, shr-shr, field, mod-pow-add, mod-mod-pow}
-use Rattle.ac.specs.Rows.{Group, Groups}
+use Rattle.ac.specs.Rows.{Group, Groups, rowsAt}
 use Rattle.ac.specs.Selection.{Within, none, index}
 use Rattle.ac.specs.Keys.{Layout, Fits, Candidate, fieldsOf, fieldAt, selectionAt}
 use Rattle.ac.proofs.Keys.{next-field}
-
--- the rows of the group at a place
-abbrev pub rowsAt : List Group → ℕ → List (List ℕ)
-rowsAt [] place = []
-rowsAt (g ∷ gs) zero = g .rows
-rowsAt (g ∷ gs) (suc place) = rowsAt gs place
 
 -- within their groups, place by place
 within-places : {gs : List Group} {is : List ℕ} → Within gs is → (place : ℕ) → place < length gs → getD is place 0 < length (rowsAt gs place)

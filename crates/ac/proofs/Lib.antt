@@ -32,6 +32,7 @@ pub mod Fields
 pub mod Listed
 pub mod Pages
 pub mod Fages
+pub mod Atoms
 pub mod MinimalSet
 pub mod FagesExample
 pub mod Worked

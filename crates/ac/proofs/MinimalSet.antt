@@ -1,16 +1,16 @@
 -- The list in the words of source document 000: the substitutions of the listed selections are a complete set of minimal unifiers.
-use Prim.Native.Nat.{ℕ, suc, _≤_}
+use Prim.Native.Nat.{ℕ, _≤_}
 use native.Mathlib.Omega.{arith}
 use mathlib.Core.Path.{_≡_, refl, sym, ap, subst, subst₂, _∙_}
 use mathlib.Core.Logic.{_↔_, ⊎-elim}
-use mathlib.Core.Bool.{Bool, true, false, cond}
-use mathlib.Core.List.{List, [], _∷_, map, List·Memᴰ, List·Memᴰ·head, List·Memᴰ·tail, List·Memᴰ·not-nil, List·Memᴰ·append-cases}
+use mathlib.Core.Bool.{true, false, cond}
+use mathlib.Core.List.{map, List·Memᴰ}
 use borrow.Author.Tests.{lt-ltb, le-ltb}
 use lib.Dec.{lit≤}
 use Rattle.ac.specs.Term.{Term, atom, flatten}
 use Rattle.ac.specs.Pair.{Mode, IsSide, unifying, count}
 use Rattle.ac.specs.Rows.{Groups, GroupsOf}
-use Rattle.ac.specs.Selection.{Selection, SelectionOf, Taken, takenRows, takenBalanced, taken, placeOf, admissible, value}
+use Rattle.ac.specs.Selection.{Selection, SelectionOf, admissible, value}
 use Rattle.ac.specs.Keys.{Layout, layout, selections, listed}
 use Rattle.ac.specs.Replacement.{Replacement, Unifies, ComesFrom}
 use Rattle.ac.specs.Fages.{Substitution, ACUnifier, MoreGeneral, Pure, anyVariable, variablesOf, tree, substitutionOf, MinimalSet}
@@ -18,19 +18,10 @@ use Rattle.ac.proofs.Order.{filter-member, member-filter}
 use Rattle.ac.proofs.Members.{map-members, members-map}
 use Rattle.ac.proofs.Listed.{selections-are}
 use Rattle.ac.proofs.Counts.{count-some, count-none}
-use Rattle.ac.proofs.Taken.{valueAt-atoms}
-use Rattle.ac.proofs.Constants.{takenRows-atoms}
+use Rattle.ac.proofs.Atoms.{value-atoms}
 use Rattle.ac.proofs.Replaced.{unbalanced-cases}
 use Rattle.ac.proofs.Theorems.{sound, complete, independent}
 use Rattle.ac.proofs.Fages.{Agree, flattened, flatten-tree, unifies-alike, comes-alike, unifier-unifies, more-general, every-variable}
-
--- the atoms of taken balanced rows are new variables
-takenBalanced-new : (n : ℕ) (rows : List (List ℕ)) (ts : List Bool) (t : Taken) → List·Memᴰ t (takenBalanced n rows ts) → n ≤ t .atom
-takenBalanced-new n [] ts t m = absurd (List·Memᴰ·not-nil m)
-takenBalanced-new n (r ∷ rows) [] t m = absurd (List·Memᴰ·not-nil m)
-takenBalanced-new n (r ∷ rows) (true ∷ ts) t (List·Memᴰ·head e) = omega (arith, ap (λ (u : Taken). u .atom) e)
-takenBalanced-new n (r ∷ rows) (true ∷ ts) t (List·Memᴰ·tail m) = omega (arith, takenBalanced-new (suc n) rows ts t m)
-takenBalanced-new n (r ∷ rows) (false ∷ ts) t m = omega (arith, takenBalanced-new (suc n) rows ts t m)
 
 module _ (M : Mode) (lay : Layout) (s t : Term) (left : IsSide (flatten s)) (right : IsSide (flatten t)) (some : M .empties ≡ false)
     (above : 128 ≤ lay .new) (stay : (a : ℕ) → lay .new ≤ a → M .moves a ≡ false) {G : Groups} (groups : GroupsOf M (flatten s) (flatten t) G) where
@@ -59,14 +50,8 @@ module _ (M : Mode) (lay : Layout) (s t : Term) (left : IsSide (flatten s)) (rig
 
   pure : {k : Selection} → Admitted k → Pure (M .moves) (variablesOf M s t) (substitution k)
   pure {k} ok x a m at =
-      let row = valueAt-atoms (taken (lay .new) G k) (placeOf x (variablesOf M s t)) a (subst (List·Memᴰ a) (its-values ok x m) at) in
-      subst (λ (b : ℕ). M .moves b ≡ false) (sym (row .2))
-      (⊎-elim
-      (λ constant.
-      unbalanced-cases M (flatten s) (flatten t) (row .0 .atom)
-      (subst (List·Memᴰ (row .0 .atom)) (groups .the-constants) (takenRows-atoms (ok .0 .a-row-each) (row .0) constant)) .1)
-      (λ balanced. stay (row .0 .atom) (takenBalanced-new (lay .new) (G .balanced) (k .takes) (row .0) balanced))
-      (List·Memᴰ·append-cases (takenRows (G .constants) (k .indexes)) (row .1)))
+      ⊎-elim (λ constant. unbalanced-cases M (flatten s) (flatten t) a constant .1) (λ fresh. stay a (fresh .0))
+      (value-atoms M (lay .new) (flatten s) (flatten t) groups (ok .0) x (subst (List·Memᴰ a) (its-values ok x m) at))
 
   -- "more general" among them and above them is "comes from"
   general : {k : Selection} → Admitted k → (ρ : Substitution)

@@ -1,5 +1,5 @@
 -- Vectors, weights and rows (document 01, "From sides to equations"). Rows are minimal among all vectors; nothing here is bounded.
-use Prim.Native.Nat.{ℕ, _≤_, _<_}
+use Prim.Native.Nat.{ℕ, zero, suc, _≤_, _<_}
 use mathlib.Core.Path.{_≡_}
 use mathlib.Core.List.{List, [], _∷_, map, List·Memᴰ}
 use lib.ListN.{length}
@@ -59,6 +59,12 @@ module _ (M : Mode) (L R : List ℕ) where
 pub record Group : Type 0 where
   pub constant : ℕ
   pub rows : List (List ℕ)
+
+-- the rows of group number n, counted from 0
+abbrev pub rowsAt : List Group → ℕ → List (List ℕ)
+rowsAt [] n = []
+rowsAt (g ∷ gs) zero = g .rows
+rowsAt (g ∷ gs) (suc n) = rowsAt gs n
 
 -- the groups of a pair: the balanced rows, and those of each unbalanced constant, ascending
 pub record Groups : Type 0 where

@@ -7,3 +7,4 @@ pub mod Sides
 pub mod Faults
 pub mod Determined
 pub mod Laws
+pub mod Zeros

@@ -1,10 +1,10 @@
 -- Laws of bytes put one after the other into a buffer.
-use Prim.Native.Nat.{ℕ, suc, _+_, _<_}
+use Prim.Native.Nat.{ℕ, suc, _+_, _<_, _≤_}
 use native.Mathlib.Omega.{arith}
 use mathlib.Core.Path.{_≡_, refl, ap, sym, _∙_, subst}
 use mathlib.Core.List.{List, [], _∷_, _++_}
-use lib.ListN.{length, length-append, set, take, getD}
-use lib.Seq.{sets, length-sets, take-suc}
+use lib.ListN.{length, length-append, set, take, drop, getD}
+use lib.Seq.{sets, sets-eq, length-sets, take-suc}
 use Rattle.buffer.specs.Put.{Put}
 
 -- what is put behind what was put is put as one
@@ -54,3 +54,8 @@ put-as {out} {after} {at} {n} e p = subst (λ (l : List ℕ). Put out at l n aft
 -- the same place, said in another way
 pub put-at : {out after : List ℕ} {at m n : ℕ} {s : List ℕ} → m ≡ n → Put out at s m after → Put out at s n after
 put-at {out} {after} {at} {m} {n} {s} e p = subst (λ (k : ℕ). Put out at s k after) e p
+
+-- what is put from the front of a buffer that has room for it stands there, and what comes after it stays
+pub put-received : {out after bytes : List ℕ} {next : ℕ} → Put out 0 bytes next after → next ≤ length out → after ≡ bytes ++ drop (length bytes) out
+put-received {out} {after} {bytes} put room =
+    put .stored ∙ sets-eq bytes out 0 (omega (arith, put .place)) ∙ ap (λ n. bytes ++ drop n out) (let e : 0 + length bytes ≡ length bytes = omega arith in e)

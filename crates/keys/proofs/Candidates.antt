@@ -10,9 +10,9 @@ use mathlib.Core.List.{List}
 use borrow.Author.Tests.{lt-ltb, le-ltb}
 use lib.ListN.{length, getD}
 use lib.Pow.{pow-pos, pow-add, split, shr-shr, shr-mono, shr-lt}
-use Rattle.ac.specs.Rows.{Groups}
+use Rattle.ac.specs.Rows.{Groups, rowsAt}
 use Rattle.ac.specs.Keys.{layout, fieldAt, Candidate, Fits}
-use Rattle.ac.proofs.Fields.{rowsAt, candidate-places, places-candidate}
+use Rattle.ac.proofs.Fields.{candidate-places, places-candidate}
 use Rattle.keys.specs.Candidates.{Sized, fieldLimit}
 
 -- the end of a block of 2 ^ bits numbers

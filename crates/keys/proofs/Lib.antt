@@ -3,4 +3,7 @@ pub mod Bits
 pub mod Reach
 pub mod Candidates
 pub mod Table
+pub mod Tuples
 pub mod Walk
+pub mod Given
+pub mod Finding

@@ -8,10 +8,10 @@ use mathlib.Core.List.{List, [], _∷_, _++_, map}
 use lib.Dec.{ltb}
 use lib.ListN.{length, getD}
 use Rattle.ac.specs.Lists.{from}
-use Rattle.ac.specs.Rows.{Group, Groups}
+use Rattle.ac.specs.Rows.{Group, Groups, rowsAt}
 use Rattle.ac.specs.Selection.{Taken, takenRows, takenBalanced, taken, reached, allReached}
 use Rattle.ac.specs.Keys.{layout, bit, fieldAt, selectionAt, Candidate, Fits}
-use Rattle.ac.proofs.Fields.{rowsAt, length-fieldsOf, index-at, places-candidate}
+use Rattle.ac.proofs.Fields.{length-fieldsOf, index-at, places-candidate}
 use Rattle.keys.specs.Reach.{any, all, Holds, constantReaches, balancedReaches, reaches}
 use Rattle.keys.proofs.Any.{or-assoc, any-front, any-same}
 

@@ -3,18 +3,17 @@ use Prim.Native.Nat.{ℕ, zero, suc, _+_, _*_, _<_, _≤_}
 use native.Mathlib.Omega.{arith}
 use native.Mathlib.Decide.{decLt}
 use mathlib.Core.Path.{_≡_, refl, _∙_, ap}
-use mathlib.Core.List.{List, [], _∷_, map, List·Memᴰ, List·Memᴰ·head, List·Memᴰ·tail}
-use lib.ListN.{length, getD, take, drop, length-map, length-take}
+use mathlib.Core.List.{List, [], _∷_, map, List·Memᴰ}
+use lib.ListN.{length, getD, take, drop}
 use lib.Seq.{length-take-le, getD-take, getD-drop}
 use Rattle.ac.specs.Lists.{from, Ascending}
 use Rattle.ac.specs.Pair.{Mode}
-use Rattle.ac.specs.Rows.{Group}
+use Rattle.ac.specs.Rows.{Group, rowsAt}
 use Rattle.ac.specs.Keys.{layout, keys, Fits}
-use Rattle.ac.proofs.Fields.{rowsAt}
-use Rattle.ac.proofs.Keys.{length-from}
 use Rattle.ac.proofs.Listed.{keys-ascending}
 use Rattle.table.specs.Table.{rowAt, groupAt, groupsFrom, groupsIn, Within, TableOf}
 use Rattle.table.specs.declared.Table.{Table}
+use Rattle.table.proofs.Groups.{length-groupAt, how-many-constants, groupsFrom-stands}
 use Rattle.keys.specs.Reach.{group, Holds}
 use Rattle.keys.specs.Candidates.{Sized}
 
@@ -25,13 +24,6 @@ getD-map-from f a (suc n) zero d h = ap f (omega arith)
 getD-map-from f a (suc n) (suc i) d h = getD-map-from f (suc a) n i d (omega arith) ∙ ap f (omega arith)
 
 module _ (t : Table) where
-  pub length-groupAt : (g : ℕ) → length (groupAt t g) ≡ getD (t .sizes) g 0
-  length-groupAt g = length-map (from 0 (getD (t .sizes) g 0)) (rowAt t g) ∙ length-from 0 (getD (t .sizes) g 0)
-
-  length-groupsFrom : (g : ℕ) (cs : List ℕ) → length (groupsFrom t g cs) ≡ length cs
-  length-groupsFrom g [] = refl
-  length-groupsFrom g (c ∷ cs) = ap suc (length-groupsFrom (suc g) cs)
-
   -- the group at a place among the constants'
   rowsAt-groupsFrom : (a : ℕ) (cs : List ℕ) (g : ℕ) → g < length cs → rowsAt (groupsFrom t a cs) g ≡ groupAt t (a + g)
   rowsAt-groupsFrom a [] g h = absurd (omega arith)
@@ -43,55 +35,43 @@ module _ (t : Table) where
   rowsAt-beyond a (c ∷ cs) zero h = absurd (omega arith)
   rowsAt-beyond a (c ∷ cs) (suc g) h = rowsAt-beyond (suc a) cs g (omega arith)
 
-  -- each of the constants' groups is a group of the table
-  groupsFrom-members : (a : ℕ) (cs : List ℕ) {h : Group} → List·Memᴰ h (groupsFrom t a cs) → (g : ℕ) × (h .rows ≡ groupAt t g)
-  groupsFrom-members a (c ∷ cs) (List·Memᴰ·head e) = (a, ap (λ (h : Group). h .rows) e)
-  groupsFrom-members a (c ∷ cs) (List·Memᴰ·tail m) = groupsFrom-members (suc a) cs m
-
   -- an entry of a row
   entry-at : (g i p : ℕ) → i < getD (t .sizes) g 0 → p < t .places → getD (getD (groupAt t g) i []) p 0 ≡ getD (t .rows) (96 * g + 6 * i + p) 0
   entry-at g i p row place =
       ap (λ r. getD r p 0) (getD-map-from (rowAt t g) 0 (getD (t .sizes) g 0) i [] row ∙ ap (rowAt t g) (omega arith))
       ∙ getD-take (t .places) (drop (96 * g + 6 * i) (t .rows)) p 0 place ∙ getD-drop (96 * g + 6 * i) (t .rows) p 0
 
+module _ {t : Table} (within : Within t) where
   -- the groups fit a key
-  pub table-fits : Within t → Fits layout (groupsIn t)
-  table-fits within =
+  pub table-fits : Fits layout (groupsIn t)
+  table-fits =
       record {
-        few-constants =
-            omega (
-              arith,
-              length-groupsFrom 1 (take (t .unbalanced) (t .constants)),
-              length-take (t .unbalanced) (t .constants),
-              within .constants-fit,
-            );
+        few-constants = omega (arith, how-many-constants t within, within .constants-fit);
         few-rows = few;
-        few-balanced = omega (arith, length-groupAt 0, within .sizes-fit 0);
+        few-balanced = omega (arith, length-groupAt t 0, within .sizes-fit 0);
       }
     where
       few : (h : Group) → List·Memᴰ h (groupsIn t .constants) → length (h .rows) ≤ 16
       few h m =
-          let s = groupsFrom-members 1 (take (t .unbalanced) (t .constants)) m in
-          omega (arith, ap length (s .1), length-groupAt (s .0), within .sizes-fit (s .0))
+          let s = groupsFrom-stands t 1 (take (t .unbalanced) (t .constants)) m in
+          omega (arith, ap length (s .its-rows), length-groupAt t (1 + s .place), within .sizes-fit (1 + s .place))
 
-module _ {t : Table} (within : Within t) (room : length (t .constants) ≡ 4) where
-  how-many : length (groupsIn t .constants) ≡ t .unbalanced
-  how-many = length-groupsFrom t 1 (take (t .unbalanced) (t .constants)) ∙ length-take-le (t .unbalanced) (t .constants) (omega (arith, within .constants-fit))
+  -- how many constants the table's groups are taken of
+  how-many : length (take (t .unbalanced) (t .constants)) ≡ t .unbalanced
+  how-many = length-take-le (t .unbalanced) (t .constants) (within .constants-held)
 
   -- the balanced rows are group 0 of the table, and those of the constants the groups after it
   group-in : (g : ℕ) → g ≤ t .unbalanced → group (groupsIn t) g ≡ groupAt t g
   group-in zero h = refl
-  group-in (suc g) h =
-      rowsAt-groupsFrom t 1 (take (t .unbalanced) (t .constants)) g
-      (omega (arith, how-many, length-groupsFrom t 1 (take (t .unbalanced) (t .constants)))) ∙ ap (groupAt t) (omega arith)
+  group-in (suc g) h = rowsAt-groupsFrom t 1 (take (t .unbalanced) (t .constants)) g (omega (arith, how-many)) ∙ ap (groupAt t) (omega arith)
 
   pub table-sized : Sized (t .sizes) (t .unbalanced) (groupsIn t)
-  table-sized = record { how-many-constants = how-many; a-size-each = λ g h. ap length (group-in g h) ∙ length-groupAt t g }
+  table-sized = record { how-many-constants = how-many-constants t within; a-size-each = λ g h. ap length (group-in g h) ∙ length-groupAt t g }
 
   pub table-holds : Holds (t .rows) (t .places) (t .unbalanced) (getD (t .sizes) 0 0) (groupsIn t)
   table-holds =
       record {
-        how-many-constants = how-many;
+        how-many-constants = how-many-constants t within;
         how-many-balanced = length-groupAt t 0;
         entries = λ g i p row place. go g i p row place (decLt (t .unbalanced) g);
       }
@@ -104,14 +84,8 @@ module _ {t : Table} (within : Within t) (room : length (t .constants) ≡ 4) wh
           ∙ entry-at t g i p (omega (arith, ap length (group-in g used), length-groupAt t g)) place
       go zero i p row place (yes beyond) = absurd (omega arith)
       go (suc g) i p row place (yes beyond) =
-          absurd
-          (omega (
-            arith,
-            ap length
-                (rowsAt-beyond t 1 (take (t .unbalanced) (t .constants)) g
-                (omega (arith, how-many, length-groupsFrom t 1 (take (t .unbalanced) (t .constants))))),
-          ))
+          absurd (omega (arith, ap length (rowsAt-beyond t 1 (take (t .unbalanced) (t .constants)) g (omega (arith, how-many)))))
 
 -- so that the list of the pair that it is of is ascending
 pub table-ascending : {M : Mode} {L R : List ℕ} {t : Table} → TableOf M L R t → Ascending _<_ (keys M layout L R (groupsIn t))
-table-ascending {M} {L} {R} {t} of = keys-ascending (table-fits t (of .within)) M L R
+table-ascending {M} {L} {R} {t} of = keys-ascending (table-fits (of .within)) M L R

@@ -1,3 +1,4 @@
 pub mod Reach
 pub mod Candidates
+pub mod Given
 pub mod List

@@ -1,15 +1,21 @@
--- The list of the pair that a table is of, and the next key on it.
+-- The list of the pair that a table is of, the next key on it, and whether a key is on it.
 use Prim.Native.Nat.{ℕ}
 use mathlib.Core.Path.{_≡_}
 use mathlib.Core.Bool.{false}
-use mathlib.Core.List.{List}
+use mathlib.Core.List.{List, [], _∷_, List·Memᴰ}
 use Rattle.ac.specs.Pair.{Mode}
-use Rattle.ac.specs.Keys.{layout, keys}
+use Rattle.ac.specs.Keys.{layout, keys, after}
 use Rattle.ac.specs.Pages.{LeastFrom, NoneFrom}
+use Rattle.numbers.specs.Numbers.{numberOf}
+use Rattle.numbers.specs.First.{First}
+use Rattle.numbers.specs.declared.Refusal.{Refusal}
 use Rattle.table.specs.Table.{TableOf, groupsIn}
 use Rattle.table.specs.declared.Table.{Table}
+use Rattle.keys.specs.Given.{ListGiven}
 use Rattle.keys.specs.declared.Next.{Next}
 use Rattle.keys.specs.declared.Next.the-variants.{Key, None}
+use Rattle.keys.specs.declared.Found.{Found}
+use Rattle.keys.specs.declared.Found.the-variants.{Listed, Refused}
 
 -- It is so of the list of every pair that the table is of, in a mode in which no variable may be empty.
 abbrev pub OfItsList : Table → (List ℕ → Type 0) → Type 0
@@ -19,3 +25,8 @@ OfItsList table So = (M : Mode) (L R : List ℕ) → M .empties ≡ false → Ta
 pub data NextFrom (keys : List ℕ) (from : ℕ) : Next → Type 0 where
   found : {key : ℕ} → LeastFrom keys from key → NextFrom keys from (Key key)
   nothing : NoneFrom keys from → NextFrom keys from None
+
+-- that the key is on the list, or 13 or 14
+pub data FoundOf (listed : List ℕ) (key : ℕ) : Found → Type 0 where
+  is-listed : List·Memᴰ key listed → FoundOf listed key Listed
+  is-refused : {why : Refusal} → First (ListGiven listed (after key)) (13 ∷ 14 ∷ []) (numberOf why) → FoundOf listed key (Refused why)

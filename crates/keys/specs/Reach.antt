@@ -5,9 +5,8 @@ use mathlib.Core.Bool.{Bool, true, false, _||_, _&&_}
 use mathlib.Core.List.{List, []}
 use lib.Dec.{ltb}
 use lib.ListN.{length, getD}
-use Rattle.ac.specs.Rows.{Groups}
+use Rattle.ac.specs.Rows.{Groups, rowsAt}
 use Rattle.ac.specs.Keys.{layout, bit, fieldAt}
-use Rattle.ac.proofs.Fields.{rowsAt}
 
 -- some number below n passes the test
 abbrev pub any : ℕ → (ℕ → Bool) → Bool

@@ -1,14 +1,14 @@
-// Keys of a solved pair: taken apart by shifts and masks, and weighed (document 01, "From sides to equations").
+// Keys of a solved pair: packed and taken apart by shifts and masks, weighed, and found on the list (document 01, "From sides to equations").
 ghost use mathlib.Core.Path.{_≡_};
 ghost use Prim.Native.Nat.{_+_, _*_, _/_, _^_, _<_, _≤_};
 ghost use lib.ListN.{getD};
 ghost use Rattle.ac.specs.Rows.{Groups};
-ghost use Rattle.ac.specs.Selection.{taken, allReached};
-ghost use Rattle.ac.specs.Keys.{layout, bit, fieldAt, selectionAt, Candidate, Fits};
+ghost use Rattle.ac.specs.Keys.{layout, bit, fieldAt, Candidate, Fits};
 ghost use Rattle.table.specs.Table.{Within};
-ghost use Rattle.keys.specs.Candidates.{Sized, Stands, fieldLimit};
-ghost use Rattle.keys.specs.List.{NextFrom, OfItsList};
+ghost use Rattle.keys.specs.Candidates.{Sized, Stands, fieldLimit, fills, HasTuple, LeastWithin};
+ghost use Rattle.keys.specs.List.{OfItsList, NextFrom, FoundOf};
 ghost use Rattle.keys.specs.Reach.{any, constantReaches, balancedReaches, reaches, Holds};
+use numbers::Refusal;
 use table::CONSTANTS;
 use table::GROUP;
 use table::Table;
@@ -40,6 +40,14 @@ pub fn index_at(key: u32, g: usize) -> usize
     ensures { λ r. ⌜ r ≡ fieldAt layout key g ⌝ }
 {
     (key >> (MASK_BITS + INDEX_BITS * (CONSTANTS - (g + 1))) & INDEX_MASK) as usize
+}
+
+// The key of a tuple of row indexes, a field for each constant, and a set of balanced rows, a bit for each.
+pub fn pack(tuple: u32, mask: u32) -> u32
+    requires { ⌜ (tuple < 65536) × (mask < 2 ^ layout .rows) ⌝ }
+    ensures { λ r. ⌜ r ≡ tuple * 2 ^ layout .rows + mask ⌝ }
+{
+    tuple << MASK_BITS | mask
 }
 
 // Whether one of the constants' rows that the key takes is above 0 at the place.
@@ -88,7 +96,7 @@ fn reached(rows: &[u8; 480], unbalanced: usize, balanced: usize, key: u32, place
 pub fn weigh(rows: &[u8; 480], places: usize, unbalanced: usize, balanced: usize, key: u32) -> bool
     requires { ⌜ (places ≤ 6) × (unbalanced ≤ layout .constants) × (balanced ≤ layout .rows) ⌝ }
     ensures { λ r. ⌜ ((G : Groups) → Holds (now (rows .entry)) places unbalanced balanced G → Fits layout G
-        → Candidate layout G key → r ≡ allReached (taken (layout .new) G (selectionAt layout G key)) places) ⌝ }
+        → Candidate layout G key → r ≡ fills G places key) ⌝ }
 {
     let mut place: usize = 0;
     while place < places {
@@ -148,6 +156,31 @@ pub enum Next {
     None,
 }
 
+// The least admissible key of a tuple from a mask on: the sets of balanced rows are taken one after the other, in the order of their masks.
+fn least_of_tuple(
+    rows: &[u8; 480],
+    places: usize,
+    unbalanced: usize,
+    balanced: usize,
+    tuple: u32,
+    from: u32,
+) -> Next
+    requires { ⌜ (places ≤ 6) × (unbalanced ≤ layout .constants) × (balanced ≤ layout .rows) ⌝ }
+    requires { ⌜ (tuple < 65536) × (from < 2 ^ layout .rows) ⌝ }
+    ensures { λ r. ⌜ ((G : Groups) → Holds (now (rows .entry)) places unbalanced balanced G → Fits layout G → HasTuple G tuple
+        → LeastWithin (fills G places) (tuple * 2 ^ layout .rows + from) (tuple * 2 ^ layout .rows + 2 ^ balanced) r) ⌝ }
+{
+    let mut mask = from;
+    while mask >> balanced == 0 {
+        let key = pack(tuple, mask);
+        if weigh(rows, places, unbalanced, balanced, key) {
+            return Next::Key(key);
+        }
+        mask += 1;
+    }
+    Next::None
+}
+
 // The least key on the list from a number on. The highest key may be listed, so that the number after it needs 64 bits.
 pub fn least_listed(table: Table, from: u64) -> Next
     requires { ⌜ Within table ⌝ }
@@ -163,12 +196,50 @@ pub fn least_listed(table: Table, from: u64) -> Next
                 at = later;
             }
             Standing::Candidate => {
-                if weigh(&table.rows, table.places, table.unbalanced, balanced, key) {
-                    return Next::Key(key);
+                let least = least_of_tuple(
+                    &table.rows,
+                    table.places,
+                    table.unbalanced,
+                    balanced,
+                    key >> MASK_BITS,
+                    key & LOW_MASK,
+                );
+                if let Next::Key(found) = least {
+                    return Next::Key(found);
                 }
-                at += 1;
+                at = block_end(key, MASK_BITS);
             }
         }
     }
     Next::None
+}
+
+// Whether a key is on the list, or why not.
+pub enum Found {
+    Listed,
+    Refused(Refusal),
+}
+
+// A key is listed if the least listed key from it on is itself. Else it is 14, or 13 where nothing is listed.
+pub fn find_key(table: Table, key: u32) -> Found
+    requires { ⌜ Within table ⌝ }
+    ensures { λ r. ⌜ OfItsList table (λ listed. FoundOf listed key r) ⌝ }
+{
+    let least = least_listed(table, key as u64);
+    match least {
+        Next::Key(found) => {
+            if found == key {
+                Found::Listed
+            } else {
+                Found::Refused(Refusal::NotListed)
+            }
+        }
+        Next::None => {
+            let first = least_listed(table, 0);
+            match first {
+                Next::Key(_) => Found::Refused(Refusal::NotListed),
+                Next::None => Found::Refused(Refusal::NoUnifier),
+            }
+        }
+    }
 }

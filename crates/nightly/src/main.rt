@@ -8,7 +8,6 @@ use libc::STDIN_FILENO;
 use library::Next;
 use print::Place;
 use tally::Counts;
-use tally::MOST_BLOCKS;
 use tally::closing_lines;
 use tally::expected_number;
 use tally::tally;
@@ -16,6 +15,9 @@ ghost use Prim.Native.Nat.{_≤_};
 ghost use lib.ListN.{length};
 ghost use Rattle.nightly.specs.Asked.{BlockCounted};
 ghost use Rattle.nightly.specs.Printed.{Inside};
+
+// At most so many blocks are read.
+const MOST_BLOCKS: u64 = 1_048_576;
 
 fn main() {
     let mut input = io::large_buffer();

@@ -68,6 +68,11 @@ pub none-given : {Given : ℕ → Type 0} {ns : List ℕ} {n : ℕ} → NoneOf G
 none-given {Given} (also skip none) (List·Memᴰ·head e) given = skip (subst Given e given)
 none-given (also skip none) (List·Memᴰ·tail mem) given = none-given none mem given
 
+-- none of a list is given where no number at all is
+pub none-of : {Given : ℕ → Type 0} → ((n : ℕ) → Given n → ⊥) → (ns : List ℕ) → NoneOf Given ns
+none-of never [] = end
+none-of never (n ∷ ns) = also (never n) (none-of never ns)
+
 -- a number is none of the list's, by a test that computes
 abbrev pub elsewhere : ℕ → List ℕ → Bool
 elsewhere n [] = true

@@ -6,7 +6,7 @@ use lib.ListN.{getD}
 use Rattle.numbers.specs.Numbers.{numberOf}
 use Rattle.numbers.specs.declared.Refusal.{Refusal}
 use Rattle.numbers.specs.declared.Refusal.the-variants.{BlockLength, Check, BlockNumber, TermLength, Term, Filler, SideLength, NoAtom, Variables, NetCount, Constants, Rows, NoUnifier, NotListed, LastKey, ShortBuffer, LongValue}
-use Rattle.numbers.specs.First.{First, NoneOf, here, later, end, also}
+use Rattle.numbers.specs.First.{First, NoneOf, here, later, also}
 
 -- the refusals in the table's order; no row has the number 0
 rows : List Refusal

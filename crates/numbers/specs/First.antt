@@ -1,6 +1,6 @@
 -- Which number is the answer, of those that are given: "Order: 16 first, then by number. None is given otherwise."
 use Prim.Native.Nat.{ℕ}
-use mathlib.Core.List.{List, [], _∷_, List·Memᴰ}
+use mathlib.Core.List.{List, [], _∷_}
 
 -- the first number of a question's list that is given
 pub data First (Given : ℕ → Type 0) : List ℕ → ℕ → Type 0 where

@@ -1,4 +1,5 @@
 // A question's header, 20 bytes, taken apart.
+use runs::two_bytes;
 
 // What is asked: which question, the byte that fills the lent buffers, the lengths of what follows, the number that the
 // question takes, whether a page begins after it, how many keys are wanted, and the lengths of the lent buffers.
@@ -14,25 +15,22 @@ pub struct Question {
     pub second_room: usize,
 }
 
-// The header's numbers have the high byte first.
+// The question that a header's bytes say. Byte 15 has no meaning.
 pub fn of(header: [u8; 20]) -> Question {
     Question {
         kind: header[0],
         fill: header[1],
-        first_length: two(header[2], header[3]),
-        second_length: two(header[4], header[5]),
-        number: four(header[6], header[7], header[8], header[9]),
+        first_length: two_bytes(header[2], header[3]),
+        second_length: two_bytes(header[4], header[5]),
+        number: four_bytes(header[6], header[7], header[8], header[9]),
         after: header[10] == 1,
-        wanted: four(header[11], header[12], header[13], header[14]) as usize,
-        first_room: two(header[16], header[17]),
-        second_room: two(header[18], header[19]),
+        wanted: four_bytes(header[11], header[12], header[13], header[14]) as usize,
+        first_room: two_bytes(header[16], header[17]),
+        second_room: two_bytes(header[18], header[19]),
     }
 }
 
-fn two(high: u8, low: u8) -> usize {
-    high as usize * 256 + low as usize
-}
-
-fn four(a: u8, b: u8, c: u8, d: u8) -> u32 {
+// A number of four bytes has the high byte first.
+fn four_bytes(a: u8, b: u8, c: u8, d: u8) -> u32 {
     ((a as u32 * 256 + b as u32) * 256 + c as u32) * 256 + d as u32
 }

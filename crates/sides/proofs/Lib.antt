@@ -1,9 +1,8 @@
 pub mod Lists
 pub mod Telling
-pub mod Tables
-pub mod Lowest
-pub mod Collecting
-pub mod Gathering
+pub mod Counts
+pub mod NetCounts
+pub mod Visited
 pub mod Parting
 pub mod Laws
 mod Examples

@@ -1,15 +1,13 @@
--- Facts about lists: members and places, filtered lists one member at a time, and lists that are written from the front.
+-- Facts about lists: members and places, and filtered lists one member at a time.
 use mathlib.Core.Path.{_≡_, refl, sym, ap, _∙_, fun-ext}
 use mathlib.Core.Bool.{Bool, true, false}
-use mathlib.Core.List.{List, [], _∷_, _++_, map, List·Memᴰ, List·Memᴰ·head, List·Memᴰ·tail, List·Memᴰ·not-nil}
-use Prim.Native.Nat.{ℕ, zero, suc, _+_, _-_, _≤_, _<_}
-use native.Mathlib.Nat.{not-suc-le-zero, le-of-suc-le-suc, zero-add, sub-zero, zero-sub, suc-sub-suc}
+use mathlib.Core.List.{List, [], _∷_, _++_, map, List·Memᴰ, List·Memᴰ·head, List·Memᴰ·tail}
+use Prim.Native.Nat.{ℕ, zero, suc, _+_, _≤_, _<_}
+use native.Mathlib.Nat.{not-suc-le-zero, le-of-suc-le-suc, zero-add}
 use native.Mathlib.Numerals.{add-one}
 use native.Mathlib.Omega.{arith}
-use lib.ListN.{length, getD, drop, set, replicate, length-append}
-use lib.Seq.{drop-cons, set-append-seam, append-snoc}
-use Rattle.ac.specs.Lists.{from, below, keep, filter, Ascending, none, next}
-use Rattle.sides.specs.Counting.{Written}
+use lib.ListN.{length, getD, replicate, length-append}
+use Rattle.ac.specs.Lists.{from, below, keep, filter}
 
 -- a member stands at some place
 pub member-at : {x : ℕ} {xs : List ℕ} → List·Memᴰ x xs → (i : ℕ) × (i < length xs) × (getD xs i 0 ≡ x)
@@ -28,14 +26,15 @@ getD-map f [] i h = absurd (not-suc-le-zero h)
 getD-map f (x ∷ xs) zero h = refl
 getD-map f (x ∷ xs) (suc i) h = getD-map f xs i (le-of-suc-le-suc h)
 
+-- past the end of a list of one value as at each of its places
+pub getD-replicate-same {ℓ} : {A : Type ℓ} (n i : ℕ) (a : A) → getD (replicate n a) i a ≡ a
+getD-replicate-same zero i a = refl
+getD-replicate-same (suc n) zero a = refl
+getD-replicate-same (suc n) (suc i) a = getD-replicate-same n i a
+
 pub map-append : (f : ℕ → ℕ) (xs ys : List ℕ) → map f (xs ++ ys) ≡ map f xs ++ map f ys
 map-append f [] ys = refl
 map-append f (x ∷ xs) ys = ap (λ (l : List ℕ). f x ∷ l) (map-append f xs ys)
-
-pub drop-replicate : (n k : ℕ) → drop {A = ℕ} k (replicate n 0) ≡ replicate (n - k) 0
-drop-replicate n zero = ap (λ (m : ℕ). replicate m 0) (sym (sub-zero n))
-drop-replicate zero (suc k) = ap (λ (m : ℕ). replicate m 0) (sym (zero-sub (suc k)))
-drop-replicate (suc n) (suc k) = drop-replicate n k ∙ ap (λ (m : ℕ). replicate m 0) (sym (suc-sub-suc n k))
 
 keep-append : (b : Bool) (x : ℕ) (xs ys : List ℕ) → keep b x xs ++ ys ≡ keep b x (xs ++ ys)
 keep-append true x xs ys = refl
@@ -63,35 +62,3 @@ filter-same p q xs same = ap (λ f. filter f xs) (fun-ext same)
 
 pub length-snoc : (xs : List ℕ) (x : ℕ) → length (xs ++ x ∷ []) ≡ length xs + 1
 length-snoc xs x = length-append xs (x ∷ [])
-
--- one more, stored behind the list
-pub written-more : (list before after : List ℕ) (x : ℕ) → Written list before after → Written (list ++ x ∷ []) before (set after (length list) x)
-written-more list before after x written fits =
-    ap (λ (l : List ℕ). set l (length list) x) (written less ∙ ap (λ (l : List ℕ). list ++ l) (drop-cons before (length list) 0 room)) ∙
-    set-append-seam list (getD before (length list) 0) (drop (suc (length list)) before) x ∙
-    sym (append-snoc list x (drop (suc (length list)) before)) ∙
-    ap (λ (n : ℕ). (list ++ x ∷ []) ++ drop n before) (sym (length-snoc list x ∙ add-one (length list)))
-  where
-    room : length list < length before
-    room = omega (arith, length-snoc list x)
-
-    less : length list ≤ length before
-    less = omega (arith, room)
-
--- what is filtered from the numbers from a on is at least a
-filter-least : (p : ℕ → Bool) (a n b : ℕ) → List·Memᴰ b (filter p (from a n)) → a ≤ b
-filter-least p a zero b m = absurd (List·Memᴰ·not-nil m)
-filter-least p a (suc n) b m = go (p a) (λ m′. omega (arith, filter-least p (suc a) n b m′)) m
-  where
-    go : (t : Bool) → (List·Memᴰ b (filter p (from (suc a) n)) → a ≤ b) → List·Memᴰ b (keep t a (filter p (from (suc a) n))) → a ≤ b
-    go true rest (List·Memᴰ·head e) = omega (arith, e)
-    go true rest (List·Memᴰ·tail m′) = rest m′
-    go false rest m′ = rest m′
-
-pub filter-ascending : (p : ℕ → Bool) (a n : ℕ) → Ascending _<_ (filter p (from a n))
-filter-ascending p a zero = none
-filter-ascending p a (suc n) = go (p a) (filter-ascending p (suc a) n)
-  where
-    go : (t : Bool) → Ascending _<_ (filter p (from (suc a) n)) → Ascending _<_ (keep t a (filter p (from (suc a) n)))
-    go true rest = next (λ b m. filter-least p (suc a) n b m) rest
-    go false rest = rest

@@ -7,7 +7,7 @@ use native.Mathlib.Decide.{decLe}
 use native.Mathlib.Omega.{arith}
 use lib.Dec.{ltb}
 use borrow.Author.Tests.{ltb-true, ltb-false}
-use Rattle.sides.specs.Counting.{Tells}
+use Rattle.sides.specs.Tells.{Tells}
 
 true-not-false : {b : Bool} → b ≡ true → b ≡ false → ⊥
 true-not-false yes′ no′ = let z : _≡_ {A = ℕ} 0 1 = cc in omega arith

@@ -1,4 +1,6 @@
 pub mod Limits
 pub mod Given
-pub mod Counting
+pub mod Tells
+pub mod Counts
+pub mod Gathered
 pub mod Parted

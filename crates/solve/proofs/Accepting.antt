@@ -5,19 +5,19 @@ use native.Mathlib.Decide.{ℕ-discrete}
 use mathlib.Core.Path.{_≡_, refl, sym, ap, subst, _∙_}
 use mathlib.Core.Bool.{true, false, false≢true}
 use mathlib.Core.List.{List, List·Memᴰ}
-use lib.ListN.{length, getD, take, set}
-use lib.Seq.{getD-set-same, getD-set-other}
+use lib.ListN.{length, getD, take, set, length-take}
+use lib.Seq.{take-take, getD-set-same, getD-set-other}
 use Rattle.ac.specs.Pair.{Mode, variables, unbalanced}
 use Rattle.ac.specs.Rows.{Exactly, Group, RowOf}
 use Rattle.sides.specs.Limits.{limits}
 use Rattle.sides.specs.Parted.{PairOf}
 use Rattle.sides.specs.declared.Pair.{Pair}
-use Rattle.table.specs.Table.{groupAt, groupsIn, TableOf}
+use Rattle.table.specs.Table.{groupIn, groupAt, groupsIn, TableOf}
 use Rattle.table.specs.declared.Table.{Table}
 use Rattle.table.proofs.Groups.{constants-groupsFrom, groupsFrom-stands, Stands}
-use Rattle.solve.specs.Spread.{groupIn, Spreads}
-use Rattle.solve.specs.Steps.{RowIn, More, FoundOf, GroupsUpto, GroupsFound, Roomy}
-use Rattle.solve.proofs.Finding.{take-padded}
+use Rattle.solve.specs.Groups.{RowIn, More, FoundOf, Spreads, GroupsUpto, GroupsFound, Roomy}
+use Rattle.solve.specs.declared.groups.Groups.{Groups}
+use Rattle.sides.proofs.Laws.{take-atoms}
 use Rattle.solve.proofs.Counting.{twelve-given}
 
 pub groups-none : {Row : ℕ → List ℕ → Type 0} {places : ℕ} {rows sizes : List ℕ} → ((g : ℕ) → getD sizes g 0 ≡ 0) → GroupsUpto 16 Row places rows sizes 0
@@ -50,37 +50,41 @@ groups-next {Row} {places} {count} {group} {bytes} {before} {after} {sizes} ther
         (known .the-rows g (omega (arith, differs)))
 
 -- a group with too many rows, and all groups put
-module _ {M : Mode} {L R : List ℕ} {places : ℕ} {rows sizes : List ℕ} where
-  pub put-too-many : {g : ℕ} → g ≤ length (unbalanced M L R) → More 16 (RowIn M L R g) → GroupsFound limits M L R places rows sizes false
-  put-too-many {g} within more = record { if-true = λ e. absurd (false≢true e); if-false = λ e. twelve-given g within more }
+module _ {M : Mode} {L R : List ℕ} {places : ℕ} {groups : Groups} where
+  pub put-too-many : {g : ℕ} → groups .fits ≡ false → g ≤ length (unbalanced M L R) → More 16 (RowIn M L R g) → GroupsFound M L R places groups
+  put-too-many {g} told within more = record { if-true = λ e. absurd (false≢true (sym told ∙ e)); if-false = λ e. twelve-given g within more }
 
-  pub put-all : {upto : ℕ} → upto ≡ suc (length (unbalanced M L R)) → GroupsUpto 16 (RowIn M L R) places rows sizes upto
-      → GroupsFound limits M L R places rows sizes true
-  put-all all known = record { if-true = λ e. subst (GroupsUpto 16 (RowIn M L R) places rows sizes) all known; if-false = λ e. absurd (false≢true (sym e)) }
+  pub put-all : {upto : ℕ} → groups .fits ≡ true → upto ≡ suc (length (unbalanced M L R)) → GroupsUpto 16 (RowIn M L R) places (groups .rows) (groups .sizes) upto
+      → GroupsFound M L R places groups
+  put-all told all known =
+      record { if-true = λ e. subst (GroupsUpto 16 (RowIn M L R) places (groups .rows) (groups .sizes)) all known; if-false = λ e. absurd (false≢true (sym e ∙ told)) }
 
 -- what is known before the turn of a group
 pub record PutUpto (pair : Pair) (rows sizes : List ℕ) (group : ℕ) : Type 0 where
   pub rows-size : length rows ≡ 480
   pub sizes-size : length sizes ≡ 5
-  pub groups : (M : Mode) (L R : List ℕ) → PairOf limits M L R pair → GroupsUpto 16 (RowIn M L R) (pair .variables .count) rows sizes group
+  pub groups : (M : Mode) (L R : List ℕ) → PairOf M L R pair → GroupsUpto 16 (RowIn M L R) (pair .variables .count) rows sizes group
 
 -- The table that holds the pair's atoms beside all its groups is that of the pair.
-module _ {M : Mode} {L R : List ℕ} {pair : Pair} (of : PairOf limits M L R pair) (roomy : Roomy pair) {rows sizes : List ℕ}
+module _ {M : Mode} {L R : List ℕ} {pair : Pair} (of : PairOf M L R pair) (roomy : Roomy pair) {four rows sizes : List ℕ}
+    (first-four : four ≡ take 4 (pair .constants .atoms))
     (known : GroupsUpto 16 (RowIn M L R) (pair .variables .count) rows sizes (suc (length (unbalanced M L R)))) where
   abbrev tableWith : Table
   tableWith =
       record {
         variables = pair .variables .atoms;
         places = pair .variables .count;
-        constants = pair .constants .atoms;
+        constants = four;
         unbalanced = pair .constants .count;
         rows = rows;
         sizes = sizes;
       }
 
-  the-constants : take (pair .constants .count) (pair .constants .atoms) ≡ unbalanced M L R
+  the-constants : take (pair .constants .count) four ≡ unbalanced M L R
   the-constants =
-      ap (take (pair .constants .count)) (of .the-constants .the-atoms) ∙ take-padded 4 (unbalanced M L R) (of .the-constants .how-many)
+      ap (take (pair .constants .count)) first-four
+      ∙ take-take (pair .constants .count) 4 (pair .constants .atoms) (roomy .constants-fit)
+      ∙ take-atoms (of .the-constants)
 
   rows-of-constant : (h : Group) → List·Memᴰ h (groupsIn tableWith .constants) → Exactly (RowOf M L R (h .constant)) (h .rows)
   rows-of-constant h member =
@@ -88,20 +92,31 @@ module _ {M : Mode} {L R : List ℕ} {pair : Pair} (of : PairOf limits M L R pai
       (subst (Exactly (RowIn M L R (suc (s .place)))) (sym (s .its-rows ∙ ap (groupAt tableWith) (let e : 1 + s .place ≡ suc (s .place) = omega arith in e)))
       (known .the-rows (suc (s .place)) (omega (arith, s .within, ap length the-constants))))
     where
-      s : Stands tableWith 1 (take (pair .constants .count) (pair .constants .atoms)) h
-      s = groupsFrom-stands tableWith 1 (take (pair .constants .count) (pair .constants .atoms)) member
+      s : Stands tableWith 1 (take (pair .constants .count) four) h
+      s = groupsFrom-stands tableWith 1 (take (pair .constants .count) four) member
 
   pub table-of : TableOf M L R tableWith
   table-of =
       record {
-        within = record { places-fit = roomy .variables-fit; constants-fit = roomy .constants-fit; sizes-fit = known .sizes-fit };
-        the-variables =
-            ap (take (pair .variables .count)) (of .the-variables .the-atoms) ∙ take-padded 6 (variables M L R) (of .the-variables .how-many);
+        within =
+            record {
+              places-fit = roomy .variables-fit;
+              constants-fit = roomy .constants-fit;
+              constants-held =
+                  omega (
+                    arith,
+                    ap length the-constants,
+                    length-take (pair .constants .count) four,
+                    of .the-constants .how-many,
+                  );
+              sizes-fit = known .sizes-fit;
+            };
+        the-variables = take-atoms (of .the-variables);
         the-places = of .the-variables .how-many;
         the-groups =
             record {
               balanced-rows = known .the-rows 0 (omega arith);
-              the-constants = constants-groupsFrom tableWith 1 (take (pair .constants .count) (pair .constants .atoms)) ∙ the-constants;
+              the-constants = constants-groupsFrom tableWith 1 (take (pair .constants .count) four) ∙ the-constants;
               constant-rows = rows-of-constant;
             };
       }

@@ -15,7 +15,7 @@ use Rattle.sides.proofs.Lists.{at-member}
 use Rattle.table.specs.Table.{groupsIn, Within}
 use Rattle.table.specs.declared.Table.{Table}
 use Rattle.table.proofs.Groups.{length-groupAt, groupsFrom-stands}
-use Rattle.solve.specs.Steps.{RowIn, More}
+use Rattle.solve.specs.Groups.{RowIn, More}
 
 -- a table has room for no more rows than the limit
 within-limit : {t : Table} → Within t → ManyRows limits (groupsIn t) → ⊥

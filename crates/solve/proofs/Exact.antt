@@ -1,7 +1,6 @@
 -- What stands in the buffer after Rows are exactly the rows of the pair, among all vectors.
 use Prim.Native.Nat.{ℕ, zero, suc, _*_, _≤_, _<_}
 use native.Mathlib.Omega.{arith}
-use native.Mathlib.Decide.{decLt}
 use mathlib.Core.Path.{_≡_, refl, sym, ap, ap₂, subst, _∙_}
 use mathlib.Core.List.{List, [], _∷_, _++_, map, append-assoc, List·Memᴰ, List·Memᴰ·head, List·Memᴰ·tail, Memᴰ·of-map, head-eq-of-cons-eq, tail-eq-of-cons-eq, nil≢cons}
 use lib.ListN.{length, getD, take, drop, length-map}
@@ -11,11 +10,12 @@ use Rattle.ac.specs.Pair.{Mode, variables, unbalanced}
 use Rattle.ac.specs.Rows.{Exactly, RowOf, Group, Groups, GroupsOf}
 use Rattle.numbers.specs.First.{NoneOf, also}
 use Rattle.sides.specs.Given.{many-constants}
+use Rattle.sides.proofs.Telling.{at-most}
 use Rattle.rows.specs.Flat.{rowsOf}
 use Rattle.solve.specs.Given.{RowsGiven, of-the-sides, rowsNumbers}
 use Rattle.solve.specs.Rows.{groups, size, sizesOf, allRows, bytesOf, RowsPromise, is-answered}
 use Rattle.solve.specs.Cut.{groupSizes, cut}
-use Rattle.solve.specs.Steps.{RowIn}
+use Rattle.solve.specs.Groups.{RowIn}
 use Rattle.solve.proofs.Lists.{flatMap-append, AllOf, length-bytes}
 
 -- Bytes of rows, cut again.
@@ -118,11 +118,9 @@ module _ {M : Mode} {L R : List ℕ} {G : Groups} (of : GroupsOf M L R G) where
 
 -- where no number is given there are at most four unbalanced constants
 few-constants : {M : Mode} {L R out : List ℕ} {G : Groups} → NoneOf (RowsGiven M L R out) rowsNumbers → GroupsOf M L R G → length (G .constants) ≤ 4
-few-constants {M} {L} {R} {G = G} (also _ (also _ (also _ (also _ (also _ (also eleven _)))))) of = go (decLt 4 (length (unbalanced M L R)))
-  where
-    go : Dec (4 < length (unbalanced M L R)) → length (G .constants) ≤ 4
-    go (yes many) = absurd (eleven (of-the-sides (many-constants many)))
-    go (no few) = omega (arith, ap length (of .the-constants), length-map (G .constants) (λ (g : Group). g .constant))
+few-constants {M} {L} {R} {G = G} (also _ (also _ (also _ (also _ (also _ (also eleven _)))))) of =
+    let few : length (unbalanced M L R) ≤ 4 = at-most _ _ (λ many. eleven (of-the-sides (many-constants many))) in
+    omega (arith, ap length (of .the-constants), length-map (G .constants) (λ (g : Group). g .constant))
 
 -- After Rows has answered, the buffer cut by the sizes has the balanced rows as group 0 and those of each unbalanced constant, ascending, as the groups
 -- after it: exactly the vectors that are rows by the definition, which has no bound, and in ascending order.

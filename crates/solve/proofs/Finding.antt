@@ -1,38 +1,24 @@
 -- What is found by the net parts of a pair's atoms are the rows of its groups.
-use Prim.Native.Nat.{ℕ, zero, suc, _-_, _<_}
+use Prim.Native.Nat.{ℕ, suc, _-_, _<_}
 use native.Mathlib.Omega.{arith}
 use mathlib.Core.Path.{_≡_, refl, sym, ap, ap₂, subst, _∙_}
 use mathlib.Core.Logic.{_↔_, Iff·trans, Iff·symm}
 use mathlib.Core.Bool.{Bool, true, false}
 use mathlib.Core.List.{List, [], _∷_, map}
-use lib.ListN.{length, getD, take, replicate, length-map, List·getD-append}
-use lib.Seq.{take-at}
+use lib.ListN.{length, getD, take, length-map}
 use Rattle.ac.specs.Pair.{Mode, count, variables, unbalanced}
 use Rattle.ac.specs.Rows.{Exactly}
 use Rattle.ac.specs.Equation.{Equation, Minimal, beyond, netted}
 use Rattle.ac.proofs.Vectors.{exactly-same}
 use Rattle.ac.proofs.Bridge.{balanced-row-is-minimal, row-of-constant-is-minimal}
 use Rattle.ac.proofs.Nets.{netted-minimal, length-beyond}
-use Rattle.sides.specs.Limits.{limits}
-use Rattle.sides.specs.Parted.{padded, excess, PairOf}
+use Rattle.sides.specs.Gathered.{excess}
+use Rattle.sides.specs.Parted.{PairOf}
 use Rattle.sides.specs.declared.Pair.{Pair}
+use Rattle.sides.proofs.Laws.{take-left, take-right, left-at, right-at}
 use Rattle.rows.specs.Flat.{rowsOf}
 use Rattle.rows.specs.Found.{equation, Finds, Finds.few, Finds.more}
-use Rattle.solve.specs.Steps.{RowIn, FoundOf}
-
--- what stands at a place of a list that is padded, or made of another
-pub take-padded : (size : ℕ) (xs : List ℕ) {n : ℕ} → n ≡ length xs → take n (padded size xs) ≡ xs
-take-padded size xs {n} e = take-at xs (replicate (size - length xs) 0) n (sym e)
-
-getD-map : (f : ℕ → ℕ) (xs : List ℕ) (i : ℕ) → i < length xs → getD (map f xs) i 0 ≡ f (getD xs i 0)
-getD-map f [] i h = absurd (omega arith)
-getD-map f (x ∷ xs) zero h = refl
-getD-map f (x ∷ xs) (suc i) h = getD-map f xs i (omega arith)
-
-getD-padded : (size : ℕ) (f : ℕ → ℕ) (xs : List ℕ) (i : ℕ) → i < length xs → getD (padded size (map f xs)) i 0 ≡ f (getD xs i 0)
-getD-padded size f xs i h =
-    List·getD-append (map f xs) (replicate (size - length (map f xs)) 0) 0 i (let l : i < length (map f xs) = omega (arith, length-map xs f) in l)
-    ∙ getD-map f xs i h
+use Rattle.solve.specs.Groups.{RowIn, FoundOf}
 
 -- the net parts of a list's atoms, by place
 beyond-map : (f g : ℕ → ℕ) (xs : List ℕ) → beyond (map f xs) (map g xs) ≡ map (λ x. f x - g x) xs
@@ -50,7 +36,7 @@ found-as {n = n} {Row = Row} {bytes = bytes} same size (few within exact) =
 found-as same size (more {rows} exact above) =
     record { few = λ h. absurd (omega arith); more = λ h. record { rows = rows; exactly = exactly-same same exact; above = above } }
 
-module _ {M : Mode} {L R : List ℕ} {pair : Pair} (of : PairOf limits M L R pair) where
+module _ {M : Mode} {L R : List ℕ} {pair : Pair} (of : PairOf M L R pair) where
   abbrev occurrencesOf : List ℕ → List ℕ
   occurrencesOf side = map (λ x. count x side) (variables M L R)
 
@@ -62,12 +48,11 @@ module _ {M : Mode} {L R : List ℕ} {pair : Pair} (of : PairOf limits M L R pai
   parts = equation (take (pair .variables .count) (pair .variables .left)) (take (pair .variables .count) (pair .variables .right))
 
   -- the coefficients of the variables are their net parts
-  net-parts : (side other held : List ℕ) → held ≡ padded 6 (map (excess side other) (variables M L R))
-      → take (pair .variables .count) held ≡ beyond (occurrencesOf side) (occurrencesOf other)
-  net-parts side other held e =
-      ap (take (pair .variables .count)) e
-      ∙ take-padded 6 (map (excess side other) (variables M L R)) (of .the-variables .how-many ∙ sym (length-map (variables M L R) (excess side other)))
-      ∙ sym (beyond-map (λ x. count x side) (λ x. count x other) (variables M L R))
+  left-parts : take (pair .variables .count) (pair .variables .left) ≡ beyond (occurrencesOf L) (occurrencesOf R)
+  left-parts = take-left (of .the-variables) ∙ sym (beyond-map (λ x. count x L) (λ x. count x R) (variables M L R))
+
+  right-parts : take (pair .variables .count) (pair .variables .right) ≡ beyond (occurrencesOf R) (occurrencesOf L)
+  right-parts = take-right (of .the-variables) ∙ sym (beyond-map (λ x. count x R) (λ x. count x L) (variables M L R))
 
   -- an equation with them, and with the net parts of two offsets, finds the rows that are its minimal solutions
   found-rows : {left-offset right-offset n : ℕ} {homogeneous : Bool} {bytes : List ℕ} {Row : List ℕ → Type 0}
@@ -84,8 +69,8 @@ module _ {M : Mode} {L R : List ℕ} {pair : Pair} (of : PairOf limits M L R pai
       netted-parts : parts (left-offset - right-offset) (right-offset - left-offset) homogeneous ≡ netted (whole left-offset right-offset homogeneous)
       netted-parts i =
           record {
-            left = net-parts L R (pair .variables .left) (of .the-variables .left-parts) i;
-            right = net-parts R L (pair .variables .right) (of .the-variables .right-parts) i;
+            left = left-parts i;
+            right = right-parts i;
             left-offset = left-offset - right-offset;
             right-offset = right-offset - left-offset;
             homogeneous = homogeneous;
@@ -110,6 +95,4 @@ module _ {M : Mode} {L R : List ℕ} {pair : Pair} (of : PairOf limits M L R pai
       there = omega (arith, within, of .the-constants .how-many)
 
       offsets : _≡_ {A = ℕ × ℕ} (getD (pair .constants .left) g 0, getD (pair .constants .right) g 0) (excess L R constant, excess R L constant)
-      offsets =
-          ap₂ (λ l r. (getD l g 0, getD r g 0)) (of .the-constants .left-parts) (of .the-constants .right-parts)
-          ∙ ap₂ (λ l r. (l, r)) (getD-padded 4 (excess L R) (unbalanced M L R) g there) (getD-padded 4 (excess R L) (unbalanced M L R) g there)
+      offsets = ap₂ (λ l r. (l, r)) (left-at (of .the-constants) g there) (right-at (of .the-constants) g there)

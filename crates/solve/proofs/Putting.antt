@@ -11,10 +11,9 @@ use Rattle.ac.specs.Lists.{from, below, flatMap}
 use Rattle.ac.specs.Rows.{Group}
 use Rattle.buffer.specs.Put.{Put}
 use Rattle.buffer.proofs.Puts.{put-then, put-as, put-length}
-use Rattle.table.specs.Table.{groupAt, groupsFrom, groupsIn, Within}
+use Rattle.table.specs.Table.{rowIn, groupIn, groupAt, groupsFrom, groupsIn, Within}
 use Rattle.table.specs.declared.Table.{Table}
 use Rattle.table.proofs.Groups.{length-groupAt, length-groupsFrom}
-use Rattle.solve.specs.Spread.{rowIn, groupIn}
 use Rattle.solve.specs.Rows.{size, allRows, bytesOf}
 use Rattle.solve.proofs.Lists.{from-snoc, flatMap-append, flatMap-from-snoc, AllOf, length-bytes}
 use Rattle.ac.proofs.Keys.{length-from}

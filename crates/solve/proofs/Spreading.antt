@@ -12,7 +12,8 @@ use Rattle.ac.specs.Lists.{below}
 use Rattle.buffer.specs.Put.{Put}
 use Rattle.rows.specs.Flat.{rowsOf}
 use Rattle.rows.proofs.Flat.{rowAt, rows-snoc}
-use Rattle.solve.specs.Spread.{rowIn, Spreads}
+use Rattle.table.specs.Table.{rowIn}
+use Rattle.solve.specs.Groups.{Spreads}
 use Rattle.solve.proofs.Lists.{below-same, from-snoc}
 
 -- What stands at one place of a list is not touched by what is put at another.

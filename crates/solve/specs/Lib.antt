@@ -1,7 +1,6 @@
-pub mod Spread
-pub mod Solved
-pub mod Steps
 pub mod Given
 pub mod Rows
 pub mod Cut
-pub mod Putting
+pub mod Groups
+pub mod Solved
+pub mod SolvedRows

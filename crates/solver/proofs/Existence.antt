@@ -26,7 +26,9 @@ use Rattle.numbers.specs.First.{First, NoneOf, here, also, end}
 use Rattle.numbers.proofs.Laws.{first-unique, first-not-none}
 use Rattle.numbers.proofs.Carried.{none-carried, first-after, none-front, first-given, elsewhere, first-past}
 use Rattle.solver.specs.Request.{wantedCount}
-use Rattle.solver.specs.Given.{ListGiven, none-admissible, not-listed, last-listed, PageGiven, of-the-sides, of-the-list, pageNumbers}
+use Rattle.keys.specs.Given.{none-admissible}
+use Rattle.keys.proofs.Given.{given-13}
+use Rattle.solver.specs.Given.{PageGiven, of-the-sides, of-the-list, pageNumbers}
 use Rattle.solver.specs.Page.{nextKeys, moreFollow, PageOutcome, refused, page, PagePromise, is-refused, is-page}
 use Rattle.solver.specs.Existence.{SomeUnifies, NoneUnifies, replacementOf, PageExistence}
 use Rattle.solver.proofs.Given.{given-list}
@@ -81,11 +83,6 @@ module _ {M : Mode} {L R : List ℕ} (fine : WithinLimits M L R) {G : Groups} (o
   listed-some some =
       ⊎-elim (λ empty. absurd (some empty)) (λ one. (replacementOf M L R G (one .0), key-unifies (one .1))) (empty-or-member (keys M layout L R G))
 
-empty-list : {listed : List ℕ} {begin : Begin} {n : ℕ} → n ≡ 13 → ListGiven listed begin n → listed ≡ []
-empty-list e (none-admissible empty) = empty
-empty-list e (not-listed same h) = absurd (omega arith)
-empty-list e (last-listed same m h) = absurd (omega arith)
-
 module _ {M : Mode} {L R : List ℕ} {begin : Begin} {wanted : ℕ} {out : List ℕ} where
   -- where nothing up to 12 is given, the sides and the groups are within the limits
   fine-sides : NoneOf (PageGiven M L R begin wanted out) (16 ∷ 7 ∷ 8 ∷ 9 ∷ 10 ∷ 11 ∷ 12 ∷ []) → WithinLimits M L R
@@ -111,7 +108,7 @@ module _ {M : Mode} {L R : List ℕ} {begin : Begin} {wanted : ℕ} {out : List 
         let at-13 = subst (First (PageGiven M L R begin wanted out) pageNumbers) e first in
         let none = first-past (16 ∷ 7 ∷ 8 ∷ 9 ∷ 10 ∷ 11 ∷ 12 ∷ []) (13 ∷ 14 ∷ 15 ∷ []) refl at-13 in
         empty-none (fine-sides none) (groups-exist M L R)
-        (empty-list e (given-list (groups-exist M L R) (omega arith) (omega arith) (first-given first)))
+        (given-13 e (given-list (groups-exist M L R) (omega arith) (first-given first)))
 
     some-later : {m : ℕ} → elsewhere m (16 ∷ 7 ∷ 8 ∷ 9 ∷ 10 ∷ 11 ∷ 12 ∷ 13 ∷ []) ≡ true → n ≡ m → SomeUnifies M L R
     some-later {m} past e =

@@ -16,20 +16,13 @@ use Rattle.ac.proofs.Groups.{groups-exist, groups-unique}
 use Rattle.ac.proofs.Listed.{keys-ascending}
 use Rattle.ac.proofs.Pages.{remaining-after-page}
 use Rattle.numbers.proofs.Carried.{first-given}
+use Rattle.keys.proofs.Given.{given-15}
 use Rattle.solver.specs.Request.{wantedCount}
-use Rattle.solver.specs.Given.{ListGiven, none-admissible, not-listed, last-listed}
 use Rattle.solver.specs.Page.{nextKeys, moreFollow, page, PagePromise, is-refused, is-page}
 use Rattle.solver.specs.Pages.{PagesAsked, one-more, no-more, was-last}
 use Rattle.solver.proofs.Given.{given-list}
 use Rattle.solver.proofs.Limits.{WithinLimits}
-use Rattle.solver.proofs.Beginning.{start-not-after}
 use Rattle.solver.proofs.Existence.{fine-page}
-
--- where 15 is given, nothing remains
-nothing-remains : {listed : List ℕ} {begin : Begin} {n : ℕ} → n ≡ 15 → ListGiven listed begin n → remaining begin listed ≡ []
-nothing-remains e (none-admissible empty) = absurd (omega arith)
-nothing-remains e (not-listed same h) = absurd (omega arith)
-nothing-remains {listed} e (last-listed same m h) = subst (λ b. remaining b listed ≡ []) (sym same) h
 
 module _ {M : Mode} {L R : List ℕ} {G : Groups} (of : GroupsOf M L R G) where
   -- what a page's promise says of it: the next keys, and whether more follow
@@ -56,24 +49,18 @@ module _ {M : Mode} {L R : List ℕ} {G : Groups} (of : GroupsOf M L R G) where
       append-nil _ ∙ this .0
       ∙ take-all (wantedCount wanted) (remaining begin (keys M layout L R G))
       (ltb-false (wantedCount wanted) (length (remaining begin (keys M layout L R G))) (sym (this .1)))
-  pages-together ascending (was-last (is-refused first)) = sym (nothing-remains refl (given-list of (omega arith) (omega arith) (first-given first)))
+  pages-together ascending (was-last (is-refused first)) = sym (given-15 refl (given-list of (omega arith) (first-given first)) .0)
 
 -- a page tells that the pair is within the limits
 page-within : {M : Mode} {L R : List ℕ} {begin : Begin} {wanted written : ℕ} {more : Bool} {out out′ : List ℕ}
     → PagePromise M L R begin wanted out (page written more) out′ → WithinLimits M L R
 page-within (is-page none of) = fine-page none of
 
--- no key comes before the start
-after-a-key : {listed : List ℕ} {begin : Begin} {n : ℕ} → n ≡ 15 → ListGiven listed begin n → begin ≡ start → ⊥
-after-a-key e (none-admissible empty) from-start = omega arith
-after-a-key e (not-listed same h) from-start = omega arith
-after-a-key e (last-listed same m h) from-start = start-not-after (sym from-start ∙ same)
-
 pub asked-within : {M : Mode} {L R : List ℕ} {begin : Begin} {pages : List (List ℕ)} → begin ≡ start → PagesAsked M L R begin pages → WithinLimits M L R
 asked-within from-start (one-more before last promise ends rest) = page-within promise
 asked-within from-start (no-more promise) = page-within promise
 asked-within {M} {L} {R} from-start (was-last (is-refused first)) =
-    absurd (after-a-key refl (given-list (groups-exist M L R) (omega arith) (omega arith) (first-given first)) from-start)
+    absurd (given-15 refl (given-list (groups-exist M L R) (omega arith) (first-given first)) .1 from-start)
 
 -- Pages asked for one after the other from the start hold together the whole list, no key twice.
 pub pages-hold-the-list : {M : Mode} {L R : List ℕ} {G : Groups} {pages : List (List ℕ)} → GroupsOf M L R G → PagesAsked M L R start pages

@@ -12,8 +12,8 @@ use Rattle.sides.specs.Limits.{limits}
 use Rattle.sides.specs.Given.{PairGiven}
 use Rattle.table.specs.Table.{TableOf, groupsIn}
 use Rattle.table.specs.declared.Table.{Table}
+use Rattle.keys.specs.Given.{ListGiven}
 use Rattle.solver.specs.Request.{wantedCount}
-use Rattle.solver.specs.Given.{ListGiven}
 use Rattle.solver.specs.Page.{PageOutcome, refused, PagePromise, is-refused, is-page}
 use Rattle.solver.specs.Steps.{SettledOf, to-refuse, to-answer, WrittenOf}
 use Rattle.solver.specs.declared.Settled.{Settled}

@@ -1,23 +1,14 @@
 -- The numbers that Page gives (document 01, "Numbers given in place of a result"): when each is given, whatever else is wrong.
 use Prim.Native.Nat.{ℕ, _<_}
-use mathlib.Core.Path.{_≡_}
-use mathlib.Core.List.{List, [], _∷_, List·Memᴰ}
+use mathlib.Core.List.{List, [], _∷_}
 use lib.ListN.{length}
 use Rattle.ac.specs.Pair.{Mode}
 use Rattle.ac.specs.Rows.{Groups, GroupsOf}
-use Rattle.ac.specs.Keys.{layout, keys, Begin, after, remaining}
+use Rattle.ac.specs.Keys.{layout, keys, Begin}
+use Rattle.keys.specs.Given.{ListGiven}
 use Rattle.sides.specs.Limits.{limits}
 use Rattle.sides.specs.Given.{PairGiven}
 use Rattle.solver.specs.Request.{wantedCount}
-
--- The rows of the table that speak of the list.
-pub data ListGiven (listed : List ℕ) (begin : Begin) : ℕ → Type 0 where
-  -- no selection is admissible
-  none-admissible : listed ≡ [] → ListGiven listed begin 13
-  -- the key isn't on the list
-  not-listed : {key : ℕ} → begin ≡ after key → (List·Memᴰ key listed → ⊥) → ListGiven listed begin 14
-  -- the key is the last on the list
-  last-listed : {key : ℕ} → begin ≡ after key → List·Memᴰ key listed → remaining (after key) listed ≡ [] → ListGiven listed begin 15
 
 -- The rows of the table that Page gives.
 pub data PageGiven (M : Mode) (L R : List ℕ) (begin : Begin) (wanted : ℕ) (out : List ℕ) : ℕ → Type 0 where

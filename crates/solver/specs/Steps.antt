@@ -15,8 +15,8 @@ use Rattle.sides.specs.Limits.{limits}
 use Rattle.sides.specs.Given.{PairGiven}
 use Rattle.table.specs.Table.{TableOf}
 use Rattle.table.specs.declared.Table.{Table}
+use Rattle.keys.specs.Given.{ListGiven}
 use Rattle.solver.specs.Request.{beginningOf}
-use Rattle.solver.specs.Given.{ListGiven}
 use Rattle.solver.specs.Page.{PageOutcome, page, PagePromise}
 use Rattle.solver.specs.declared.PageRequest.{PageRequest}
 use Rattle.solver.specs.declared.Settled.{Settled}

@@ -1,7 +1,7 @@
 // The questions on two sides that the list answers (document 01, "The questions"): Page and Values.
 ghost use mathlib.Core.Path.{_≡_};
-ghost use mathlib.Core.List.{_∷_, List·Memᴰ};
-ghost use Prim.Native.Nat.{ℕ, _<_, _≤_};
+ghost use mathlib.Core.List.{_∷_};
+ghost use Prim.Native.Nat.{_<_, _≤_};
 ghost use lib.ListN.{length};
 ghost use Rattle.ac.specs.Keys.{after, remaining};
 ghost use Rattle.table.specs.Table.{Within};
@@ -13,7 +13,9 @@ ghost use Rattle.values.specs.Values.{ValuesPromise};
 ghost use Rattle.values.specs.Values.{told as toldValues};
 ghost use Rattle.ac.specs.Pair.{unifying};
 ghost use Rattle.solver.specs.Steps.{SettledOf, WrittenOf, PromiseOfTable};
+use keys::Found;
 use keys::Next;
+use keys::find_key;
 use keys::least_listed;
 use numbers::Refusal;
 use sides::Verdict;
@@ -56,45 +58,21 @@ enum Settled {
     Refused(Refusal),
 }
 
-// After a listed key: the next one, unless it is the last.
-fn settle_listed(table: Table, key: u32) -> Settled
-    requires { ⌜ Within table ⌝ }
-    ensures { λ r. ⌜ OfItsList table (λ listed. List·Memᴰ key listed → SettledOf listed (after key) r) ⌝ }
-{
-    let next = least_listed(table, key as u64 + 1);
-    match next {
-        Next::Key(first) => Settled::FirstKey(first),
-        Next::None => Settled::Refused(Refusal::LastKey),
-    }
-}
-
-// After a key that is not listed: nothing is listed, or something else is.
-fn settle_unlisted(table: Table) -> Settled
-    requires { ⌜ Within table ⌝ }
-    ensures { λ r. ⌜ OfItsList table (λ listed. (key : ℕ) → (List·Memᴰ key listed → ⊥) → SettledOf listed (after key) r) ⌝ }
-{
-    let first = least_listed(table, 0);
-    match first {
-        Next::Key(_) => Settled::Refused(Refusal::NotListed),
-        Next::None => Settled::Refused(Refusal::NoUnifier),
-    }
-}
-
-// After a key: it is listed if the least listed key from it on is itself.
+// After a key: 13 or 14 if it is not listed, else the next one, unless it is the last.
 fn settle_after(table: Table, key: u32) -> Settled
     requires { ⌜ Within table ⌝ }
     ensures { λ r. ⌜ OfItsList table (λ listed. SettledOf listed (after key) r) ⌝ }
 {
-    let least = least_listed(table, key as u64);
-    match least {
-        Next::Key(found) => {
-            if found == key {
-                settle_listed(table, key)
-            } else {
-                Settled::Refused(Refusal::NotListed)
+    let found = find_key(table, key);
+    match found {
+        Found::Refused(refusal) => Settled::Refused(refusal),
+        Found::Listed => {
+            let next = least_listed(table, key as u64 + 1);
+            match next {
+                Next::Key(first) => Settled::FirstKey(first),
+                Next::None => Settled::Refused(Refusal::LastKey),
             }
         }
-        Next::None => settle_unlisted(table),
     }
 }
 

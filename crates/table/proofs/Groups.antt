@@ -3,11 +3,12 @@ use Prim.Native.Nat.{ℕ, suc, _+_, _<_}
 use native.Mathlib.Omega.{arith}
 use mathlib.Core.Path.{_≡_, refl, ap, _∙_}
 use mathlib.Core.List.{List, [], _∷_, map, List·Memᴰ, List·Memᴰ·head, List·Memᴰ·tail}
-use lib.ListN.{length, getD, length-map}
+use lib.ListN.{length, getD, take, length-map}
+use lib.Seq.{length-take-le}
 use Rattle.ac.specs.Lists.{from}
 use Rattle.ac.specs.Rows.{Group}
 use Rattle.ac.proofs.Keys.{length-from}
-use Rattle.table.specs.Table.{rowAt, groupAt, groupsFrom}
+use Rattle.table.specs.Table.{rowAt, groupAt, groupsFrom, groupsIn, Within}
 use Rattle.table.specs.declared.Table.{Table}
 
 module _ (t : Table) where
@@ -21,6 +22,11 @@ module _ (t : Table) where
   pub constants-groupsFrom : (g : ℕ) (cs : List ℕ) → map (λ (h : Group). h .constant) (groupsFrom t g cs) ≡ cs
   constants-groupsFrom g [] = refl
   constants-groupsFrom g (c ∷ cs) = ap (λ l. c ∷ l) (constants-groupsFrom (suc g) cs)
+
+  -- there is a group for each unbalanced constant
+  pub how-many-constants : Within t → length (groupsIn t .constants) ≡ t .unbalanced
+  how-many-constants within =
+      length-groupsFrom 1 (take (t .unbalanced) (t .constants)) ∙ length-take-le (t .unbalanced) (t .constants) (within .constants-held)
 
   -- where one of the constants' groups stands: its constant's place, and its group in the table
   pub record Stands (first : ℕ) (cs : List ℕ) (h : Group) : Type 0 where

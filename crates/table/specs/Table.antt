@@ -1,5 +1,5 @@
--- What a table says: the groups of rows that it holds, and that it is the table of a pair.
-use Prim.Native.Nat.{ℕ, zero, suc, _+_, _*_, _≤_}
+-- What a table says: the groups of rows that it holds, and that it is the table of a pair (document 01, "From sides to equations").
+use Prim.Native.Nat.{ℕ, suc, _+_, _*_, _≤_}
 use mathlib.Core.Path.{_≡_}
 use mathlib.Core.List.{List, [], _∷_, map}
 use lib.ListN.{length, getD, take, drop}
@@ -8,13 +8,20 @@ use Rattle.ac.specs.Pair.{Mode, variables}
 use Rattle.ac.specs.Rows.{Group, Groups, GroupsOf}
 use Rattle.table.specs.declared.Table.{Table}
 
--- row i of group g: an entry for each variable
-abbrev pub rowAt : Table → ℕ → ℕ → List ℕ
-rowAt t g i = take (t .places) (drop (96 * g + 6 * i) (t .rows))
+-- row i of group g, where rows have fixed places: an entry for each variable
+abbrev pub rowIn : ℕ → List ℕ → ℕ → ℕ → List ℕ
+rowIn places rows g i = take places (drop (96 * g + 6 * i) rows)
 
--- the rows of group g
+-- the first rows of group g
+abbrev pub groupIn : ℕ → List ℕ → ℕ → ℕ → List (List ℕ)
+groupIn places rows g count = map (rowIn places rows g) (below count)
+
+-- row i of group g of a table, and all rows of the group
+abbrev pub rowAt : Table → ℕ → ℕ → List ℕ
+rowAt t = rowIn (t .places) (t .rows)
+
 abbrev pub groupAt : Table → ℕ → List (List ℕ)
-groupAt t g = map (rowAt t g) (below (getD (t .sizes) g 0))
+groupAt t g = groupIn (t .places) (t .rows) g (getD (t .sizes) g 0)
 
 -- the constants' groups from group g on
 abbrev pub groupsFrom : Table → ℕ → List ℕ → List Group
@@ -29,6 +36,7 @@ groupsIn t = record { balanced = groupAt t 0; constants = groupsFrom t 1 (take (
 pub record Within (t : Table) : Type 0 where
   pub places-fit : t .places ≤ 6
   pub constants-fit : t .unbalanced ≤ 4
+  pub constants-held : t .unbalanced ≤ length (t .constants)
   pub sizes-fit : (g : ℕ) → getD (t .sizes) g 0 ≤ 16
 
 -- the table is that of the pair: its variables and exactly its rows

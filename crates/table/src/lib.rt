@@ -1,7 +1,4 @@
 // A solved pair by value: its variables, its unbalanced constants, and the rows of each group in one flat array.
-ghost use mathlib.Core.Path.{_≡_};
-ghost use Prim.Native.Nat.{_+_, _*_, _<_};
-ghost use lib.ListN.{getD};
 
 // How many variables, unbalanced constants and rows of a group there may be.
 pub const VARIABLES: usize = 6;

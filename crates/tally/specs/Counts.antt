@@ -1,5 +1,5 @@
 -- The nightly program's counts, and the lines that stand at the end (document 01, "The nightly program").
-use Prim.Native.Nat.{ℕ, _+_, min}
+use Prim.Native.Nat.{ℕ, _+_, _-_, _^_, min}
 use mathlib.Core.Path.{_≡_}
 use mathlib.Core.Bool.{Bool, true, false, cond}
 use lib.Dec.{eqb}
@@ -11,9 +11,9 @@ use Rattle.tally.specs.declared.Tallied.{Tallied}
 use Rattle.tally.specs.declared.Closing.{Closing}
 use Rattle.tally.specs.declared.Closing.the-variants.{NothingRead, Counted, TooLong}
 
--- At most 1,048,576 blocks are read: no count goes beyond.
+-- one more, as far as a number of 64 bits goes
 abbrev pub oneMore : ℕ → ℕ
-oneMore n = min (n + 1) 1048576
+oneMore n = min (n + 1) (2 ^ 64 - 1)
 
 -- `blocks B listed L none U refused F`, each counted by its own kind of line.
 abbrev pub counted : Counts → Line → Counts

@@ -2,7 +2,7 @@
 //
 // Every function here is for all inputs: none has a premise, and each contract determines what is given.
 ghost use mathlib.Core.Path.{_≡_};
-ghost use Prim.Native.Nat.{_+_, _%_, min};
+ghost use Prim.Native.Nat.{_+_, _-_, _%_, _^_, min};
 ghost use Rattle.numbers.specs.Numbers.{numberOf};
 ghost use Rattle.tally.specs.Line.{told, lineOf, lineOfNumber, constantsRows};
 ghost use Rattle.tally.specs.Counts.{oneMore, counted, Tallies, closingOf};
@@ -10,9 +10,6 @@ use block::ReadAnswer;
 use numbers::Refusal;
 use solve::RowsAnswer;
 use solver::PageAnswer;
-
-// At most so many blocks are read.
-pub const MOST_BLOCKS: u64 = 1048576;
 
 // The number that says that there is no unifier.
 const NO_UNIFIER: u8 = 13;
@@ -104,25 +101,23 @@ fn refused_line(refusal: Refusal) -> Line
     }
 }
 
-// The rows of all constants.
+// The rows of all constants, as far as a number of 64 bits goes.
 fn all_constants(first: usize, second: usize, third: usize, fourth: usize) -> u64
     ensures { λ r. ⌜ r ≡ constantsRows first second third fourth ⌝ }
 {
-    let two = sum_within(first as u64, second as u64, u64::MAX);
-    let three = sum_within(two, third as u64, u64::MAX);
-    sum_within(three, fourth as u64, u64::MAX)
+    let two = sum(first as u64, second as u64);
+    let three = sum(two, third as u64);
+    sum(three, fourth as u64)
 }
 
-// The sum of two numbers, or `most` where it would be more.
-fn sum_within(a: u64, b: u64, most: u64) -> u64
-    ensures { λ r. ⌜ r ≡ min (a + b) most ⌝ }
+// The sum of two numbers, or the largest number of 64 bits where it would be more.
+fn sum(a: u64, b: u64) -> u64
+    ensures { λ r. ⌜ r ≡ min (a + b) (2 ^ 64 - 1) ⌝ }
 {
-    if a < most {
-        if b < most - a {
-            return a + b;
-        }
+    if b < u64::MAX - a {
+        return a + b;
     }
-    most
+    u64::MAX
 }
 
 // The counts after a block with this line: each is counted by its own kind of line.
@@ -150,11 +145,11 @@ fn count(counts: Counts, line: Line) -> Counts
     after
 }
 
-// One more, as far as blocks are read.
+// One more, as far as a number of 64 bits goes.
 fn one_more(count: u64) -> u64
     ensures { λ r. ⌜ r ≡ oneMore count ⌝ }
 {
-    sum_within(count, 1, MOST_BLOCKS)
+    sum(count, 1)
 }
 
 // The lines at the end, from the counts and whether input remains after the last block that was read.

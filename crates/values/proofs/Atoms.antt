@@ -9,11 +9,11 @@ use lib.ListN.{length, getD, replicate, take}
 use lib.Seq.{take-suc, take-length}
 use Rattle.ac.specs.Lists.{from}
 use Rattle.ac.specs.Pair.{Mode, variables}
-use Rattle.ac.specs.Rows.{Group, Groups}
+use Rattle.ac.specs.Rows.{Group, Groups, rowsAt}
 use Rattle.ac.specs.Selection.{Taken, takenRows, takenBalanced, taken, valueAt, value}
 use Rattle.ac.specs.Keys.{layout, bit, fieldAt, selectionAt, Candidate, Fits}
 use Rattle.ac.specs.Values.{Binding, bindings}
-use Rattle.ac.proofs.Fields.{rowsAt, length-fieldsOf, index-at, places-candidate}
+use Rattle.ac.proofs.Fields.{length-fieldsOf, index-at, places-candidate}
 use Rattle.ac.proofs.Places.{placeOf-getD}
 use Rattle.ac.proofs.Replaced.{variables-ascending}
 use Rattle.keys.specs.Reach.{Holds}

@@ -1,33 +1,24 @@
 -- Values' promise from its steps, of a table that is the pair's.
 use Prim.Native.Nat.{ℕ, _<_, _≤_}
-use mathlib.Core.Path.{_≡_, subst}
+use mathlib.Core.Path.{_≡_}
 use mathlib.Core.List.{List, [], _∷_, List·Memᴰ}
 use lib.ListN.{length}
 use Rattle.ac.specs.Pair.{Mode}
 use Rattle.ac.specs.Keys.{layout, keys}
 use Rattle.numbers.specs.Numbers.{numberOf}
-use Rattle.numbers.specs.First.{First, NoneOf}
+use Rattle.numbers.specs.First.{NoneOf}
 use Rattle.numbers.specs.declared.Refusal.{Refusal}
 use Rattle.sides.specs.Limits.{limits}
 use Rattle.sides.specs.Given.{PairGiven}
 use Rattle.table.specs.Table.{TableOf, groupsIn}
 use Rattle.table.specs.declared.Table.{Table}
-use Rattle.values.specs.Given.{ListGiven}
+use Rattle.keys.specs.List.{FoundOf}
+use Rattle.keys.specs.declared.Found.{Found}
+use Rattle.keys.specs.declared.Found.the-variants.{Listed, Refused}
+use Rattle.keys.proofs.Finding.{told-listed, told-refused}
 use Rattle.values.specs.Values.{ValuesOutcome, refused, ValuesPromise, is-refused, is-written}
-use Rattle.values.specs.Steps.{SettledOf, to-refuse, to-answer, Writes, too-long, fits}
-use Rattle.values.specs.declared.Settled.{Settled}
-use Rattle.values.specs.declared.Settled.the-variants.{Listed, Refused}
+use Rattle.values.specs.Steps.{Writes, too-long, fits}
 use Rattle.values.proofs.Given.{first-short, first-of-list, first-long, none-at-all}
-
--- the cases of what is settled
-settled-refusal : {listed : List ℕ} {key : ℕ} {why : Refusal} → SettledOf listed key (Refused why) → First (ListGiven listed key) (13 ∷ 14 ∷ []) (numberOf why)
-settled-refusal (to-refuse first) = first
-
-settled-listed : {listed : List ℕ} {key : ℕ} {settled : Settled} → SettledOf listed key settled → settled ≡ Listed → List·Memᴰ key listed
-settled-listed {listed} {key} told e = of-listed (subst (SettledOf listed key) e told)
-  where
-    of-listed : SettledOf listed key Listed → List·Memᴰ key listed
-    of-listed (to-answer m) = m
 
 module _ {M : Mode} {L R : List ℕ} {key : ℕ} {out : List ℕ} where
   -- 16 comes first
@@ -35,17 +26,16 @@ module _ {M : Mode} {L R : List ℕ} {key : ℕ} {out : List ℕ} where
   promise-short short = is-refused (first-short short)
 
   module _ {t : Table} (of : TableOf M L R t) (none : NoneOf (PairGiven limits M L R) (7 ∷ 8 ∷ 9 ∷ 10 ∷ 11 ∷ 12 ∷ [])) (enough : 1212 ≤ length out)
-      {settled : Settled} (told : SettledOf (keys M layout L R (groupsIn t)) key settled) where
+      {found : Found} (told : FoundOf (keys M layout L R (groupsIn t)) key found) where
     -- 13 and 14 change no buffer
-    pub promise-refused : {why : Refusal} → settled ≡ Refused why → ValuesPromise M L R key out (refused (numberOf why)) out
-    promise-refused e =
-        is-refused (first-of-list enough (of .the-groups) none (settled-refusal (subst (SettledOf (keys M layout L R (groupsIn t)) key) e told)))
+    pub promise-refused : {why : Refusal} → found ≡ Refused why → ValuesPromise M L R key out (refused (numberOf why)) out
+    promise-refused e = is-refused (first-of-list enough (of .the-groups) none (told-refused told e))
 
     -- of a listed key 17, or its values
-    pub promise-written : settled ≡ Listed → {outcome : ValuesOutcome} {out′ : List ℕ}
+    pub promise-written : found ≡ Listed → {outcome : ValuesOutcome} {out′ : List ℕ}
         → (List·Memᴰ key (keys M layout L R (groupsIn t)) → Writes M L R (groupsIn t) key out outcome out′) → ValuesPromise M L R key out outcome out′
-    promise-written e writes = go (writes (settled-listed told e))
+    promise-written e writes = go (writes (told-listed told e))
       where
         go : {outcome : ValuesOutcome} {out′ : List ℕ} → Writes M L R (groupsIn t) key out outcome out′ → ValuesPromise M L R key out outcome out′
-        go (too-long long) = is-refused (first-long enough (of .the-groups) none (settled-listed told e) long)
-        go (fits short) = is-written (none-at-all enough (of .the-groups) none (settled-listed told e) short) (of .the-groups)
+        go (too-long long) = is-refused (first-long enough (of .the-groups) none (told-listed told e) long)
+        go (fits short) = is-written (none-at-all enough (of .the-groups) none (told-listed told e) short) (of .the-groups)

@@ -1,14 +1,13 @@
 -- What is written of a listed key are its values, and a value is too long exactly where the code counts more than 200 atoms.
-use Prim.Native.Nat.{ℕ, zero, suc, _+_, _<_, _≤_}
+use Prim.Native.Nat.{ℕ, zero, suc, _<_, _≤_}
 use native.Mathlib.Omega.{arith}
 use mathlib.Core.Path.{_≡_, refl, sym, _∙_, ap, subst, subst₂}
 use mathlib.Core.Bool.{Bool, true, false, _||_}
-use mathlib.Core.List.{List, [], _∷_, _++_, List·Memᴰ}
+use mathlib.Core.List.{List, [], _∷_, List·Memᴰ}
 use borrow.Author.Tests.{ltb-true, lt-ltb}
 use lib.Dec.{ltb}
-use lib.ListN.{length, getD, take, drop}
-use lib.Seq.{sets-eq, getD-take}
-use Rattle.ac.specs.Lists.{receives}
+use lib.ListN.{length, getD, take}
+use lib.Seq.{getD-take}
 use Rattle.ac.specs.Pair.{Mode, variables}
 use Rattle.ac.specs.Selection.{taken, valueAt, placeOf}
 use Rattle.ac.specs.Keys.{layout, keys, selectionAt, Candidate}
@@ -17,6 +16,7 @@ use Rattle.ac.proofs.Listed.{listed-candidates}
 use Rattle.ac.proofs.Places.{getD-member, placeOf-getD, placeOf-lt}
 use Rattle.ac.proofs.Replaced.{variables-ascending}
 use Rattle.buffer.specs.Put.{Put}
+use Rattle.buffer.proofs.Puts.{put-received}
 use Rattle.keys.specs.Reach.{any, Holds}
 use Rattle.keys.proofs.Any.{any-found}
 use Rattle.keys.proofs.Table.{table-fits, table-holds}
@@ -41,28 +41,20 @@ any-some (suc n) test e = go (any n test) refl (test n) refl (any-some n test)
         let contra : false ≡ true = sym (ap (λ a. a || test n) p ∙ q) ∙ e in
         absurd (let z : _≡_ {A = ℕ} 0 1 = cc contra in omega arith)
 
--- what is put at the front of a buffer that has room stands there, and what comes after it stays
-pub put-received : {out after : List ℕ} {bytes : List ℕ} {n : ℕ} → length bytes ≤ length out → Put out 0 bytes n after
-    → (n ≡ length bytes) × (after ≡ receives out bytes)
-put-received {out} {after} {bytes} {n} room put = (
-  omega (arith, put .place),
-  put .stored ∙ sets-eq bytes out 0 (omega arith) ∙ ap (λ k. bytes ++ drop k out) (let e : 0 + length bytes ≡ length bytes = omega arith in e),
-)
-
 -- the constant of each of the constants' groups
 atomOf-groupsFrom : (t : Table) (a : ℕ) (cs : List ℕ) (g : ℕ) → g < length (groupsFrom t a cs) → atomOf (groupsFrom t a cs) g ≡ getD cs g 0
 atomOf-groupsFrom t a [] g h = absurd (omega arith)
 atomOf-groupsFrom t a (c ∷ cs) zero h = refl
 atomOf-groupsFrom t a (c ∷ cs) (suc g) h = atomOf-groupsFrom t (suc a) cs g (omega arith)
 
-module _ {M : Mode} {L R : List ℕ} {t : Table} {key : ℕ} (of : TableOf M L R t) (room : length (t .constants) ≡ 4)
+module _ {M : Mode} {L R : List ℕ} {t : Table} {key : ℕ} (of : TableOf M L R t)
     (listed : List·Memᴰ key (keys M layout L R (groupsIn t))) where
   candidate : Candidate layout (groupsIn t) key
-  candidate = listed-candidates (table-fits t (of .within)) M L R .0 listed .0
+  candidate = listed-candidates (table-fits (of .within)) M L R .0 listed .0
 
   named : (g : ℕ) → g < length (groupsIn t .constants) → atomOf (groupsIn t .constants) g ≡ getD (t .constants) g 0
   named g h =
-      let fits-in : g < t .unbalanced = subst (λ n. g < n) (table-holds (of .within) room .how-many-constants) h in
+      let fits-in : g < t .unbalanced = subst (λ n. g < n) (table-holds (of .within) .how-many-constants) h in
       atomOf-groupsFrom t 1 (take (t .unbalanced) (t .constants)) g h ∙ getD-take (t .unbalanced) (t .constants) g 0 fits-in
 
   same : (p : ℕ) → p < length (variables M L R) → getD (t .variables) p 0 ≡ getD (variables M L R) p 0
@@ -70,21 +62,21 @@ module _ {M : Mode} {L R : List ℕ} {t : Table} {key : ℕ} (of : TableOf M L R
       sym (getD-take (t .places) (t .variables) p 0 (omega (arith, of .the-places))) ∙ ap (λ l. getD l p 0) (of .the-variables)
 
   holds : Holds (t .rows) (length (variables M L R)) (t .unbalanced) (getD (t .sizes) 0 0) (groupsIn t)
-  holds = subst (λ n. Holds (t .rows) n (t .unbalanced) (getD (t .sizes) 0 0) (groupsIn t)) (of .the-places) (table-holds (of .within) room)
+  holds = subst (λ n. Holds (t .rows) n (t .unbalanced) (getD (t .sizes) 0 0) (groupsIn t)) (of .the-places) (table-holds (of .within))
 
   -- what is laid out are the key's values
   laid : laidOut (bindingsBelow (t .variables) (atomsAt (t .rows) (t .constants) (t .unbalanced) (getD (t .sizes) 0 0) key) (t .places))
       ≡ valuesOf M L R (groupsIn t) key
   laid =
       ap (λ n. laidOut (bindingsBelow (t .variables) (atomsAt (t .rows) (t .constants) (t .unbalanced) (getD (t .sizes) 0 0) key) n)) (of .the-places)
-      ∙ ap laidOut (pair-bindings M L R (t .constants) (t .variables) holds named (table-fits t (of .within)) candidate same)
+      ∙ ap laidOut (pair-bindings M L R (t .constants) (t .variables) holds named (table-fits (of .within)) candidate same)
 
   -- how many atoms the value of the variable at a place has
   counted : (p : ℕ) → p < length (variables M L R) → lengthAt (t .rows) (t .unbalanced) (getD (t .sizes) 0 0) key p
       ≡ length (valueAt (taken (layout .new) (groupsIn t) (selectionAt layout (groupsIn t) key)) p)
   counted p h =
       sym (length-atoms (t .rows) (t .constants) (t .unbalanced) (getD (t .sizes) 0 0) key p)
-      ∙ ap length (atoms-value (t .constants) holds named (table-fits t (of .within)) candidate p h)
+      ∙ ap length (atoms-value (t .constants) holds named (table-fits (of .within)) candidate p h)
 
   tooLong : Bool
   tooLong = any (t .places) (λ p. ltb 200 (lengthAt (t .rows) (t .unbalanced) (getD (t .sizes) 0 0) key p))
@@ -130,5 +122,5 @@ module _ {M : Mode} {L R : List ℕ} {t : Table} {key : ℕ} (of : TableOf M L R
   unfolding tooLong
   writes-values {out} {after} {n} e space put =
       let mine : Put out 0 (valuesOf M L R (groupsIn t) key) n after = subst (λ bytes. Put out 0 bytes n after) laid put in
-      let received = put-received (omega (arith, mine .place)) mine in
-      subst₂ (λ k l. Writes M L R (groupsIn t) key out (written k) l) (sym (received .0)) (sym (received .1)) (fits (counted-long (sym e)))
+      subst₂ (λ k l. Writes M L R (groupsIn t) key out (written k) l) (let size : length (valuesOf M L R (groupsIn t) key) ≡ n = omega (arith, mine .place) in size)
+      (sym (put-received mine space)) (fits (counted-long (sym e)))

@@ -8,22 +8,13 @@ use Rattle.ac.specs.Lists.{receives}
 use Rattle.ac.specs.Pair.{Mode}
 use Rattle.ac.specs.Rows.{Groups}
 use Rattle.ac.specs.Keys.{layout, keys}
-use Rattle.numbers.specs.Numbers.{numberOf}
-use Rattle.numbers.specs.First.{First, NoneOf}
-use Rattle.numbers.specs.declared.Refusal.{Refusal}
+use Rattle.numbers.specs.First.{NoneOf}
 use Rattle.sides.specs.Limits.{limits}
 use Rattle.sides.specs.Given.{PairGiven}
 use Rattle.table.specs.Table.{TableOf, groupsIn}
 use Rattle.table.specs.declared.Table.{Table}
-use Rattle.values.specs.Given.{ListGiven, LongValue}
+use Rattle.values.specs.Given.{LongValue}
 use Rattle.values.specs.Values.{ValuesOutcome, refused, written, valuesOf, ValuesPromise}
-use Rattle.values.specs.declared.Settled.{Settled}
-use Rattle.values.specs.declared.Settled.the-variants.{Listed, Refused}
-
--- 13 or 14, or that the key is on the list
-pub data SettledOf (listed : List ℕ) (key : ℕ) : Settled → Type 0 where
-  to-refuse : {why : Refusal} → First (ListGiven listed key) (13 ∷ 14 ∷ []) (numberOf why) → SettledOf listed key (Refused why)
-  to-answer : List·Memᴰ key listed → SettledOf listed key Listed
 
 -- Of a listed key: 17 where a value would be too long, else the values are written and their length is told.
 pub data Writes (M : Mode) (L R : List ℕ) (G : Groups) (key : ℕ) (out : List ℕ) : ValuesOutcome → List ℕ → Type 0 where

@@ -1,7 +1,7 @@
 // The question Values on a solved pair (document 01, "The questions"): the values that a key gives the variables.
 ghost use Prim.Native.Nat.{_+_, _≤_, _<_};
 ghost use mathlib.Core.Path.{_≡_};
-ghost use mathlib.Core.List.{_∷_, _++_};
+ghost use mathlib.Core.List.{_∷_};
 ghost use lib.ListN.{length};
 ghost use lib.Dec.{ltb};
 ghost use mathlib.Core.Bool.{false};
@@ -9,14 +9,13 @@ ghost use Rattle.ac.specs.Values.{laidOut};
 ghost use Rattle.buffer.specs.Put.{Put};
 ghost use Rattle.keys.specs.Reach.{any};
 ghost use Rattle.values.specs.Runs.{runs, total, constantTimes, balancedTimes, constantAt, newAt, atomsAt, lengthAt, bindingsBelow};
-ghost use Rattle.keys.specs.List.{OfItsList};
 ghost use Rattle.table.specs.Table.{Within};
 ghost use Rattle.values.specs.Values.{told};
-ghost use Rattle.values.specs.Steps.{SettledOf, WrittenOf, PromiseOfTable};
+ghost use Rattle.values.specs.Steps.{WrittenOf, PromiseOfTable};
 use buffer::put_repeated;
-use keys::Next;
+use keys::Found;
+use keys::find_key;
 use keys::index_at;
-use keys::least_listed;
 use keys::takes;
 use numbers::Refusal;
 use table::GROUP;
@@ -35,12 +34,6 @@ pub const ROOM: usize = 1212;
 // The length written, or why there is nothing.
 pub enum ValuesAnswer {
     Values { length: usize },
-    Refused(Refusal),
-}
-
-// Whether the key is on the list, or why not.
-pub enum Settled {
-    Listed,
     Refused(Refusal),
 }
 
@@ -251,26 +244,6 @@ pub fn put_bindings(
     next
 }
 
-// The key is listed if the least listed key from it on is itself; else 13 if nothing is listed, and 14 if something else is.
-fn settle(table: Table, key: u32) -> Settled
-    requires { ⌜ Within table ⌝ }
-    ensures { λ r. ⌜ OfItsList table (λ listed. SettledOf listed key r) ⌝ }
-{
-    let first = least_listed(table, 0);
-    let Next::Key(_) = first else {
-        return Settled::Refused(Refusal::NoUnifier);
-    };
-    let least = least_listed(table, key as u64);
-    let Next::Key(found) = least else {
-        return Settled::Refused(Refusal::NotListed);
-    };
-    if found == key {
-        Settled::Listed
-    } else {
-        Settled::Refused(Refusal::NotListed)
-    }
-}
-
 // The values of a key on the list, unless one would be too long.
 pub fn write(table: Table, key: u32, out: &mut [u8]) -> ValuesAnswer
     requires { ⌜ Within table ⌝ }
@@ -305,9 +278,9 @@ pub fn values_of(table: Table, key: u32, out: &mut [u8]) -> ValuesAnswer
     if out.len() < ROOM {
         return ValuesAnswer::Refused(Refusal::ShortBuffer);
     }
-    let settled = settle(table, key);
-    match settled {
-        Settled::Refused(refusal) => ValuesAnswer::Refused(refusal),
-        Settled::Listed => write(table, key, out),
+    let found = find_key(table, key);
+    match found {
+        Found::Refused(refusal) => ValuesAnswer::Refused(refusal),
+        Found::Listed => write(table, key, out),
     }
 }

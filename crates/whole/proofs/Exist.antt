@@ -3,7 +3,7 @@ use Prim.Native.Nat.{ℕ, suc, _≤_}
 use native.Mathlib.Omega.{arith}
 use mathlib.Core.Path.{_≡_, refl, subst}
 use mathlib.Core.Bool.{Bool, false}
-use mathlib.Core.List.{List, [], _∷_, List·Memᴰ, List·Memᴰ·head, List·Memᴰ·tail, List·Memᴰ·not-nil}
+use mathlib.Core.List.{List, [], _∷_, List·Memᴰ, List·Memᴰ·head, List·Memᴰ·tail}
 use borrow.Author.Tests.{le-ltb}
 use lib.ListN.{length, replicate, length-replicate, take}
 use Rattle.ac.specs.Pair.{Mode}
@@ -11,15 +11,15 @@ use Rattle.ac.specs.Rows.{Groups, GroupsOf}
 use Rattle.ac.specs.Keys.{layout, keys, Begin, start}
 use Rattle.ac.specs.Pages.{together}
 use Rattle.ac.proofs.Groups.{groups-exist}
-use Rattle.numbers.specs.First.{NoneOf, end, also}
+use Rattle.numbers.specs.First.{NoneOf}
+use Rattle.numbers.proofs.Carried.{none-of}
+use Rattle.keys.proofs.Given.{start-not-after, list-gives-none}
 use Rattle.sides.specs.Limits.{limits}
 use Rattle.sides.specs.Given.{PairGiven}
-use Rattle.solver.specs.Given.{ListGiven, none-admissible, not-listed, last-listed}
 use Rattle.solver.specs.Page.{page, PagePromise, is-page}
 use Rattle.solver.specs.Existence.{SomeUnifies}
 use Rattle.solver.specs.Pages.{PagesAsked, no-more as no-more-pages}
 use Rattle.solver.proofs.Given.{none-of-list}
-use Rattle.solver.proofs.Beginning.{start-not-after}
 use Rattle.solver.proofs.Limits.{within-limits}
 use Rattle.solver.proofs.Existence.{unifier-listed}
 use Rattle.solver.proofs.Pages.{pages-hold-the-list}
@@ -27,12 +27,6 @@ use Rattle.values.specs.Values.{is-written}
 use Rattle.values.proofs.Given.{none-at-all}
 use Rattle.whole.specs.Whole.{ValuesAsked, no-more, one-more}
 use Rattle.whole.proofs.Short.{not-long}
-
--- of a list with a member nothing is given at the start
-start-given : {listed : List ℕ} {key n : ℕ} → List·Memᴰ key listed → ListGiven listed start n → ⊥
-start-given {key = key} m (none-admissible empty) = List·Memᴰ·not-nil (subst (List·Memᴰ key) empty m)
-start-given m (not-listed same h) = start-not-after same
-start-given m (last-listed same m′ h) = start-not-after same
 
 -- a buffer of n places
 abbrev room : ℕ → List ℕ
@@ -53,7 +47,7 @@ module _ {M : Mode} {L R : List ℕ} (none : NoneOf (PairGiven limits M L R) (7 
   all-keys : {key : ℕ} → List·Memᴰ key (keys M layout L R G) → (pages : List (List ℕ)) × PagesAsked M L R start pages
   all-keys m =
       let wanted = suc (length (keys M layout L R G)) in
-      let nothing = also (start-given m) (also (start-given m) (also (start-given m) end)) in (
+      let nothing = none-of (λ n. list-gives-none (λ k same. absurd (start-not-after same)) m) (13 ∷ 14 ∷ 15 ∷ []) in (
         _,
         last-page {wanted = wanted} {out = room wanted} (le-ltb wanted (length (keys M layout L R G)) (omega arith))
             (is-page (none-of-list (room-enough wanted) of none nothing) of),

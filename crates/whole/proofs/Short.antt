@@ -1,15 +1,18 @@
--- No value of a pair within the limits has more than 160 atoms: an entry of a row is at most 8, and at most 4 + 16 rows are taken.
+-- The values of a pair within the limits. None has more than 160 atoms: an entry of a row is at most 8, and at most 4 + 16 rows
+-- are taken. Their atoms are unbalanced constants and n0 to n15.
 use Prim.Native.Nat.{ℕ, zero, suc, _+_, _*_, _≤_}
 use native.Mathlib.Omega.{arith}
 use mathlib.Core.Path.{_≡_, refl}
+use mathlib.Core.Logic.{_⊎_, inl, inr, ⊎-elim}
 use mathlib.Core.Bool.{Bool, true, false}
 use mathlib.Core.List.{List, [], _∷_, _++_, map, List·Memᴰ, List·Memᴰ·head, List·Memᴰ·tail}
 use lib.ListN.{length, getD, length-append, length-replicate}
-use Rattle.ac.specs.Pair.{Mode, count, variables}
+use Rattle.ac.specs.Pair.{Mode, count, variables, unbalanced}
 use Rattle.ac.specs.Rows.{Group, Groups, GroupsOf}
 use Rattle.ac.specs.Equation.{balancedEquation, equationOf}
 use Rattle.ac.specs.Selection.{Selection, SelectionOf, Within, none, index, Taken, takenRows, takenBalanced, valueAt, placeOf, value}
 use Rattle.ac.specs.Keys.{layout, keys}
+use Rattle.ac.proofs.Atoms.{value-atoms}
 use Rattle.ac.proofs.Bound.{huet-bound}
 use Rattle.ac.proofs.Bridge.{balanced-row-is-minimal, row-of-constant-is-minimal}
 use Rattle.ac.proofs.Keys.{candidate-selection}
@@ -75,7 +78,8 @@ module _ {M : Mode} {L R : List ℕ} (none : NoneOf (PairGiven limits M L R) (7 
       let within = within-the-limits (none-front (7 ∷ 8 ∷ 9 ∷ 10 ∷ 11 ∷ []) (12 ∷ []) none) in
       omega (arith, within .near-left x, within .near-right x)
 
-  value-short : {s : Selection} → SelectionOf G s → (x : ℕ) → length (value M (layout .new) L R G s x) ≤ 160
+  -- No value has more than 160 atoms.
+  pub value-short : {s : Selection} → SelectionOf G s → (x : ℕ) → length (value M (layout .new) L R G s x) ≤ 160
   value-short {s} selection x =
       let i = placeOf x (variables M L R) in
       let fits = within-limits none .groups-fit G of in
@@ -93,3 +97,11 @@ module _ {M : Mode} {L R : List ℕ} (none : NoneOf (PairGiven limits M L R) (7 
   not-long m long =
       let fits = within-limits none .groups-fit G of in
       omega (arith, long .long, value-short (candidate-selection fits (listed-candidates fits M L R .0 m .0)) (long .variable))
+
+  -- In answers 192 to 207 are new variables n0 to n15; the other atoms of a value are unbalanced constants.
+  pub answer-atoms : {s : Selection} → SelectionOf G s → (x : ℕ) {a : ℕ} → List·Memᴰ a (value M (layout .new) L R G s x)
+      → List·Memᴰ a (unbalanced M L R) ⊎ ((192 ≤ a) × (a ≤ 207))
+  answer-atoms selection x m =
+      let few = within-limits none .groups-fit G of .few-balanced in
+      ⊎-elim inl (λ fresh. inr (omega (arith, fresh), omega (arith, fresh, few)))
+      (value-atoms M (layout .new) L R of selection x m)

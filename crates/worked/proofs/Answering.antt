@@ -3,7 +3,7 @@ use Prim.Native.Nat.{ℕ, _≤_}
 use native.Mathlib.Omega.{arith}
 use mathlib.Core.Path.{_≡_, refl, sym, ap, subst, subst₂, _∙_}
 use mathlib.Core.Bool.{false}
-use mathlib.Core.List.{List, [], _∷_, map, List·Memᴰ, List·Memᴰ·head, List·Memᴰ·tail, List·Memᴰ·not-nil, nil≢cons}
+use mathlib.Core.List.{List, [], _∷_, map, List·Memᴰ, List·Memᴰ·head, List·Memᴰ·tail}
 use borrow.Author.Tests.{le-ltb}
 use lib.Dec.{ltb}
 use lib.Seq.{take-all}
@@ -18,40 +18,25 @@ use Rattle.ac.proofs.Order.{filter-member}
 use Rattle.ac.proofs.Members.{members-map}
 use Rattle.ac.proofs.Listed.{selections-are}
 use Rattle.ac.proofs.Keys.{taken-apart}
-use Rattle.ac.proofs.Pages.{remaining-members}
-use Rattle.numbers.specs.First.{NoneOf, here, end, also}
+use Rattle.numbers.specs.First.{NoneOf, here}
+use Rattle.numbers.proofs.Carried.{none-of}
 use Rattle.sides.specs.Limits.{limits}
 use Rattle.sides.specs.Given.{PairGiven}
 use Rattle.solve.specs.Given.{RowsGiven, of-the-sides, short-buffer, rowsNumbers}
 use Rattle.solve.specs.Rows.{sizesOf, allRows, is-answered}
 use Rattle.solve.proofs.Determined.{rows-determined}
-use Rattle.solver.specs.Given.{ListGiven, none-admissible, not-listed, last-listed}
+use Rattle.keys.specs.Given.{none-admissible}
+use Rattle.keys.proofs.Given.{start-not-after, list-gives-none}
 use Rattle.solver.specs.Page.{page, PagePromise, is-refused, is-page}
 use Rattle.solver.proofs.Given.{first-of-list, none-of-list}
 use Rattle.solver.proofs.Determined.{page-determined}
 use Rattle.solver.proofs.Limits.{within-limits}
-use Rattle.solver.proofs.Beginning.{start-not-after}
 use Rattle.values.specs.Values.{is-written, valuesOf}
 use Rattle.values.proofs.Given.{none-at-all}
 use Rattle.values.proofs.Determined.{values-determined}
 use Rattle.whole.proofs.Short.{not-long}
 use Rattle.worked.specs.Questions.{pageQuestion}
 use Rattle.worked.specs.Answers.{Answers, RowsGives, PageGives, ValuesGives, ValuesGiveInTurn, none, next}
-
--- where no number at all is given, none of a list is
-none-of : {Given : ℕ → Type 0} → ((n : ℕ) → Given n → ⊥) → (ns : List ℕ) → NoneOf Given ns
-none-of never [] = end
-none-of never (n ∷ ns) = also (never n) (none-of never ns)
-
--- a list gives no number where the key after which a page begins, if any, is on it and another remains
-module _ {listed : List ℕ} {begin : Begin} {key : ℕ} {others : List ℕ} (some : remaining begin listed ≡ key ∷ others)
-    (on-list : (k : ℕ) → begin ≡ after k → List·Memᴰ k listed) where
-  list-gives-none : {n : ℕ} → ListGiven listed begin n → ⊥
-  list-gives-none (none-admissible empty) =
-      List·Memᴰ·not-nil
-      (subst (List·Memᴰ key) empty (remaining-members begin (subst (List·Memᴰ key) (sym some) (List·Memᴰ·head refl)) .0))
-  list-gives-none (not-listed {key = k} same unlisted) = unlisted (on-list k same)
-  list-gives-none (last-listed {key = k} same m nothing) = nil≢cons (sym nothing ∙ subst (λ b. remaining b listed ≡ key ∷ others) same some)
 
 module _ {L R : List ℕ} {G : Groups}
     (groups : GroupsOf unifying L R G) (never : (n : ℕ) → PairGiven limits unifying L R n → ⊥) where
@@ -84,7 +69,7 @@ module _ {L R : List ℕ} {G : Groups}
       met : PagePromise unifying L R begin 0 out (page (length (key ∷ others)) false) (receives out (key ∷ others))
       met =
           subst₂ (λ ks more. PagePromise unifying L R begin 0 out (page (length ks) more) (receives out ks)) whole no-more
-          (is-page (none-of-list enough groups nothing (none-of (λ n. list-gives-none e on-list) (13 ∷ 14 ∷ 15 ∷ []))) groups)
+          (is-page (none-of-list enough groups nothing (none-of (λ n. list-gives-none on-list (subst (List·Memᴰ key) (sym e) (List·Memᴰ·head refl))) (13 ∷ 14 ∷ 15 ∷ []))) groups)
 
   -- a list of at most 200 keys is one page; an empty one is 13
   pub page-of-list : (ks : List ℕ) → keys unifying layout L R G ≡ ks → length ks ≤ 200 → PageGives L R ks

@@ -19,7 +19,7 @@ use Rattle.ac.proofs.Groups.{groups-exist, groups-unique}
 use Rattle.ac.proofs.Tests.{both, every-member}
 use Rattle.sides.specs.Limits.{limits}
 use Rattle.sides.specs.Given.{Side, left, right, WrongLength, ManyRows, balanced, of-a-constant, PairGiven, side-length, no-atom, many-variables, far-net-count, many-constants, many-rows}
-use Rattle.sides.proofs.Lowest.{natAbs-difference}
+use Rattle.sides.proofs.NetCounts.{natAbs-difference}
 
 -- all of some tests pass
 abbrev pub all : List Bool → Bool

@@ -1,9 +1,9 @@
 -- `block_runs::run` is safe: every part lies within its whole. Assumes nothing.
 use mathlib.Core.Path.{sym}
 use native.Mathlib.Omega.{arith}
-use borrow.Author.Needs.{needs}
 use lib.ListN.{length-take, replicate}
 use lib.Seq.{length-front}
+use borrow.Author.Needs.{needs}
 use Rattle.block_runs.proofs.run.Statement.{statement}
 use Rattle.block_runs.proofs.run.Tie as tie
 
@@ -16,41 +16,35 @@ shared-slice-read-two-bytes-2 c = search needs
 two-bytes-requires : tie.Need-two-bytes-requires
 two-bytes-requires c κs = search needs
 
+cast-number : tie.Need-cast-number
+cast-number c = search needs
+
+shared-slice-read-two-bytes-3 : tie.Need-shared-slice-read-two-bytes-3
+shared-slice-read-two-bytes-3 c = search needs
+
+shared-slice-read-two-bytes-4 : tie.Need-shared-slice-read-two-bytes-4
+shared-slice-read-two-bytes-4 c = search needs
+
+two-bytes-requires-2 : tie.Need-two-bytes-requires-2
+two-bytes-requires-2 c κs = search needs
+
+least-requires : tie.Need-least-requires
+least-requires c κs = search needs
+
+add-block-end : tie.Need-add-block-end
+add-block-end c = search needs
+
 shared-slice-read-wide : tie.Need-shared-slice-read-wide
 shared-slice-read-wide c = search needs
 
 wide-requires : tie.Need-wide-requires
 wide-requires c κs = search needs
 
-mul-lesser : tie.Need-mul-lesser
-mul-lesser c = search needs
-
 shared-slice-read-wide-2 : tie.Need-shared-slice-read-wide-2
 shared-slice-read-wide-2 c = search needs
 
 wide-requires-2 : tie.Need-wide-requires-2
 wide-requires-2 c κs = search needs
-
-add-lesser : tie.Need-add-lesser
-add-lesser c = search needs
-
-lesser-requires : tie.Need-lesser-requires
-lesser-requires c κs = search needs
-
-add-block-end : tie.Need-add-block-end
-add-block-end c = search needs
-
-shared-slice-read-wide-3 : tie.Need-shared-slice-read-wide-3
-shared-slice-read-wide-3 c = search needs
-
-wide-requires-3 : tie.Need-wide-requires-3
-wide-requires-3 c κs = search needs
-
-shared-slice-read-wide-4 : tie.Need-shared-slice-read-wide-4
-shared-slice-read-wide-4 c = search needs
-
-wide-requires-4 : tie.Need-wide-requires-4
-wide-requires-4 c κs = search needs
 
 sub-read : tie.Need-sub-read
 sub-read c = search needs
@@ -85,21 +79,21 @@ slice-aggregate-put-2 c = simp length-take (omega arith)
 put-requires : tie.Need-put-requires
 put-requires c κs = search needs
 
-slice-aggregate-tell : tie.Need-slice-aggregate-tell
-slice-aggregate-tell c =
-    let at-read = c .before .before .before .before .before .before .before in
-    sym (length-front (replicate 256 200) (at-read .read .last .1 .1 .0) (at-read .before .before .before .before .before .before .wide3 .result) (at-read .read .kept .1 .1 .0))
+slice-aggregate-put-answer : tie.Need-slice-aggregate-put-answer
+slice-aggregate-put-answer c = search needs
 
-slice-aggregate-tell-2 : tie.Need-slice-aggregate-tell-2
-slice-aggregate-tell-2 c =
+slice-aggregate-put-answer-2 : tie.Need-slice-aggregate-put-answer-2
+slice-aggregate-put-answer-2 c =
     let at-read = c .before .before .before .before .before .before .before .before in
-    sym (length-front (replicate 256 200) (at-read .read .last .1 .1 .1 .0) (at-read .before .before .before .before .wide4 .result) (at-read .read .kept .1 .1 .1 .0))
+    sym (length-front (replicate 256 200) (at-read .read .last .1 .1 .0) (at-read .before .before .before .before .before .before .wide .result) (at-read .read .kept .1 .1 .0))
 
-slice-aggregate-tell-3 : tie.Need-slice-aggregate-tell-3
-slice-aggregate-tell-3 c = search needs
+slice-aggregate-put-answer-3 : tie.Need-slice-aggregate-put-answer-3
+slice-aggregate-put-answer-3 c =
+    let at-read = c .before .before .before .before .before .before .before .before .before in
+    sym (length-front (replicate 256 200) (at-read .read .last .1 .1 .1 .0) (at-read .before .before .before .before .wide2 .result) (at-read .read .kept .1 .1 .1 .0))
 
-tell-requires : tie.Need-tell-requires
-tell-requires c κs = search needs
+put-answer-requires : tie.Need-put-answer-requires
+put-answer-requires c κs = search needs
 
 array-share-prefix-line : tie.Need-array-share-prefix-line
 array-share-prefix-line c = search needs
@@ -120,18 +114,16 @@ run-spec =
     shared-slice-read-two-bytes
     shared-slice-read-two-bytes-2
     two-bytes-requires
+    cast-number
+    shared-slice-read-two-bytes-3
+    shared-slice-read-two-bytes-4
+    two-bytes-requires-2
+    least-requires
+    add-block-end
     shared-slice-read-wide
     wide-requires
-    mul-lesser
     shared-slice-read-wide-2
     wide-requires-2
-    add-lesser
-    lesser-requires
-    add-block-end
-    shared-slice-read-wide-3
-    wide-requires-3
-    shared-slice-read-wide-4
-    wide-requires-4
     sub-read
     part-read-start
     part-read-end
@@ -143,10 +135,10 @@ run-spec =
     slice-aggregate-put
     slice-aggregate-put-2
     put-requires
-    slice-aggregate-tell
-    slice-aggregate-tell-2
-    slice-aggregate-tell-3
-    tell-requires
+    slice-aggregate-put-answer
+    slice-aggregate-put-answer-2
+    slice-aggregate-put-answer-3
+    put-answer-requires
     array-share-prefix-line
     slice-aggregate-write-all
     write-all-requires

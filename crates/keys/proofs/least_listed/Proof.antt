@@ -1,12 +1,13 @@
 -- `keys::least_listed` meets its contract. The invariant: no listed key stands from `from` to before the number that the walk has come to.
--- The measure is what is left of the keys. That there is room for 4 constants is what an array of 4 tells of its length.
+-- The measure is what is left of the keys.
 use Prim.Native.Nat.{_-_, _^_}
 use native.Mathlib.Omega.{arith}
 use native.Mathlib.Nat.{le-refl}
-use mathlib.Core.Path.{sym, _∙_}
+use mathlib.Core.Path.{refl, sym, subst}
 use borrow.Author.Needs.{needs}
-use lib.ListN.{length-map}
-use Rattle.keys.proofs.Walk.{Walked, passed-none, step-between, step-weighed, step-found, step-end}
+use lib.Bits.{and-mask, mask-lt}
+use Rattle.keys.proofs.Candidates.{below-block-end}
+use Rattle.keys.proofs.Walk.{Walked, passed-none, step-between, step-over, step-found, step-end}
 use Rattle.keys.proofs.least_listed.Statement.{statement}
 use Rattle.keys.proofs.least_listed.Tie as tie
 
@@ -20,12 +21,7 @@ element-copy-out-balanced : tie.Need-element-copy-out-balanced Inv-loop μ-loop
 element-copy-out-balanced c = search needs
 
 loop-holds : tie.Need-loop-holds Inv-loop μ-loop
-loop-holds c =
-    record {
-      room = sym (length-map (c .before .args .t1 .constants) (λ v. v)) ∙ c .before .good .0 .1 .1 .1 .1 .0 .1 .0 .1;
-      above = le-refl _;
-      passed = passed-none _ _;
-    }
+loop-holds c = record { above = le-refl _; passed = passed-none _ _ }
 
 cast-key : tie.Need-cast-key Inv-loop μ-loop
 cast-key c = omega arith
@@ -57,32 +53,48 @@ loop-again c =
 enum-told : tie.Need-enum-told Inv-loop μ-loop
 enum-told c = search needs
 
-weigh-requires : tie.Need-weigh-requires Inv-loop μ-loop
-weigh-requires c κs =
+cast-least-of-tuple : tie.Need-cast-least-of-tuple Inv-loop μ-loop
+cast-least-of-tuple c = search needs
+
+shr-least-of-tuple : tie.Need-shr-least-of-tuple Inv-loop μ-loop
+shr-least-of-tuple c = search needs
+
+least-of-tuple-requires : tie.Need-least-of-tuple-requires Inv-loop μ-loop
+least-of-tuple-requires c κs =
     let fit = c .before .before .before .before .before .before .before .before .before .before .pre in
-    (fit .places-fit, fit .constants-fit, fit .sizes-fit 0)
+    let turn = c .before .before .before .before .before .before .before in
+    ((fit .places-fit, fit .constants-fit, fit .sizes-fit 0), (omega (arith, turn .loop-test .taken), mask-lt (turn .before .loop .at) 16))
+
+enum-known-least : tie.Need-enum-known-least Inv-loop μ-loop
+enum-known-least c = search needs
 
 returns : tie.Need-returns Inv-loop μ-loop
 returns c =
-    let candidate = c .before .before .before .before in
+    let candidate = c .before .before .before .before .before .before in
     let stood = candidate .before .before in
     let turn = stood .before .before .before in
-    step-found (turn .before .before .before .pre) (turn .before .loop .inv) (stood .stands .ensures) (candidate .enum-told .given .1) (c .before .weigh .ensures)
-    (c .if1 .taken)
+    step-found (turn .before .before .before .pre) (turn .before .loop .inv) (stood .stands .ensures) (candidate .enum-told .given .1) refl
+    (and-mask (turn .before .loop .at) 16) (c .before .before .before .least-of-tuple .ensures) (c .before .least .given .1)
 
-add-at : tie.Need-add-at Inv-loop μ-loop
-add-at c = omega arith
+enum-told-2 : tie.Need-enum-told-2 Inv-loop μ-loop
+enum-told-2 c = search needs
+
+block-end-requires : tie.Need-block-end-requires Inv-loop μ-loop
+block-end-requires c κs = omega arith
 
 loop-less-2 : tie.Need-loop-less-2 Inv-loop μ-loop
-loop-less-2 c = omega arith
+loop-less-2 c =
+    let turn = c .before .before .before .before .before .before .before .before .before .before .before in
+    omega (arith, c .block-end .ensures, below-block-end (turn .before .loop .at) 16, turn .loop-test .taken)
 
 loop-again-2 : tie.Need-loop-again-2 Inv-loop μ-loop
 loop-again-2 c =
-    let candidate = c .before .before .before .before in
+    let candidate = c .before .before .before .before .before .before in
     let stood = candidate .before .before in
     let turn = stood .before .before .before in
-    step-weighed (turn .before .before .before .pre) (turn .before .loop .inv) (stood .stands .ensures) (candidate .enum-told .given .1) (c .before .weigh .ensures)
-    (c .if1 .left)
+    subst (Walked _ _) (sym (c .block-end .ensures))
+    (step-over (turn .before .before .before .pre) (turn .before .loop .inv) (stood .stands .ensures) (candidate .enum-told .given .1) refl
+    (and-mask (turn .before .loop .at) 16) (c .before .before .before .least-of-tuple .ensures) (c .before .enum-told2 .given .1))
 
 returns-2 : tie.Need-returns-2 Inv-loop μ-loop
 returns-2 c = step-end (c .before .loop .inv) (c .loop-test .left)
@@ -101,9 +113,13 @@ least-listed-spec =
     loop-less
     loop-again
     enum-told
-    weigh-requires
+    cast-least-of-tuple
+    shr-least-of-tuple
+    least-of-tuple-requires
+    enum-known-least
     returns
-    add-at
+    enum-told-2
+    block-end-requires
     loop-less-2
     loop-again-2
     returns-2)

@@ -7,7 +7,7 @@ use Rattle.ac.specs.Pair.{unifying}
 use Rattle.numbers.specs.First.{here, later}
 use Rattle.sides.specs.Limits.{limits}
 use Rattle.sides.specs.Given.{PairGiven, side-length, no-atom, left, right}
-use Rattle.sides.specs.Counting.{Tells}
+use Rattle.sides.specs.Tells.{Tells}
 use Rattle.sides.proofs.Parting.{parted-refused, parted-later, tells-7, tells-8}
 use Rattle.sides.proofs.take_apart.Statement.{statement}
 use Rattle.sides.proofs.take_apart.Tie as tie

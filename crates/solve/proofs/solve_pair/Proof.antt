@@ -1,41 +1,34 @@
 -- `solve::solve_pair` meets its contract: number 12, or the table with all groups. Assumes nothing.
 use mathlib.Core.Path.{refl}
+use borrow.Author.Needs.{needs}
 use borrow.Author.Tests.{not-true, not-false}
 use Rattle.numbers.specs.First.{here, also, end}
 use Rattle.solve.proofs.Counting.{twelve-not-given}
 use Rattle.solve.proofs.Accepting.{table-of}
-use Rattle.solve.proofs.Solving.{getD-zeros, solved-refused, solved-accepted}
-use borrow.Author.Needs.{needs}
+use Rattle.solve.proofs.Solving.{solved-refused, solved-accepted}
 use Rattle.solve.proofs.solve_pair.Statement.{statement}
 use Rattle.solve.proofs.solve_pair.Tie as tie
 
-slice-aggregate-find-groups : tie.Need-slice-aggregate-find-groups
-slice-aggregate-find-groups c = search needs
-
-slice-aggregate-find-groups-2 : tie.Need-slice-aggregate-find-groups-2
-slice-aggregate-find-groups-2 c = search needs
-
 find-groups-requires : tie.Need-find-groups-requires
-find-groups-requires c κs = (c .before .before .pre, refl, refl, getD-zeros 5)
+find-groups-requires c κs = search needs
 
 refused-requires : tie.Need-refused-requires
 refused-requires c κs = search needs
 
 returns : tie.Need-returns
-returns c = λ M L R of. solved-refused (c .refused .ensures) (here (c .before .before .before .before .find-groups .ensures M L R of .if-false (not-true _ (c .before .if1 .taken))))
+returns c M L R of =
+    let found = c .before .before .before .find-groups .ensures M L R of in
+    solved-refused (c .refused .ensures) (here (found .if-false (not-true _ (c .before .if1 .taken))))
+
+first-four-requires : tie.Need-first-four-requires
+first-four-requires c κs = search needs
 
 returns-2 : tie.Need-returns-2
-returns-2 c = λ M L R of.
-    let table = table-of of (c .before .before .before .before .before .before .before .before .before .before .pre) (c .before .before .before .before .before .before .before .find-groups .ensures M L R of .if-true (not-false _ (c .before .before .before .before .if1 .left))) in
+returns-2 c M L R of =
+    let made = c .before .before .before .before .before .before .before in
+    let found = made .before .before .find-groups .ensures M L R of .if-true (not-false _ (made .if1 .left)) in
+    let table = table-of of (made .before .before .before .pre) (c .before .before .first-four .ensures) found in
     solved-accepted refl (also (twelve-not-given (table .within) (table .the-groups)) end) table
 
 pub solve-pair-spec : {M : Type 1} → statement M
-solve-pair-spec =
-    tie.close
-    (tie.spec
-    slice-aggregate-find-groups
-    slice-aggregate-find-groups-2
-    find-groups-requires
-    refused-requires
-    returns
-    returns-2)
+solve-pair-spec = tie.close (tie.spec find-groups-requires refused-requires returns first-four-requires returns-2)

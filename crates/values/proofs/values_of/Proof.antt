@@ -8,11 +8,11 @@ use Rattle.values.proofs.values_of.Tie as tie
 returns : tie.Need-returns
 returns c = λ M L R full of none. promise-short (c .if1 .taken)
 
-settle-requires : tie.Need-settle-requires
-settle-requires c κs = search needs
+find-key-requires : tie.Need-find-key-requires
+find-key-requires c κs = search needs
 
-enum-known-settled : tie.Need-enum-known-settled
-enum-known-settled c = search needs
+enum-known-found : tie.Need-enum-known-found
+enum-known-found c = search needs
 
 enum-told : tie.Need-enum-told
 enum-told c = search needs
@@ -21,22 +21,22 @@ write-requires : tie.Need-write-requires
 write-requires c κs = search needs
 
 returns-2 : tie.Need-returns-2
-returns-2 c = λ M L R full of none. promise-refused of none (omega arith) (c .before .before .before .settle .ensures M L R full of) (c .before .settled .given .1)
+returns-2 c = λ M L R full of none. promise-refused of none (omega arith) (c .before .before .before .find-key .ensures M L R full of) (c .before .found .given .1)
 
 same-length : tie.Need-same-length
 same-length c = search needs
 
 returns-3 : tie.Need-returns-3
 returns-3 c = λ M L R full of none.
-    promise-written of none (omega arith) (c .before .before .before .before .before .before .settle .ensures M L R full of) (c .before .before .before .before .enum-told .given .1) (c .before .before .write .ensures M L R full of)
+    promise-written of none (omega arith) (c .before .before .before .before .before .before .find-key .ensures M L R full of) (c .before .before .before .before .enum-told .given .1) (c .before .before .write .ensures M L R full of)
 
 pub values-of-spec : {M : Type 1} → statement M
 values-of-spec =
     tie.close
     (tie.spec
     returns
-    settle-requires
-    enum-known-settled
+    find-key-requires
+    enum-known-found
     enum-told
     write-requires
     returns-2

@@ -1,7 +1,6 @@
 -- `values::write` meets its contract: what is counted and put of the table's rows are the values of the listed key. Assumes nothing.
 use native.Mathlib.Omega.{arith}
 use mathlib.Core.Path.{sym, _∙_}
-use lib.ListN.{length-map}
 use Rattle.buffer.proofs.Puts.{put-length}
 use Rattle.values.proofs.Writing.{writes-long, writes-values}
 use borrow.Author.Needs.{needs}
@@ -16,7 +15,7 @@ too-long-requires c κs = let fit = c .before .before .before .before .pre .0 in
 
 returns : tie.Need-returns
 returns c = λ M L R full of listed.
-    writes-long of (sym (length-map (c .before .before .before .before .before .before .args .t1 .constants) (λ v. v)) ∙ c .before .before .before .before .before .before .good .0 .1 .1 .1 .1 .0 .1 .0 .1) listed (sym (c .if1 .taken) ∙ c .before .too-long .ensures)
+    writes-long of listed (sym (c .if1 .taken) ∙ c .before .too-long .ensures)
 
 put-bindings-requires : tie.Need-put-bindings-requires
 put-bindings-requires c κs =
@@ -29,7 +28,7 @@ same-length c = put-length (c .before .before .put-bindings .ensures .0)
 returns-2 : tie.Need-returns-2
 returns-2 c = λ M L R full of listed.
     let put = c .before .before .put-bindings .ensures .0 in
-    writes-values of (sym (length-map (c .before .before .before .before .before .before .before .before .before .before .before .before .before .before .before .args .t1 .constants) (λ v. v)) ∙ c .before .before .before .before .before .before .before .before .before .before .before .before .before .before .before .good .0 .1 .1 .1 .1 .0 .1 .0 .1) listed
+    writes-values of listed
     (sym (c .before .before .before .before .before .before .before .before .before .if1 .left) ∙ c .before .before .before .before .before .before .before .before .before .before .too-long .ensures) (omega (arith, c .before .before .put-bindings .ensures .1)) put
 
 pub write-spec : {M : Type 1} → statement M

@@ -1,0 +1,27 @@
+-- "A block of zeros fails it" (document 01, "A library block").
+use Prim.Native.Nat.{ℕ, _≤_}
+use native.Mathlib.Omega.{arith}
+use mathlib.Core.Path.{_≡_, refl}
+use mathlib.Core.Logic.{⊎-elim}
+use mathlib.Core.List.{List}
+use lib.ListN.{length, replicate}
+use Rattle.numbers.specs.First.{First, here, later}
+use Rattle.block.specs.Block.{check, checkOfBytes}
+use Rattle.block.specs.Table.{ReadGiven, block-length, check-differs, short-buffer, readNumbers}
+
+abbrev zeros : List ℕ
+zeros = replicate 512 0
+
+-- the check of 510 zeros is 65,535
+zeros-differ : check zeros ≡ checkOfBytes zeros → ⊥
+zeros-differ e = let z : _≡_ {A = ℕ} 0 65535 = e in omega arith
+
+-- Whatever number is expected, a block of zeros is refused with 2.
+pub zeros-fail : (number : ℕ) {left right : List ℕ} → 64 ≤ length left → 64 ≤ length right → First (ReadGiven zeros number left right) readNumbers 2
+zeros-fail number {left} {right} left-fits right-fits = later long-enough (later whole (here (check-differs zeros-differ)))
+  where
+    long-enough : ReadGiven zeros number left right 16 → ⊥
+    long-enough (short-buffer short) = ⊎-elim (λ h. omega arith) (λ h. omega arith) short
+
+    whole : ReadGiven zeros number left right 1 → ⊥
+    whole (block-length other) = other refl

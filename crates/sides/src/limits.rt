@@ -1,0 +1,62 @@
+// The limits that two sides must keep (document 01, "Numbers given in place of a result", 7 to 11), and which sides do not.
+use crate::counting::ATOMS;
+use crate::counting::Counts;
+ghost use mathlib.Core.Path.{_≡_};
+ghost use Prim.Native.Nat.{_+_, _-_};
+ghost use Rattle.sides.specs.Limits.{limits};
+ghost use Rattle.sides.specs.Given.{WrongLength, WrongByte};
+ghost use Rattle.sides.specs.Tells.{Tells, TellsFar};
+
+const LEAST_ATOMS: usize = 1;
+
+const MOST_ATOMS: usize = 64;
+
+const HIGHEST_ATOM: u8 = 127;
+
+pub const MOST_VARIABLES: usize = 6;
+
+const FARTHEST: u8 = 8;
+
+pub const MOST_CONSTANTS: usize = 4;
+
+// Whether the side has too few atoms or too many.
+pub fn wrong_length(side: &[u8]) -> bool
+    ensures { λ r. ⌜ Tells (WrongLength limits (now (side .entry))) r ⌝ }
+{
+    side.len() < LEAST_ATOMS || MOST_ATOMS < side.len()
+}
+
+// Whether the side holds a byte that is no atom.
+pub fn wrong_byte(side: &[u8]) -> bool
+    ensures { λ r. ⌜ Tells (WrongByte limits (now (side .entry))) r ⌝ }
+{
+    let mut i = 0;
+    while i < side.len() {
+        if HIGHEST_ATOM < side[i] {
+            return true;
+        }
+        i += 1;
+    }
+    false
+}
+
+// How far two counts are apart.
+fn distance(a: u8, b: u8) -> u8
+    ensures { λ r. ⌜ r ≡ (a - b) + (b - a) ⌝ }
+{
+    if a < b { b - a } else { a - b }
+}
+
+// Whether the net count of some atom is too far from 0.
+pub fn far_net_count(counts: Counts) -> bool
+    ensures { λ r. ⌜ TellsFar counts r ⌝ }
+{
+    let mut atom = 0;
+    while atom < ATOMS {
+        if FARTHEST < distance(counts.left[atom], counts.right[atom]) {
+            return true;
+        }
+        atom += 1;
+    }
+    false
+}

@@ -1,0 +1,94 @@
+-- `solve::groups::spread` meets its contract: before each turn the rows before i stand at their places. Assumes nothing.
+use Prim.Native.Nat.{ℕ, _≤_, _-_}
+use mathlib.Core.Path.{_≡_, sym, ap, subst, _∙_}
+use lib.ListN.{length}
+use Rattle.solve.proofs.Spreading.{SpreadTo, spread-none, spread-next, spread-all, row-within, row-long, row-part}
+use Prim.Native.Nat.{_≤_, _-_}
+use mathlib.Core.Path.{ap, _∙_}
+use native.Mathlib.Omega.{arith}
+use lib.ListN.{length}
+use Rattle.solve.proofs.Spreading.{SpreadTo, spread-none, spread-next, spread-all, row-within}
+use Rattle.solve.proofs.groups.spread.Statement.{statement}
+use Rattle.solve.proofs.groups.spread.Tie as tie
+
+abbrev Inv-loop : tie.InvT-loop
+Inv-loop found count places group rows₀ i₀ rows i = (i ≤ count) × SpreadTo places group found rows₀ i rows
+
+abbrev μ-loop : tie.MeasureT-loop
+μ-loop found count places group rows₀ i₀ rows i = count - i
+
+loop-holds : tie.Need-loop-holds Inv-loop μ-loop
+loop-holds c = (omega arith, spread-none (c .before .before .pre .1 .1))
+
+mul-start : tie.Need-mul-start Inv-loop μ-loop
+mul-start c = omega (arith, row-within (c .before .before .before .before .args .places) (c .before .before .before .before .args .found .now) (c .loop-test .taken) (c .before .before .before .before .pre .1 .0))
+
+add-end : tie.Need-add-end Inv-loop μ-loop
+add-end c = omega (arith, row-within (c .before .before .before .before .args .places) (c .before .before .before .before .args .found .now) (c .loop-test .taken) (c .before .before .before .before .pre .1 .0))
+
+mul-put-bytes : tie.Need-mul-put-bytes Inv-loop μ-loop
+mul-put-bytes c = omega arith
+
+mul-put-bytes-2 : tie.Need-mul-put-bytes-2 Inv-loop μ-loop
+mul-put-bytes-2 c = omega arith
+
+add-put-bytes : tie.Need-add-put-bytes Inv-loop μ-loop
+add-put-bytes c = omega arith
+
+sub-put-bytes : tie.Need-sub-put-bytes Inv-loop μ-loop
+sub-put-bytes c = omega arith
+
+part-put-bytes-start : tie.Need-part-put-bytes-start Inv-loop μ-loop
+part-put-bytes-start c = omega arith
+
+part-put-bytes-end : tie.Need-part-put-bytes-end Inv-loop μ-loop
+part-put-bytes-end c = omega (arith, row-within (c .before .before .before .before .before .args .places) (c .before .before .before .before .before .args .found .now) (c .before .loop-test .taken) (c .before .before .before .before .before .pre .1 .0))
+
+put-bytes-requires : tie.Need-put-bytes-requires Inv-loop μ-loop
+put-bytes-requires c κs = let a = c .before .before .before .before .before .before .args in
+    let test = c .before .before .loop-test .taken in
+    let room = c .before .before .before .before .before .before .pre .1 .0 in
+    omega (arith, ap length (row-part (a .places) (a .found .now) test room), row-long (a .places) (a .found .now) test room, c .before .before .before .loop .inv .1 .size)
+
+add-i : tie.Need-add-i Inv-loop μ-loop
+add-i c = omega arith
+
+loop-less : tie.Need-loop-less Inv-loop μ-loop
+loop-less c = omega arith
+
+loop-again : tie.Need-loop-again Inv-loop μ-loop
+loop-again c = let a = c .before .before .before .before .before .before .before .before .before .args in
+    let test = c .before .before .before .before .before .loop-test .taken in
+    let room = c .before .before .before .before .before .before .before .before .before .pre .1 .0 in
+    let bytes = row-part (a .places) (a .found .now) test room in
+    (omega arith, spread-next (c .before .before .before .before .before .before .before .before .before .pre .0 .0) (c .before .before .before .before .before .before .before .before .before .pre .0 .2) (omega arith) (ap length bytes ∙ row-long (a .places) (a .found .now) test room) bytes (c .before .before .before .before .before .before .loop .inv .1) (c .before .before .put-bytes .ensures))
+
+same-length : tie.Need-same-length Inv-loop μ-loop
+same-length c = c .before .loop .inv .1 .size ∙ sym (c .before .before .before .before .pre .1 .1)
+
+returns : tie.Need-returns Inv-loop μ-loop
+returns c = let a = c .before .before .before .before .args in
+    let same : c .before .loop .i ≡ a .count = omega arith in
+    spread-all (c .before .before .before .before .pre .0 .1) (subst (λ (i : ℕ). SpreadTo (a .places) (a .group) (a .found .now) (a .rows .now) i (c .before .loop .rows)) same (c .before .loop .inv .1))
+
+pub spread-spec : {M : Type 1} → statement M
+spread-spec =
+    tie.close
+    (tie.spec
+    Inv-loop
+    μ-loop
+    loop-holds
+    mul-start
+    add-end
+    mul-put-bytes
+    mul-put-bytes-2
+    add-put-bytes
+    sub-put-bytes
+    part-put-bytes-start
+    part-put-bytes-end
+    put-bytes-requires
+    add-i
+    loop-less
+    loop-again
+    same-length
+    returns)

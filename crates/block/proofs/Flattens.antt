@@ -60,7 +60,7 @@ receives-atom [] a h = absurd (let z : _<_ 0 0 = h in omega arith)
 receives-atom (b ∷ buffer) a h = refl
 
 -- what a buffer receives of a sum: the first term's atoms, then after them the second's
-pub receives-append : (buffer xs ys : List ℕ) → receives buffer (xs ++ ys) ≡ xs ++ receives (drop (length xs) buffer) ys
+receives-append : (buffer xs ys : List ℕ) → receives buffer (xs ++ ys) ≡ xs ++ receives (drop (length xs) buffer) ys
 receives-append buffer xs ys = simp (append-assoc, length-append, drop-drop)
 
 -- what `Found` tells: the term, its size, and the buffer with its atoms

@@ -1,4 +1,5 @@
--- What the functions that Read calls give.
+-- What the functions that Read calls give (document 01, "A library block"): a byte's kind, a term taken apart, the header
+-- and the filler settled.
 use Prim.Native.Nat.{ℕ, _≤_, _<_}
 use mathlib.Core.Path.{_≡_}
 use mathlib.Core.Bool.{Bool, true, false, _&&_}
@@ -51,11 +52,12 @@ pub data TakesApart (bytes buffer : List ℕ) : Side → List ℕ → Type 0 whe
 abbrev pub IsLength : ℕ → Type 0
 IsLength n = (1 ≤ n) × (n ≤ 127)
 
+-- the truth value says whether both are
 pub data TermLengths (left right : ℕ) : Bool → Type 0 where
   within : IsLength left → IsLength right → TermLengths left right true
   outside : NoLength left ⊎ NoLength right → TermLengths left right false
 
--- every byte is 0
+-- whether every byte is 0
 abbrev pub allZero : List ℕ → Bool
 allZero [] = true
 allZero (b ∷ bytes) = eqb b 0 && allZero bytes

@@ -17,7 +17,7 @@ pub data ReadOutcome : Type 0 where
   refused : ℕ → ReadOutcome
   lengths : ℕ → ℕ → ReadOutcome
 
--- this paper's number and values for each case of the answer
+-- document 01's number and values for each case of the answer
 abbrev pub told : ReadAnswer → ReadOutcome
 told (Sides left right) = lengths left right
 told (Refused refusal) = refused (numberOf refusal)

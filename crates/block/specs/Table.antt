@@ -1,4 +1,4 @@
--- The rows of document 01's table of numbers that Read gives, and their order.
+-- The numbers that Read gives (document 01, "Numbers given in place of a result"): when each is given, and their order.
 use Prim.Native.Nat.{ℕ, _<_}
 use mathlib.Core.Path.{_≡_}
 use mathlib.Core.Logic.{_⊎_}
@@ -8,7 +8,7 @@ use Rattle.ac.specs.Term.{Term}
 use Rattle.block.specs.Front.{Writes}
 use Rattle.block.specs.Block.{blockNumber, leftLength, rightLength, leftTerm, rightTerm, filler, check, checkOfBytes}
 
--- a length that no term may have; each is 1 to 127
+-- a length that no term may have: "each is 1 to 127"
 abbrev pub NoLength : ℕ → Type 0
 NoLength n = (n ≡ 0) ⊎ (127 < n)
 

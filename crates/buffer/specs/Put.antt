@@ -1,4 +1,5 @@
--- What it means to put bytes into a lent buffer from a place on.
+-- What it means to put bytes into a lent buffer from a place on: "bytes after the written part stay unchanged"
+-- (document 01, "The questions").
 use Prim.Native.Nat.{ℕ, _+_}
 use mathlib.Core.Path.{_≡_}
 use mathlib.Core.List.{List}

@@ -3,6 +3,7 @@ use Prim.Native.Nat.{ℕ}
 use Rattle.numbers.specs.declared.Refusal.{Refusal}
 use Rattle.numbers.specs.declared.Refusal.the-variants.{BlockLength, Check, BlockNumber, TermLength, Term, Filler, SideLength, NoAtom, Variables, NetCount, Constants, Rows, NoUnifier, NotListed, LastKey, ShortBuffer, LongValue}
 
+-- the column No. of the table, row by row
 abbrev pub numberOf : Refusal → ℕ
 numberOf BlockLength = 1
 numberOf Check = 2

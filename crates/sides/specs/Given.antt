@@ -1,4 +1,4 @@
--- Numbers 7 to 12 of document 01's table: when each is given, of any two sides.
+-- The numbers 7 to 12 (document 01, "Numbers given in place of a result"): when each is given, of any two sides.
 use Prim.Native.Nat.{ℕ, _<_}
 use mathlib.Core.Logic.{_⊎_}
 use mathlib.Core.List.{List, List·Memᴰ}

@@ -1,6 +1,7 @@
--- The limits in document 01's "Numbers given in place of a result" that a pair of sides must keep.
+-- The limits that two sides must keep (document 01, "Numbers given in place of a result", 7 to 12).
 use Prim.Native.Nat.{ℕ}
 
+-- one number for each limit
 pub record Limits : Type 0 where
   -- the least and the most atoms of a side
   pub least-atoms : ℕ
@@ -17,6 +18,7 @@ pub record Limits : Type 0 where
   pub balanced-rows : ℕ
   pub constant-rows : ℕ
 
+-- the limits as the table states them
 abbrev pub limits : Limits
 limits =
     record {

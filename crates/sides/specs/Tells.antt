@@ -1,4 +1,4 @@
--- What a test of the limits tells.
+-- What a test of the limits tells (document 01, "Numbers given in place of a result").
 use mathlib.Core.Path.{_≡_}
 use mathlib.Core.Bool.{Bool, true, false}
 use mathlib.Core.List.{List}

@@ -1,4 +1,5 @@
--- A buffer of rows taken apart again by the sizes that Rows returned.
+-- A buffer of rows taken apart again by the sizes that Rows returned: "the balanced rows, then those of each unbalanced
+-- constant ascending, one byte for each variable; the size of each group is returned" (document 01, "The questions").
 use Prim.Native.Nat.{ℕ, _*_}
 use mathlib.Core.List.{List, [], _∷_}
 use lib.ListN.{take, drop}

@@ -18,7 +18,7 @@ pub data RowsOutcome : Type 0 where
   refused : ℕ → RowsOutcome
   groups : ℕ → ℕ → ℕ → ℕ → ℕ → ℕ → RowsOutcome
 
--- this paper's number and values for each case of the answer
+-- document 01's number and values for each case of the answer
 abbrev pub told : RowsAnswer → RowsOutcome
 told (answer.Groups balanced constants first second third fourth) = groups balanced constants first second third fourth
 told (answer.Refused refusal) = refused (numberOf refusal)

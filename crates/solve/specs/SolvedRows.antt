@@ -1,4 +1,4 @@
--- What Rows promises on a pair that is already solved.
+-- What Rows promises (document 01, "The questions") on a pair that is already solved.
 use Prim.Native.Nat.{ℕ}
 use mathlib.Core.List.{List}
 use Rattle.ac.specs.Pair.{Mode}

@@ -41,6 +41,7 @@ module _ (i : ℕ) where
   takenBalanced-each weigh n (r ∷ rows) (false ∷ ts) a zero e h t = absurd (false≢true t)
   takenBalanced-each weigh n (r ∷ rows) (false ∷ ts) a (suc j) e h t = takenBalanced-each weigh (suc n) rows ts a j (omega arith) (omega arith) t
 
+  -- so the sum is above 0 where a taken row is above 0 and its atom weighs something
   pub takenBalanced-weighs : (weigh : ℕ → ℕ) (n : ℕ) (rows : List (List ℕ)) (ts : List Bool) (j : ℕ) → j < length rows → getD ts j false ≡ true
       → 0 < weigh (n + j) → 0 < getD (getD rows j []) i 0 → 0 < total i weigh (takenBalanced n rows ts)
   takenBalanced-weighs weigh n rows ts j h is-taken weighs entry =
@@ -51,13 +52,13 @@ module _ (i : ℕ) where
       → Weighing weigh n rows ts
   takenBalanced-some weigh n [] ts h = absurd (omega arith)
   takenBalanced-some weigh n (r ∷ rows) [] h = absurd (omega arith)
-  takenBalanced-some weigh n (r ∷ rows) (true ∷ ts) h = go (decLt 0 (weigh n)) (takenBalanced-some weigh (suc n) rows ts)
+  takenBalanced-some weigh n (r ∷ rows) (true ∷ ts) h = by-weight (decLt 0 (weigh n)) (takenBalanced-some weigh (suc n) rows ts)
     where
-      go : Dec (0 < weigh n) → (0 < total i weigh (takenBalanced (suc n) rows ts) → Weighing weigh (suc n) rows ts)
+      by-weight : Dec (0 < weigh n) → (0 < total i weigh (takenBalanced (suc n) rows ts) → Weighing weigh (suc n) rows ts)
           → Weighing weigh n (r ∷ rows) (true ∷ ts)
-      go (yes p) rest =
+      by-weight (yes p) rest =
           record { at = 0; within = omega arith; is-taken = refl; weighs = subst (λ m. 0 < weigh m) (let z : n ≡ n + 0 = omega arith in z) p }
-      go (no p) rest =
+      by-weight (no p) rest =
           let nothing : weigh n * getD r i 0 ≡ 0 = rw (let z : weigh n ≡ 0 = omega arith in z) (omega arith) in
           later-weighing true (rest (omega arith))
   takenBalanced-some weigh n (r ∷ rows) (false ∷ ts) h = later-weighing false (takenBalanced-some weigh (suc n) rows ts h)

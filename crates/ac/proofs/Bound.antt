@@ -14,7 +14,8 @@ use Rattle.ac.specs.Rows.{_≼_, _≼_.place}
 use Rattle.ac.specs.Equation.{dot, weighted, coefficient, Equation, Solves, Minimal}
 use Rattle.ac.specs.Budgets.{isUp, up, down, upSum, downSum, Enough}
 use Rattle.ac.proofs.Vectors.{dot-weighted, Rest, rest-of}
-use Rattle.ac.proofs.Walk.{weighted-zero, Smallest, lambert}
+use Rattle.ac.proofs.Units.{weighted-zero}
+use Rattle.ac.proofs.Walk.{Smallest, lambert}
 
 entry-weighted : (f : ℕ → ℕ) (v : List ℕ) (i : ℕ) → f i * getD v i 0 ≤ weighted f v
 entry-weighted f [] i = omega arith

@@ -12,8 +12,8 @@ use lib.IntN.{pos, negℤ, _+ℤ_, _-ℤ_, _*ℤ_, +ℤ-assoc, +ℤ-comm, +ℤ-i
 use Rattle.ac.specs.Lists.{sum}
 use Rattle.ac.specs.Pair.{Mode, count, net, variables}
 use Rattle.ac.specs.Rows.{IsVector, weigh, weight, BalancedRow, RowOf}
-use Rattle.ac.proofs.Vectors.{same-length, least-same}
-use Rattle.ac.specs.Equation.{dot, Solves, Minimal, balancedEquation, equationOf}
+use Rattle.ac.proofs.Vectors.{least-same}
+use Rattle.ac.specs.Equation.{dot, Solves, Minimal, onLeft, onRight, balancedEquation, equationOf}
 
 -- Differences of naturals in ℤ.
 
@@ -69,7 +69,8 @@ difference-equal a b c d = (to, back)
         difference-shifted a b d = sym (+ℤ-idr (pos a -ℤ pos b)) ∙ ap (λ z. (pos a -ℤ pos b) +ℤ z) (sym (+ℤ-invr (pos d))) ∙ difference-add a b d d
 
 -- The weight, over any list of atoms, is the difference of the two sums of products.
-pub weigh-difference : (L R : List ℕ) (xs v : List ℕ) → weigh (net L R) xs v ≡ pos (dot (map (λ x. count x L) xs) v) -ℤ pos (dot (map (λ x. count x R) xs) v)
+pub weigh-difference : (L R : List ℕ) (xs v : List ℕ)
+    → weigh (net L R) xs v ≡ pos (dot (map (λ x. count x L) xs) v) -ℤ pos (dot (map (λ x. count x R) xs) v)
 weigh-difference L R [] v = refl
 weigh-difference L R (x ∷ xs) [] = refl
 weigh-difference L R (x ∷ xs) (n ∷ v) =
@@ -77,70 +78,65 @@ weigh-difference L R (x ∷ xs) (n ∷ v) =
     ∙ difference-add (count x L * n) (count x R * n) (dot (map (λ x. count x L) xs) v) (dot (map (λ x. count x R) xs) v)
 
 module _ (M : Mode) (L R : List ℕ) where
-  abbrev leftDot : List ℕ → ℕ
-  leftDot v = dot (map (λ x. count x L) (variables M L R)) v
+  -- a weight is a difference of two numbers exactly when the two sums of products agree with these added crosswise
+  weight-difference : (v : List ℕ) (a b : ℕ) → (weight M L R v ≡ pos a -ℤ pos b) ↔ (dot (onLeft M L R) v + b ≡ dot (onRight M L R) v + a)
+  weight-difference v a b = (to, back)
+    where
+      left : ℕ
+      left = dot (onLeft M L R) v
 
-  abbrev rightDot : List ℕ → ℕ
-  rightDot v = dot (map (λ x. count x R) (variables M L R)) v
+      right : ℕ
+      right = dot (onRight M L R) v
+
+      to : weight M L R v ≡ pos a -ℤ pos b → left + b ≡ right + a
+      to e = omega (arith, difference-equal left right a b .0 (sym (weigh-difference L R (variables M L R) v) ∙ e))
+
+      back : left + b ≡ right + a → weight M L R v ≡ pos a -ℤ pos b
+      back e = weigh-difference L R (variables M L R) v ∙ difference-equal left right a b .1 (let h : left + b ≡ a + right = omega arith in h)
 
   -- A weight is 0 exactly when the two sums of products agree.
-  pub weight-zero : (v : List ℕ) → IsVector (variables M L R) v
-      → (weight M L R v ≡ pos 0) ↔ (dot (map (λ x. count x L) (variables M L R)) v ≡ dot (map (λ x. count x R) (variables M L R)) v)
-  weight-zero v vector = (to, back)
-    where
-      to : weight M L R v ≡ pos 0 → leftDot v ≡ rightDot v
-      to e = omega (arith, difference-equal (leftDot v) (rightDot v) 0 0 .0 (sym (weigh-difference L R (variables M L R) v) ∙ e))
-
-      back : leftDot v ≡ rightDot v → weight M L R v ≡ pos 0
-      back e = weigh-difference L R (variables M L R) v ∙ difference-equal (leftDot v) (rightDot v) 0 0 .1 (let h : leftDot v + 0 ≡ 0 + rightDot v = omega arith in h)
-
-  -- A weight is minus a constant's net count exactly when they agree with the constant's occurrences added.
-  pub weight-of-constant : (c : ℕ) (v : List ℕ) → IsVector (variables M L R) v
-      → (weight M L R v ≡ negℤ (net L R c))
-      ↔ (dot (map (λ x. count x L) (variables M L R)) v + count c L ≡ dot (map (λ x. count x R) (variables M L R)) v + count c R)
-  weight-of-constant c v vector = (to, back)
-    where
-      crosswise : (pos (leftDot v) -ℤ pos (rightDot v) ≡ pos (count c R) -ℤ pos (count c L)) ↔ (leftDot v + count c L ≡ count c R + rightDot v)
-      crosswise = difference-equal (leftDot v) (rightDot v) (count c R) (count c L)
-
-      to : weight M L R v ≡ negℤ (net L R c) → leftDot v + count c L ≡ rightDot v + count c R
-      to e = omega (arith, crosswise .0 (sym (weigh-difference L R (variables M L R) v) ∙ e ∙ difference-negated (count c L) (count c R)))
-
-      back : leftDot v + count c L ≡ rightDot v + count c R → weight M L R v ≡ negℤ (net L R c)
-      back e =
-          weigh-difference L R (variables M L R) v
-          ∙ crosswise .1 (let h : leftDot v + count c L ≡ count c R + rightDot v = omega arith in h)
-          ∙ sym (difference-negated (count c L) (count c R))
-
-  -- a vector has a number for each variable exactly when it has one for each coefficient
-  vector-length : (v : List ℕ) → IsVector (variables M L R) v ↔ (length v ≡ length (map (λ x. count x L) (variables M L R)))
-  vector-length v = (λ e. e ∙ sym (length-map (variables M L R) (λ x. count x L)), λ e. e ∙ length-map (variables M L R) (λ x. count x L))
-
-  -- the two properties that balanced rows and minimal solutions are least for
-  balanced-solves : (u : List ℕ) → IsVector (variables M L R) u → ((0 < sum u) × (weight M L R u ≡ pos 0)) ↔ Solves (balancedEquation M L R) u
-  balanced-solves u vector = (
-    λ h. record { equal = let e : leftDot u + 0 ≡ rightDot u + 0 = omega (arith, weight-zero u vector .0 (h .1)) in e; not-all-zero = λ t. h .0 },
-    λ s. (s .not-all-zero refl, weight-zero u vector .1 (let e : leftDot u ≡ rightDot u = omega (arith, s .equal) in e)),
+  pub weight-zero : (v : List ℕ) → (weight M L R v ≡ pos 0) ↔ (dot (onLeft M L R) v ≡ dot (onRight M L R) v)
+  weight-zero v = (
+    λ e. omega (arith, weight-difference v 0 0 .0 e),
+    λ e. weight-difference v 0 0 .1 (let h : dot (onLeft M L R) v + 0 ≡ dot (onRight M L R) v + 0 = omega arith in h),
   )
 
-  constant-solves : (c : ℕ) (u : List ℕ) → IsVector (variables M L R) u → (weight M L R u ≡ negℤ (net L R c)) ↔ Solves (equationOf M L R c) u
-  constant-solves c u vector = (
-    λ h. record { equal = weight-of-constant c u vector .0 h; not-all-zero = λ t. absurd (false≢true t) },
-    λ s. weight-of-constant c u vector .1 (s .equal),
+  -- A weight is minus a constant's net count exactly when they agree with the constant's occurrences added.
+  pub weight-of-constant : (c : ℕ) (v : List ℕ)
+      → (weight M L R v ≡ negℤ (net L R c)) ↔ (dot (onLeft M L R) v + count c L ≡ dot (onRight M L R) v + count c R)
+  weight-of-constant c v = (
+    λ e. weight-difference v (count c R) (count c L) .0 (e ∙ difference-negated (count c L) (count c R)),
+    λ e. weight-difference v (count c R) (count c L) .1 e ∙ sym (difference-negated (count c L) (count c R)),
+  )
+
+  -- a vector has a number for each variable exactly when it has one for each coefficient
+  vector-length : (v : List ℕ) → IsVector (variables M L R) v ↔ (length v ≡ length (onLeft M L R))
+  vector-length v = (λ e. e ∙ sym (length-map (variables M L R) (λ x. count x L)), λ e. e ∙ length-map (variables M L R) (λ x. count x L))
+
+  -- what balanced rows are least for, and what the minimal solutions of their equation are
+  balanced-solves : (u : List ℕ) → ((0 < sum u) × (weight M L R u ≡ pos 0)) ↔ Solves (balancedEquation M L R) u
+  balanced-solves u = (
+    λ h. record { equal = weight-difference u 0 0 .0 (h .1); not-all-zero = λ t. h .0 },
+    λ s. (s .not-all-zero refl, weight-difference u 0 0 .1 (s .equal)),
+  )
+
+  -- and the same for the rows of a constant
+  constant-solves : (c : ℕ) (u : List ℕ) → (weight M L R u ≡ negℤ (net L R c)) ↔ Solves (equationOf M L R c) u
+  constant-solves c u = (
+    λ h. record { equal = weight-of-constant c u .0 h; not-all-zero = λ t. absurd (false≢true t) },
+    λ s. weight-of-constant c u .1 (s .equal),
   )
 
   -- Balanced rows are the minimal solutions of the balanced equation.
   pub balanced-row-is-minimal : (v : List ℕ) → BalancedRow M L R v ↔ Minimal (balancedEquation M L R) v
   balanced-row-is-minimal v = (
-    λ r. record { vector = vector-length v .0 (r .vector); least = least-same (λ u h. balanced-solves u (same-length h ∙ r .vector)) (r .least) },
-    λ m. let vector : IsVector (variables M L R) v = vector-length v .1 (m .vector) in
-        record { vector = vector; least = least-same (λ u h. Iff·symm (balanced-solves u (same-length h ∙ vector))) (m .least) },
+    λ r. record { vector = vector-length v .0 (r .vector); least = least-same (λ u h. balanced-solves u) (r .least) },
+    λ m. record { vector = vector-length v .1 (m .vector); least = least-same (λ u h. Iff·symm (balanced-solves u)) (m .least) },
   )
 
   -- Rows of a constant are the minimal solutions of its equation.
   pub row-of-constant-is-minimal : (c : ℕ) (v : List ℕ) → RowOf M L R c v ↔ Minimal (equationOf M L R c) v
   row-of-constant-is-minimal c v = (
-    λ r. record { vector = vector-length v .0 (r .vector); least = least-same (λ u h. constant-solves c u (same-length h ∙ r .vector)) (r .least) },
-    λ m. let vector : IsVector (variables M L R) v = vector-length v .1 (m .vector) in
-        record { vector = vector; least = least-same (λ u h. Iff·symm (constant-solves c u (same-length h ∙ vector))) (m .least) },
+    λ r. record { vector = vector-length v .0 (r .vector); least = least-same (λ u h. constant-solves c u) (r .least) },
+    λ m. record { vector = vector-length v .1 (m .vector); least = least-same (λ u h. Iff·symm (constant-solves c u)) (m .least) },
   )

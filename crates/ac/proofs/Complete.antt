@@ -26,17 +26,18 @@ use Rattle.ac.proofs.Balances.{made-of-rows}
 -- The rows of the constants, chosen group by group. `vectorOf b` is b's vector of occurrences.
 module _ (balanced : List (List ℕ)) (vectorOf : ℕ → List ℕ) where
   -- beside the taken rows of the constants, b's vector is made of multiples of balanced rows
-  pub record Remainder (ts : List Taken) (b : ℕ) : Type 0 where
-    pub times : List ℕ
-    pub adds-up : (i : ℕ) → getD (vectorOf b) i 0 ≡ total i (same b) ts + combined times balanced i
+  record Remainder (ts : List Taken) (b : ℕ) : Type 0 where
+    times : List ℕ
+    adds-up : (i : ℕ) → getD (vectorOf b) i 0 ≡ total i (same b) ts + combined times balanced i
 
   -- a row for each constant, that leaves such a remainder
-  pub record Chosen (gs : List Group) : Type 0 where
-    pub indexes : List ℕ
-    pub within : Within gs indexes
-    pub remainder : (b : ℕ) → List·Memᴰ b (constantsOf gs) → Remainder (takenRows gs indexes) b
+  record Chosen (gs : List Group) : Type 0 where
+    indexes : List ℕ
+    within : Within gs indexes
+    remainder : (b : ℕ) → List·Memᴰ b (constantsOf gs) → Remainder (takenRows gs indexes) b
 
-  pub choose : (gs : List Group) → Ascending _<_ (constantsOf gs)
+  -- there is one wherever each constant's vector is one of its rows and a sum of balanced rows
+  choose : (gs : List Group) → Ascending _<_ (constantsOf gs)
       → ((g : Group) → List·Memᴰ g gs → RowAndSum (g .rows) balanced (vectorOf (g .constant))) → Chosen gs
   choose [] ascending rows = record { indexes = []; within = none; remainder = λ b m. elim m [ ] }
   choose (g ∷ gs) (next before ascending) rows =
@@ -94,11 +95,11 @@ module _ (M : Mode) (new : ℕ) (L R : List ℕ) (left : IsSide L) (right : IsSi
       absent m = n (constant-unbalanced M L R groups b m)
 
   remainder : (b : ℕ) → Remainder (G .balanced) vectorOf constantRows b
-  remainder b = go (kind-of M L R left right b)
+  remainder b = by-kind (kind-of M L R left right b)
     where
-      go : Kind M L R b → Remainder (G .balanced) vectorOf constantRows b
-      go (constant m l r) = chosen .remainder b (unbalanced-constant M L R groups b m)
-      go (other n e) = other-remainder b n
+      by-kind : Kind M L R b → Remainder (G .balanced) vectorOf constantRows b
+      by-kind (constant m l r) = chosen .remainder b (unbalanced-constant M L R groups b m)
+      by-kind (other n e) = other-remainder b n
 
   -- how often the new variable n gets b
   abbrev multiplicity : ℕ → ℕ → ℕ
@@ -147,7 +148,7 @@ module _ (M : Mode) (new : ℕ) (L R : List ℕ) (left : IsSide L) (right : IsSi
   -- the values of the selection, filled, are the unifier's
   selected-agrees : (x : ℕ) → List·Memᴰ x (variables M L R) → (b i : ℕ) → placeOf x (variables M L R) ≡ i
       → count b (θ x) ≡ total i (filledCount new filling b) (taken new G selected)
-  selected-agrees x m b i place = go (decLt b bound)
+  selected-agrees x m b i place = by-bound (decLt b bound)
     where
       occurs : count b (θ x) ≡ total i (same b) constantRows + combined (remainder b .times) (G .balanced) i
       occurs =
@@ -158,9 +159,9 @@ module _ (M : Mode) (new : ℕ) (L R : List ℕ) (left : IsSide L) (right : IsSi
       nowhere : (b < bound → ⊥) → count b (θ x) ≡ 0
       nowhere h = count-none b (θ x) (λ (n : List·Memᴰ b (θ x)). h (atom-bound x b m n))
 
-      go : Dec (b < bound) → count b (θ x) ≡ total i (filledCount new filling b) (taken new G selected)
-      go (yes h) = occurs ∙ sym (filled-total b i (remainder b .times) (λ j. filling-below b j h))
-      go (no h) = omega (arith, occurs, nowhere h, filled-total b i [] (λ j. filling-above b j (omega arith)))
+      by-bound : Dec (b < bound) → count b (θ x) ≡ total i (filledCount new filling b) (taken new G selected)
+      by-bound (yes h) = occurs ∙ sym (filled-total b i (remainder b .times) (λ j. filling-below b j h))
+      by-bound (no h) = omega (arith, occurs, nowhere h, filled-total b i [] (λ j. filling-above b j (omega arith)))
 
   -- each place is reached, since the unifier has an atom there
   selected-reaches : M .empties ≡ false → (i : ℕ) → i < length (variables M L R) → reached (taken new G selected) i ≡ true
@@ -181,11 +182,11 @@ module _ (M : Mode) (new : ℕ) (L R : List ℕ) (left : IsSide L) (right : IsSi
       n = getD-member (θ x) 0 0 (unifies .non-empty x m e)
 
   selected-admissible : admissible M new L R G selected ≡ true
-  selected-admissible = go (M .empties) refl
+  selected-admissible = by-mode (M .empties) refl
     where
-      go : (t : Bool) → M .empties ≡ t → admissible M new L R G selected ≡ true
-      go true e = admissible-takes M new L R G selected e ∙ all-takesFrom (M .empties) filling e new (length (G .balanced))
-      go false e =
+      by-mode : (t : Bool) → M .empties ≡ t → admissible M new L R G selected ≡ true
+      by-mode true e = admissible-takes M new L R G selected e ∙ all-takesFrom (M .empties) filling e new (length (G .balanced))
+      by-mode false e =
           admissible-reaches M new L R G selected e ∙ reached-allReached (taken new G selected) (length (variables M L R)) (selected-reaches e)
 
   -- a new variable in a value belongs to a taken row, and so it is filled
@@ -212,5 +213,6 @@ module _ (M : Mode) (new : ℕ) (L R : List ℕ) (left : IsSide L) (right : IsSi
           selected-agrees x m b (placeOf x (variables M L R)) refl
           ∙ sym (count-filled new filling b (placeOf x (variables M L R)) (taken new G selected))
 
+  -- The selection that was found, and that the unifier comes from it.
   pub complete-selection : (s : Selection) × SelectionOf G s × (admissible M new L R G s ≡ true) × ComesFrom M new L R (value M new L R G s) θ
   complete-selection = (selected, selected-of, selected-admissible, comes-from-selected)

@@ -43,18 +43,22 @@ takenRows-first g {gs} within absent k c e i =
     rw (same-self c (g .constant) e)
     (omega (arith, takenRows-none within c i (λ (m : List·Memᴰ c (constantsOf gs)). absent (subst (λ (a : ℕ). List·Memᴰ a (constantsOf gs)) e m))))
 
+-- any other atom has nothing from the first row
 pub takenRows-later : (g : Group) (gs : List Group) (is : List ℕ) (k c : ℕ) → (c ≡ g .constant → ⊥)
     → (i : ℕ) → total i (same c) (takenRows (g ∷ gs) (k ∷ is)) ≡ total i (same c) (takenRows gs is)
 takenRows-later g gs is k c differs i = rw (same-other c (g .constant) differs) (omega arith)
 
 -- the constants of a pair's groups are its unbalanced constants
 module _ (M : Mode) (L R : List ℕ) {G : Groups} (groups : GroupsOf M L R G) where
+  -- they ascend
   pub constants-ascending : Ascending _<_ (constantsOf (G .constants))
   constants-ascending = subst (Ascending _<_) (sym (groups .the-constants)) (unbalanced-ascending M L R)
 
+  -- each of them is an unbalanced constant
   pub constant-unbalanced : (c : ℕ) → List·Memᴰ c (constantsOf (G .constants)) → List·Memᴰ c (unbalanced M L R)
   constant-unbalanced c m = subst (λ (cs : List ℕ). List·Memᴰ c cs) (groups .the-constants) m
 
+  -- and each unbalanced constant is one of them
   pub unbalanced-constant : (c : ℕ) → List·Memᴰ c (unbalanced M L R) → List·Memᴰ c (constantsOf (G .constants))
   unbalanced-constant c m = subst (λ (cs : List ℕ). List·Memᴰ c cs) (sym (groups .the-constants)) m
 

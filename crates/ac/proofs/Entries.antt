@@ -14,11 +14,11 @@ use Rattle.ac.proofs.Order.{≺-asymmetric}
 -- a vector that is not all zero is above 0 in some place
 pub positive-place : (v : List ℕ) → 0 < sum v → (i : ℕ) × (i < length v) × (0 < getD v i 0)
 positive-place [] h = absurd (omega arith)
-positive-place (n ∷ v) h = go (decLt 0 n) (positive-place v)
+positive-place (n ∷ v) h = by-first (decLt 0 n) (positive-place v)
   where
-    go : Dec (0 < n) → (0 < sum v → (i : ℕ) × (i < length v) × (0 < getD v i 0)) → (i : ℕ) × (i < suc (length v)) × (0 < getD (n ∷ v) i 0)
-    go (yes p) rest = (0, omega arith, p)
-    go (no p) rest =
+    by-first : Dec (0 < n) → (0 < sum v → (i : ℕ) × (i < length v) × (0 < getD v i 0)) → (i : ℕ) × (i < suc (length v)) × (0 < getD (n ∷ v) i 0)
+    by-first (yes p) rest = (0, omega arith, p)
+    by-first (no p) rest =
         let r = rest (omega arith) in
         (suc (r .0), omega (arith, r .1), r .2)
 
@@ -29,7 +29,7 @@ first-once {r} {rows} before j h e =
     ≺-asymmetric l l
 
 -- a row stands at one index of an ascending list only
-pub ascending-once : {rows : List (List ℕ)} → Ascending _≺_ rows → (i j : ℕ) → i < length rows → j < length rows
+ascending-once : {rows : List (List ℕ)} → Ascending _≺_ rows → (i j : ℕ) → i < length rows → j < length rows
     → getD rows i [] ≡ getD rows j [] → i ≡ j
 ascending-once none i j h k e = absurd (omega arith)
 ascending-once (next before ascending) zero zero h k e = refl

@@ -20,7 +20,8 @@ use Rattle.ac.proofs.Replaced.{moving-variable}
 
 -- ---- =AC is having the same atoms equally often
 
-pub same-atoms : {s t : Term} → s =AC t → SameSum (flatten s) (flatten t)
+-- equal terms have the same atoms: each law of =AC keeps their number
+same-atoms : {s t : Term} → s =AC t → SameSum (flatten s) (flatten t)
 same-atoms (commutative s t) b = omega (arith, count-append b (flatten s) (flatten t), count-append b (flatten t) (flatten s))
 same-atoms (associative s t u) b = ap (count b) (append-assoc (flatten s) (flatten t) (flatten u))
 same-atoms (congruent {s = s} {s′ = s′} {t = t} {t′ = t′} left right) b =
@@ -29,7 +30,8 @@ same-atoms (reflexive s) b = refl
 same-atoms (symmetric equal) b = sym (same-atoms equal b)
 same-atoms (transitive first second) b = same-atoms first b ∙ same-atoms second b
 
-pub flatten-comb : (a : ℕ) (rest : List ℕ) → flatten (comb a rest) ≡ a ∷ rest
+-- the atoms of a comb
+flatten-comb : (a : ℕ) (rest : List ℕ) → flatten (comb a rest) ≡ a ∷ rest
 flatten-comb a [] = refl
 flatten-comb a (b ∷ rest) = ap {B = List ℕ} (λ l. a ∷ l) (flatten-comb b rest)
 
@@ -39,13 +41,14 @@ plus-combs a [] b ys = reflexive (plus (atom a) (comb b ys))
 plus-combs a (c ∷ xs) b ys = transitive (associative (atom a) (comb c xs) (comb b ys)) (congruent (reflexive (atom a)) (plus-combs c xs b ys))
 
 -- every term equals a comb of its atoms
-pub record AsComb (t : Term) : Type 0 where
-  pub first : ℕ
-  pub others : List ℕ
-  pub atoms : flatten t ≡ first ∷ others
-  pub equal : t =AC comb first others
+record AsComb (t : Term) : Type 0 where
+  first : ℕ
+  others : List ℕ
+  atoms : flatten t ≡ first ∷ others
+  equal : t =AC comb first others
 
-pub as-comb : (t : Term) → AsComb t
+-- by the laws of =AC alone: a sum of two combs is a comb
+as-comb : (t : Term) → AsComb t
 as-comb (atom a) = record { first = a; others = []; atoms = refl; equal = reflexive (atom a) }
 as-comb (plus s t) =
     let l = as-comb s in
@@ -116,16 +119,17 @@ abbrev pub flattened : Substitution → Replacement
 flattened σ x = flatten (σ x)
 
 -- a term has an atom
-pub flatten-some : (t : Term) → 0 < length (flatten t)
+flatten-some : (t : Term) → 0 < length (flatten t)
 flatten-some (atom a) = omega arith
 flatten-some (plus s t) = omega (arith, length-append (flatten s) (flatten t), flatten-some s)
 
-pub flatten-apply : (variable : ℕ → Bool) (σ : Substitution) (t : Term) → flatten (apply variable σ t) ≡ put variable (flattened σ) (flatten t)
-flatten-apply variable σ (atom a) = go (variable a)
+-- applying a substitution to a term is putting its replacement into the flattened side
+flatten-apply : (variable : ℕ → Bool) (σ : Substitution) (t : Term) → flatten (apply variable σ t) ≡ put variable (flattened σ) (flatten t)
+flatten-apply variable σ (atom a) = by-test (variable a)
   where
-    go : (b : Bool) → flatten (cond b (σ a) (atom a)) ≡ cond b (flatten (σ a)) (a ∷ []) ++ []
-    go true = sym (append-nil (flatten (σ a)))
-    go false = refl
+    by-test : (b : Bool) → flatten (cond b (σ a) (atom a)) ≡ cond b (flatten (σ a)) (a ∷ []) ++ []
+    by-test true = sym (append-nil (flatten (σ a)))
+    by-test false = refl
 flatten-apply variable σ (plus s t) =
     ap₂ {C = List ℕ} (λ x y. x ++ y) (flatten-apply variable σ s) (flatten-apply variable σ t)
     ∙ sym (put-append variable (flattened σ) (flatten s) (flatten t))
@@ -144,19 +148,20 @@ unifier-unifies M s t σ = (
 )
 
 -- the substitution of a replacement
-abbrev pub planted : Replacement → Substitution
+abbrev planted : Replacement → Substitution
 planted θ x = tree (θ x)
 
+-- the atoms of a list's tree are the list
 pub flatten-tree : (xs : List ℕ) → 0 < length xs → flatten (tree xs) ≡ xs
 flatten-tree [] h = absurd (omega arith)
 flatten-tree (a ∷ xs) h = flatten-comb a xs
 
 -- Every replacement is, where its values are not empty, that of a substitution.
-pub planted-replacement : (θ : Replacement) (x : ℕ) → 0 < length (θ x) → flattened (planted θ) x ≡ θ x
+planted-replacement : (θ : Replacement) (x : ℕ) → 0 < length (θ x) → flattened (planted θ) x ≡ θ x
 planted-replacement θ x h = flatten-tree (θ x) h
 
 -- a side is the same after two replacements that agree on the atoms that stand there and move
-pub put-agrees : (moves : ℕ → Bool) (θ θ′ : Replacement) (side : List ℕ) → ((a : ℕ) → List·Memᴰ a side → moves a ≡ true → θ a ≡ θ′ a)
+put-agrees : (moves : ℕ → Bool) (θ θ′ : Replacement) (side : List ℕ) → ((a : ℕ) → List·Memᴰ a side → moves a ≡ true → θ a ≡ θ′ a)
     → put moves θ side ≡ put moves θ′ side
 put-agrees moves θ θ′ [] agree = refl
 put-agrees moves θ θ′ (a ∷ side) agree =
@@ -173,6 +178,7 @@ Agree over θ θ′ = (x : ℕ) → List·Memᴰ x over → θ x ≡ θ′ x
 
 -- What replaces the pair's variables alike unifies alike, and comes from the same.
 module _ (M : Mode) (L R : List ℕ) (left : IsSide L) (right : IsSide R) where
+  -- it unifies alike
   pub unifies-alike : {θ θ′ : Replacement} → Agree (variables M L R) θ θ′ → Unifies M L R θ → Unifies M L R θ′
   unifies-alike {θ} {θ′} agree unifies =
       record {
@@ -190,6 +196,7 @@ module _ (M : Mode) (L R : List ℕ) (left : IsSide L) (right : IsSide R) where
           → put (M .moves) θ side ≡ put (M .moves) θ′ side
       same-put side moving = put-agrees (M .moves) θ θ′ side (λ a m moves. agree a (moving a m moves))
 
+-- and it comes from the same
 pub comes-alike : (M : Mode) (new : ℕ) (L R : List ℕ) {σ σ′ θ θ′ : Replacement} → Agree (variables M L R) σ σ′ → Agree (variables M L R) θ θ′
     → ComesFrom M new L R σ θ → ComesFrom M new L R σ′ θ′
 comes-alike M new L R same same′ comes =

@@ -7,19 +7,19 @@ use mathlib.Core.Logic.{⊎-elim}
 use mathlib.Core.List.{List, [], _∷_}
 use lib.ListN.{length, getD}
 use lib.Pow.{pow-pos, shr-shr, field, mod-pow-add, mod-mod-pow}
-use Rattle.ac.specs.Lists.{from}
 use Rattle.ac.specs.Rows.{Group, Groups, rowsAt}
 use Rattle.ac.specs.Selection.{Within, none, index}
-use Rattle.ac.specs.Keys.{Layout, Fits, Candidate, bit, bits, fieldsOf, fieldAt, selectionAt}
+use Rattle.ac.specs.Keys.{Layout, Fits, Candidate, fieldsOf, fieldAt, selectionAt}
 use Rattle.ac.proofs.Keys.{next-field}
 
 -- within their groups, place by place
-pub within-places : {gs : List Group} {is : List ℕ} → Within gs is → (place : ℕ) → place < length gs → getD is place 0 < length (rowsAt gs place)
+within-places : {gs : List Group} {is : List ℕ} → Within gs is → (place : ℕ) → place < length gs → getD is place 0 < length (rowsAt gs place)
 within-places none place h = absurd (omega arith)
 within-places (index less within) zero h = less
 within-places (index less within) (suc place) h = within-places within place (omega arith)
 
-pub places-within : (gs : List Group) (is : List ℕ) → length is ≡ length gs → ((place : ℕ) → place < length gs → getD is place 0 < length (rowsAt gs place))
+-- and the other way round
+places-within : (gs : List Group) (is : List ℕ) → length is ≡ length gs → ((place : ℕ) → place < length gs → getD is place 0 < length (rowsAt gs place))
     → Within gs is
 places-within [] [] e each = none
 places-within [] (i ∷ is) e each = absurd (omega arith)
@@ -28,6 +28,7 @@ places-within (g ∷ gs) (i ∷ is) e each =
     index (each 0 (omega arith)) (places-within gs is (omega arith) (λ place h. each (suc place) (omega arith)))
 
 module _ (lay : Layout) where
+  -- there is a field for each constant
   pub length-fieldsOf : (k : ℕ) (gs : List Group) (m : ℕ) → length gs ≤ k → length (fieldsOf lay k gs m) ≡ length gs
   length-fieldsOf k [] m fit = refl
   length-fieldsOf zero (g ∷ gs) m fit = absurd (omega arith)
@@ -44,8 +45,8 @@ module _ (lay : Layout) where
       field-of k gs m place (omega arith) (omega arith)
       ∙ ap (λ (x : ℕ). m / 2 ^ (lay .index-bits * x) % 2 ^ (lay .index-bits)) (sym (suc-sub-suc k (suc place)))
 
-  -- k fields are 0 together exactly if each is 0
-  pub fields-zero : (k m : ℕ) → ((j : ℕ) → j < k → m / 2 ^ (lay .index-bits * j) % 2 ^ (lay .index-bits) ≡ 0) → m % 2 ^ (lay .index-bits * k) ≡ 0
+  -- k fields are 0 together if each is 0
+  fields-zero : (k m : ℕ) → ((j : ℕ) → j < k → m / 2 ^ (lay .index-bits * j) % 2 ^ (lay .index-bits) ≡ 0) → m % 2 ^ (lay .index-bits * k) ≡ 0
   fields-zero zero m each = ap (λ (x : ℕ). m % 2 ^ x) (mul-zero (lay .index-bits)) ∙ omega arith
   fields-zero (suc k) m each =
       ap (λ (x : ℕ). m % x) (next-field lay k) ∙ mod-pow-add m (lay .index-bits) (lay .index-bits * k)
@@ -55,7 +56,8 @@ module _ (lay : Layout) where
         ap (λ (x : ℕ). x * 2 ^ (lay .index-bits * k)) (each k (omega arith)),
       )
 
-  pub zero-fields : (k m : ℕ) → m % 2 ^ (lay .index-bits * k) ≡ 0 → (j : ℕ) → j < k → m / 2 ^ (lay .index-bits * j) % 2 ^ (lay .index-bits) ≡ 0
+  -- and the other way round
+  zero-fields : (k m : ℕ) → m % 2 ^ (lay .index-bits * k) ≡ 0 → (j : ℕ) → j < k → m / 2 ^ (lay .index-bits * j) % 2 ^ (lay .index-bits) ≡ 0
   zero-fields zero m e j h = absurd (omega arith)
   zero-fields (suc k) m e j h =
       ⊎-elim (λ same. subst (λ (i : ℕ). m / 2 ^ (w * i) % 2 ^ w ≡ 0) (sym (suc-inj same)) highest)
@@ -105,6 +107,7 @@ module _ {lay : Layout} {G : Groups} (fits : Fits lay G) (key : ℕ) where
         no-bit-above = high;
       }
 
+  -- and the other way round
   pub places-candidate : Candidate lay G key
       → ((place : ℕ) → place < length (G .constants) → fieldAt lay key place < length (rowsAt (G .constants) place))
       × ((place : ℕ) → length (G .constants) ≤ place → place < lay .constants → fieldAt lay key place ≡ 0)

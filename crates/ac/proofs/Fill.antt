@@ -25,6 +25,7 @@ module _ (f : ℕ → ℕ) (b : ℕ) where
   count-spread-cons k n =
       count-append b (replicate (f k) k) (spread f (suc k) n) ∙ ap (λ z. z + count b (spread f (suc k) n)) (count-replicate b (f k) k)
 
+  -- a number that is not among them does not occur
   pub count-spread-none : (k n : ℕ) → (List·Memᴰ b (from k n) → ⊥) → count b (spread f k n) ≡ 0
   count-spread-none k zero absent = refl
   count-spread-none k (suc n) absent =
@@ -32,6 +33,7 @@ module _ (f : ℕ → ℕ) (b : ℕ) where
       ∙ rw (same-other b k (λ (e : b ≡ k). absent (List·Memᴰ·head e)))
       (omega (arith, count-spread-none (suc k) n (λ (m : List·Memᴰ b (from (suc k) n)). absent (List·Memᴰ·tail m))))
 
+  -- one that is among them occurs as often as f says
   pub count-spread : (k n : ℕ) → List·Memᴰ b (from k n) → count b (spread f k n) ≡ f b
   count-spread k (suc n) (List·Memᴰ·head e) =
       count-spread-cons k n
@@ -41,22 +43,27 @@ module _ (f : ℕ → ℕ) (b : ℕ) where
       count-spread-cons k n
       ∙ rw (same-other b k (λ (e : b ≡ k). omega (arith, from-bounds (suc k) n b m))) (omega (arith, count-spread (suc k) n m))
 
+-- no member of a list of numbers is above their sum
 pub member-le-sum : (a : ℕ) (s : List ℕ) → List·Memᴰ a s → a ≤ sum s
 member-le-sum a (x ∷ s) (List·Memᴰ·head e) = omega arith
 member-le-sum a (x ∷ s) (List·Memᴰ·tail m) = omega (arith, member-le-sum a s m)
 
 -- Which balanced rows are taken: those whose new variable gets an atom, or all of them where a value may be empty.
 module _ (empties : Bool) (fill : Replacement) where
+  -- whether the row of a new variable is taken
   abbrev pub takes : ℕ → Bool
   takes m = empties || ltb 0 (length (fill m))
 
+  -- so for k new variables from n on
   abbrev pub takesFrom : ℕ → ℕ → List Bool
   takesFrom n k = map takes (from n k)
 
+  -- there is a truth value for each
   pub length-takesFrom : (n k : ℕ) → length (takesFrom n k) ≡ k
   length-takesFrom n zero = refl
   length-takesFrom n (suc k) = ap suc (length-takesFrom (suc n) k)
 
+  -- where a value may be empty, all are taken
   pub all-takesFrom : empties ≡ true → (n k : ℕ) → allTaken (takesFrom n k) ≡ true
   all-takesFrom e n zero = refl
   all-takesFrom e n (suc k) =
@@ -81,29 +88,29 @@ module _ (empties : Bool) (fill : Replacement) where
   pub takenBalanced-filled : empties ≡ false → (n : ℕ) (rows : List (List ℕ)) (t : Taken) → List·Memᴰ t (takenBalanced n rows (takesFrom n (length rows)))
       → 0 < length (fill (t .atom))
   takenBalanced-filled e n [] t m = elim m [ ]
-  takenBalanced-filled e n (r ∷ rows) t m = go (takes n) refl m (takenBalanced-filled e (suc n) rows t)
+  takenBalanced-filled e n (r ∷ rows) t m = by-first (takes n) refl m (takenBalanced-filled e (suc n) rows t)
     where
-      go : (u : Bool) → takes n ≡ u → List·Memᴰ t (takenBalanced n (r ∷ rows) (u ∷ takesFrom (suc n) (length rows)))
+      by-first : (u : Bool) → takes n ≡ u → List·Memᴰ t (takenBalanced n (r ∷ rows) (u ∷ takesFrom (suc n) (length rows)))
           → (List·Memᴰ t (takenBalanced (suc n) rows (takesFrom (suc n) (length rows))) → 0 < length (fill (t .atom))) → 0 < length (fill (t .atom))
-      go true h (List·Memᴰ·head q) rest = subst (λ (a : Taken). 0 < length (fill (a .atom))) (sym q) (takes-filled n e h)
-      go true h (List·Memᴰ·tail k) rest = rest k
-      go false h k rest = rest k
+      by-first true h (List·Memᴰ·head q) rest = subst (λ (a : Taken). 0 < length (fill (a .atom))) (sym q) (takes-filled n e h)
+      by-first true h (List·Memᴰ·tail k) rest = rest k
+      by-first false h k rest = rest k
 
   module _ (new : ℕ) (b i : ℕ) where
     -- what row r of new variable n gives, taken or not
     with-row : (n : ℕ) → new ≤ n → (r : List ℕ) (rows : List (List ℕ))
         → total i (filledCount new fill b) (takenBalanced n (r ∷ rows) (takesFrom n (suc (length rows))))
         ≡ count b (fill n) * getD r i 0 + total i (filledCount new fill b) (takenBalanced (suc n) rows (takesFrom (suc n) (length rows)))
-    with-row n h r rows = go (takes n) refl
+    with-row n h r rows = by-test (takes n) refl
       where
-        go : (u : Bool) → takes n ≡ u
+        by-test : (u : Bool) → takes n ≡ u
             → total i (filledCount new fill b) (takenBalanced n (r ∷ rows) (u ∷ takesFrom (suc n) (length rows)))
             ≡ count b (fill n) * getD r i 0 + total i (filledCount new fill b) (takenBalanced (suc n) rows (takesFrom (suc n) (length rows)))
-        go true e =
+        by-test true e =
             ap
             (λ z. z * getD r i 0 + total i (filledCount new fill b) (takenBalanced (suc n) rows (takesFrom (suc n) (length rows))))
             (filledCount-new new fill b n h)
-        go false e = rw (takes-none b n e) (omega arith)
+        by-test false e = rw (takes-none b n e) (omega arith)
 
     at-first : (n : ℕ) {m : ℕ} → count b (fill (n + 0)) ≡ m → count b (fill n) ≡ m
     at-first n e = ap (λ z. count b (fill z)) (let z : n ≡ n + 0 = omega arith in z) ∙ e

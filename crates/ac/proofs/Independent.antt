@@ -22,7 +22,8 @@ use Rattle.ac.proofs.Balanced.{Weighing, takenBalanced-each, takenBalan
 
 -- The constants' rows: where those of the one tuple are at or below those of the other, the tuples are equal.
 module _ (M : Mode) (L R : List ℕ) where
-  pub indexes-equal : (gs : List Group) {is js : List ℕ} → Ascending _<_ (constantsOf gs)
+  -- group by group: the rows of the first constant are equal, and the others by the same argument
+  indexes-equal : (gs : List Group) {is js : List ℕ} → Ascending _<_ (constantsOf gs)
       → ((g : Group) → List·Memᴰ g gs → Exactly (RowOf M L R (g .constant)) (g .rows)) → Within gs is → Within gs js
       → ((c : ℕ) → List·Memᴰ c (constantsOf gs) → (k : ℕ) → k < length (variables M L R)
       → total k (same c) (takenRows gs is) ≤ total k (same c) (takenRows gs js))
@@ -162,7 +163,7 @@ module _ (M : Mode) (new : ℕ) (L R : List ℕ) (above : 128 ≤ new) {G : Grou
 
   -- a row taken in t is taken in s: its new variable can only come from its own
   taken-before : (j : ℕ) → j < length (G .balanced) → Takes t j → Takes s j
-  taken-before j h is-taken = go (takenBalanced-some (p .0) (filledAs (new + j)) new (G .balanced) (s .takes) weighs)
+  taken-before j h is-taken = same-row (takenBalanced-some (p .0) (filledAs (new + j)) new (G .balanced) (s .takes) weighs)
     where
       p : (q : ℕ) × (q < places) × (0 < entry j q)
       p = balanced-place j h
@@ -172,8 +173,8 @@ module _ (M : Mode) (new : ℕ) (L R : List ℕ) (above : 128 ≤ new) {G : Grou
           subst (λ n. 0 < n) (balanced-agree (new + j) (p .0) (p .1))
           (takenBalanced-weighs (p .0) (same (new + j)) new (G .balanced) (t .takes) j h is-taken (same-itself (new + j)) (p .2))
 
-      go : Weighing (filledAs (new + j)) new (G .balanced) (s .takes) → Takes s j
-      go w = subst (Takes s) (fills-equal (w .at) j (w .within) h (w .is-taken) (w .weighs)) (w .is-taken)
+      same-row : Weighing (filledAs (new + j)) new (G .balanced) (s .takes) → Takes s j
+      same-row w = subst (Takes s) (fills-equal (w .at) j (w .within) h (w .is-taken) (w .weighs)) (w .is-taken)
 
   -- the new variable of a row taken in s stands in a value of s, so it is filled
   new-filled : M .empties ≡ false → (i : ℕ) → i < length (G .balanced) → Takes s i → 0 < length (comes .fill (new + i))
@@ -200,7 +201,7 @@ module _ (M : Mode) (new : ℕ) (L R : List ℕ) (above : 128 ≤ new) {G : Grou
 
   -- a row taken in s is taken in t: its new variable is filled with some atom, and that can only be the new variable of a row of t
   taken-after : M .empties ≡ false → (i : ℕ) → i < length (G .balanced) → Takes s i → Takes t i
-  taken-after e i h is-taken = go (takenBalanced-some (p .0) (same b) new (G .balanced) (t .takes) weighs)
+  taken-after e i h is-taken = same-row (takenBalanced-some (p .0) (same b) new (G .balanced) (t .takes) weighs)
     where
       p : (q : ℕ) × (q < places) × (0 < entry i q)
       p = balanced-place i h
@@ -218,23 +219,24 @@ module _ (M : Mode) (new : ℕ) (L R : List ℕ) (above : 128 ≤ new) {G : Grou
           subst (λ n. 0 < n) (sym (balanced-agree b (p .0) (p .1)))
           (takenBalanced-weighs (p .0) (filledAs b) new (G .balanced) (s .takes) i h is-taken fills (p .2))
 
-      go : Weighing (same b) new (G .balanced) (t .takes) → Takes t i
-      go w =
+      same-row : Weighing (same b) new (G .balanced) (t .takes) → Takes t i
+      same-row w =
           let own : 0 < filledAs (new + w .at) (new + i) = subst (λ c. 0 < filledAs c (new + i)) (same-positive b (new + w .at) (w .weighs)) fills in
           subst (Takes t) (sym (fills-equal i (w .at) h (w .within) is-taken own)) (w .is-taken)
 
   same-takes : admissible M new L R G s ≡ true → admissible M new L R G t ≡ true → s .takes ≡ t .takes
   same-takes ok-s ok-t =
-      ext-getD false (s .takes) (t .takes) (of-s .a-truth-each ∙ sym (of-t .a-truth-each)) (λ j h. go (M .empties) refl j h)
+      ext-getD false (s .takes) (t .takes) (of-s .a-truth-each ∙ sym (of-t .a-truth-each)) (λ j h. by-mode (M .empties) refl j h)
     where
-      go : (u : Bool) → M .empties ≡ u → (j : ℕ) → j < length (s .takes) → getD (s .takes) j false ≡ getD (t .takes) j false
-      go true e j h =
+      by-mode : (u : Bool) → M .empties ≡ u → (j : ℕ) → j < length (s .takes) → getD (s .takes) j false ≡ getD (t .takes) j false
+      by-mode true e j h =
           let h′ : j < length (t .takes) = omega (arith, of-s .a-truth-each, of-t .a-truth-each) in
           all-taken (s .takes) (sym (admissible-takes M new L R G s e) ∙ ok-s) j h
           ∙ sym (all-taken (t .takes) (sym (admissible-takes M new L R G t e) ∙ ok-t) j h′)
-      go false e j h =
+      by-mode false e j h =
           let l : j < length (G .balanced) = omega (arith, of-s .a-truth-each) in
           truth-equal (getD (s .takes) j false) (getD (t .takes) j false) (taken-after e j l) (taken-before j l)
 
+  -- So the two selections are one.
   pub independent-selections : admissible M new L R G s ≡ true → admissible M new L R G t ≡ true → s ≡ t
   independent-selections ok-s ok-t = λ i. record { indexes = same-indexes i; takes = same-takes ok-s ok-t i }

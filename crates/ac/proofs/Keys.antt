@@ -19,31 +19,34 @@ use Rattle.ac.specs.Keys.{Layout, fields, mask, keyOf, bit, bits, fields
 -- ---- the mask
 
 -- bit i + 1 of a number is bit i of its half
-pub bit-of-half : (m i : ℕ) → bit m (suc i) ≡ bit (m / 2) i
+bit-of-half : (m i : ℕ) → bit m (suc i) ≡ bit (m / 2) i
 bit-of-half m i =
     ap (λ (n : ℕ). eqb (n % 2) 1) (ap (λ (p : ℕ). m / p) (pow-suc 2 i ∙ mul-comm (2 ^ i) 2) ∙ sym (div-div-eq-div-mul m 2 (2 ^ i)))
 
-pub bits-of-half : (m a n : ℕ) → map (bit m) (from (suc a) n) ≡ map (bit (m / 2)) (from a n)
+-- so for all bits from a place on
+bits-of-half : (m a n : ℕ) → map (bit m) (from (suc a) n) ≡ map (bit (m / 2)) (from a n)
 bits-of-half m a zero = refl
 bits-of-half m a (suc n) = ap₂ {C = List Bool} (λ t ts. t ∷ ts) (bit-of-half m a) (bits-of-half m (suc a) n)
 
 -- the lowest bit says whether the number is odd
-pub lowest-bit : (m : ℕ) → cond (bit m 0) 1 0 ≡ m % 2
-lowest-bit m = go (bit m 0) refl
+lowest-bit : (m : ℕ) → cond (bit m 0) 1 0 ≡ m % 2
+lowest-bit m = by-bit (bit m 0) refl
   where
-    go : (t : Bool) → bit m 0 ≡ t → cond t 1 0 ≡ m % 2
-    go true e = let h = eqb-true (m / 1 % 2) 1 e in omega arith
-    go false e = let h = eqb-false (m / 1 % 2) 1 e in omega arith
+    by-bit : (t : Bool) → bit m 0 ≡ t → cond t 1 0 ≡ m % 2
+    by-bit true e = let h = eqb-true (m / 1 % 2) 1 e in omega arith
+    by-bit false e = let h = eqb-false (m / 1 % 2) 1 e in omega arith
 
+-- n numbers from a on are n
 pub length-from : (a n : ℕ) → length (from a n) ≡ n
 length-from a zero = refl
 length-from a (suc n) = ap suc (length-from (suc a) n)
 
+-- n bits are n
 pub length-bits : (n m : ℕ) → length (bits n m) ≡ n
 length-bits n m = length-map (below n) (bit m) ∙ length-from 0 n
 
 -- the mask of a number's lowest n bits is the number modulo 2 ^ n
-pub bits-mask : (n m : ℕ) → mask (bits n m) ≡ m % 2 ^ n
+bits-mask : (n m : ℕ) → mask (bits n m) ≡ m % 2 ^ n
 bits-mask zero m = omega arith
 bits-mask (suc n) m =
     ap₂ (λ (t k : ℕ). t + 2 * k) (lowest-bit m) (ap mask (bits-of-half m 0 n) ∙ bits-mask n (m / 2))
@@ -70,16 +73,17 @@ mask-bits (suc n) (t ∷ ts) e =
     halved true = omega arith
     halved false = omega arith
 
+-- a mask of n truth values is below 2 ^ n
 pub mask-below : (n : ℕ) (ts : List Bool) → length ts ≡ n → mask ts < 2 ^ n
 mask-below n ts e =
     subst (λ (m : ℕ). m < 2 ^ n) (sym (bits-mask n (mask ts)) ∙ ap mask (mask-bits n ts e)) (mod-lt (mask ts) (pow-pos n))
 
 -- the lowest n bits are those of the number modulo 2 ^ n
-pub bits-modulo : (n m : ℕ) → bits n m ≡ bits n (m % 2 ^ n)
+bits-modulo : (n m : ℕ) → bits n m ≡ bits n (m % 2 ^ n)
 bits-modulo n m = sym (mask-bits n (bits n m) (length-bits n m)) ∙ ap (bits n) (bits-mask n m)
 
 -- a multiple of a power at or above 2 ^ n changes none of the lowest n bits
-pub bits-above : (n : ℕ) {r : ℕ} (q m : ℕ) → n ≤ r → bits n (q * 2 ^ r + m) ≡ bits n m
+bits-above : (n : ℕ) {r : ℕ} (q m : ℕ) → n ≤ r → bits n (q * 2 ^ r + m) ≡ bits n m
 bits-above n {r} q m le = bits-modulo n (q * 2 ^ r + m) ∙ ap (bits n) same ∙ sym (bits-modulo n m)
   where
     two-factors : q * 2 ^ r ≡ q * 2 ^ (r - n) * 2 ^ n
@@ -93,7 +97,7 @@ bits-above n {r} q m le = bits-modulo n (q * 2 ^ r + m) ∙ ap (bits n) same ∙
 -- ---- the fields
 
 -- what stands above a field does not change it
-pub field-above : (w p q m : ℕ) → (q * 2 ^ (w + p) + m) / 2 ^ p % 2 ^ w ≡ m / 2 ^ p % 2 ^ w
+field-above : (w p q m : ℕ) → (q * 2 ^ (w + p) + m) / 2 ^ p % 2 ^ w ≡ m / 2 ^ p % 2 ^ w
 field-above w p q m =
     ap (λ (x : ℕ). (x + m) / 2 ^ p % 2 ^ w) (ap (λ (x : ℕ). q * x) (pow-add 2 w p) ∙ sym (mul-assoc q (2 ^ w) (2 ^ p)))
     ∙ ap (λ (x : ℕ). x / 2 ^ p % 2 ^ w) (add-comm (q * 2 ^ w * 2 ^ p) m)
@@ -113,7 +117,7 @@ module _ (lay : Layout) where
   few-others few h m = few h (List·Memᴰ·tail m)
 
   -- what stands above the fields changes none of them
-  pub fields-above : (k : ℕ) (gs : List Group) (q m : ℕ) → fieldsOf lay k gs (q * 2 ^ (lay .index-bits * k) + m) ≡ fieldsOf lay k gs m
+  fields-above : (k : ℕ) (gs : List Group) (q m : ℕ) → fieldsOf lay k gs (q * 2 ^ (lay .index-bits * k) + m) ≡ fieldsOf lay k gs m
   fields-above k [] q m = refl
   fields-above zero (g ∷ gs) q m = refl
   fields-above (suc k) (g ∷ gs) q m =
@@ -137,7 +141,7 @@ module _ (lay : Layout) where
       (digits-lt (lt-of-lt-of-le h (few g (List·Memᴰ·head refl))) (fields-below k (omega arith) (few-others few) within))
 
   -- the fields of a tuple of indexes, taken apart, are its indexes
-  pub fields-apart : (k : ℕ) {gs : List Group} {is : List ℕ} → length gs ≤ k → Few gs → Within gs is → fieldsOf lay k gs (fields lay k is) ≡ is
+  fields-apart : (k : ℕ) {gs : List Group} {is : List ℕ} → length gs ≤ k → Few gs → Within gs is → fieldsOf lay k gs (fields lay k is) ≡ is
   fields-apart k fit few none = refl
   fields-apart zero fit few (index h within) = absurd (omega arith)
   fields-apart (suc k) fit few (index {g = g} {gs = gs} {i = i} {is = is} h within) =
@@ -147,7 +151,7 @@ module _ (lay : Layout) where
       (fields-above k gs i (fields lay k is) ∙ fields-apart k (omega arith) (few-others few) within)
 
   -- taken apart and packed again, a number lacks what stood in the unused fields and above the fields
-  pub fields-packed : (k : ℕ) (gs : List Group) (m : ℕ) → length gs ≤ k
+  fields-packed : (k : ℕ) (gs : List Group) (m : ℕ) → length gs ≤ k
       → fields lay k (fieldsOf lay k gs m) + m % 2 ^ (lay .index-bits * (k - length gs)) ≡ m % 2 ^ (lay .index-bits * k)
   fields-packed zero [] m fit = omega arith
   fields-packed (suc k) [] m fit = omega (arith, ap (λ (x : ℕ). m % 2 ^ (lay .index-bits * x)) (sub-zero (suc k)))
@@ -173,7 +177,7 @@ module _ {lay : Layout} {G : Groups} (fits : Fits lay G) where
     indexes-fit = fields-below lay (lay .constants) (fits .few-constants) (fits .few-rows) (of .a-row-each)
 
     -- a key is a number of as many bits as the layout has
-    pub key-below : keyOf lay s < 2 ^ (lay .index-bits * lay .constants + lay .rows)
+    key-below : keyOf lay s < 2 ^ (lay .index-bits * lay .constants + lay .rows)
     key-below = subst (λ (x : ℕ). keyOf lay s < x) (sym (pow-add 2 (lay .index-bits * lay .constants) (lay .rows))) (digits-lt indexes-fit mask-fits)
 
     -- above the mask stand the fields

@@ -6,9 +6,11 @@ pub mod Tests
 pub mod Bridge
 pub mod Nets
 pub mod Pigeonhole
+pub mod Units
 pub mod Walk
 pub mod Bound
 pub mod Search
+pub mod RowBelow
 pub mod Sums
 pub mod Groups
 pub mod WrongRows

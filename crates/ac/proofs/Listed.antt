@@ -21,7 +21,7 @@ use Rattle.ac.proofs.Keys.{Few, bits-mask-below, mask-bits, mask-below,
 use Rattle.ac.proofs.Keys.{selection-candidate}
 
 -- the tuples are exactly the lists of an index for each constant, below the number of its rows
-pub tuples-within : (gs : List Group) {is : List ℕ} → List·Memᴰ is (tuples gs) → Within gs is
+tuples-within : (gs : List Group) {is : List ℕ} → List·Memᴰ is (tuples gs) → Within gs is
 tuples-within [] (List·Memᴰ·head e) = subst (Within []) (sym e) none
 tuples-within [] (List·Memᴰ·tail m) = elim m [ ]
 tuples-within (g ∷ gs) m =
@@ -29,7 +29,8 @@ tuples-within (g ∷ gs) m =
     let rest = map-members (λ is. one .0 ∷ is) (tuples gs) (one .2) in
     subst (Within (g ∷ gs)) (sym (rest .2)) (index (below-members (length (g .rows)) (one .1)) (tuples-within gs (rest .1)))
 
-pub within-tuples : {gs : List Group} {is : List ℕ} → Within gs is → List·Memᴰ is (tuples gs)
+-- and every such list is one of the tuples
+within-tuples : {gs : List Group} {is : List ℕ} → Within gs is → List·Memᴰ is (tuples gs)
 within-tuples none = List·Memᴰ·head refl
 within-tuples (index {gs = gs} {i = i} h within) =
     members-flatMap (λ j. map (λ js. j ∷ js) (tuples gs)) (members-below h) (members-map (λ js. i ∷ js) (within-tuples within))
@@ -59,7 +60,7 @@ selections-are G {s} = (only, all)
         (members-map (masked G (s .indexes)) (members-below (mask-below (length (G .balanced)) (s .takes) (of .a-truth-each)))))
 
 -- the tuples ascend by their fields
-pub tuples-ascending : (lay : Layout) (k : ℕ) (gs : List Group) → length gs ≤ k → Few lay gs
+tuples-ascending : (lay : Layout) (k : ℕ) (gs : List Group) → length gs ≤ k → Few lay gs
     → Ascending (λ is js. fields lay k is < fields lay k js) (tuples gs)
 tuples-ascending lay k [] fit few = next (λ b m. absurd (List·Memᴰ·not-nil m)) none
 tuples-ascending lay zero (g ∷ gs) fit few = absurd (omega arith)
@@ -81,7 +82,7 @@ tuples-ascending lay (suc k) (g ∷ gs) fit few =
 
 module _ {lay : Layout} {G : Groups} (fits : Fits lay G) where
   -- the selections ascend by their keys
-  pub selections-ascending : Ascending (λ s t. keyOf lay s < keyOf lay t) (selections G)
+  selections-ascending : Ascending (λ s t. keyOf lay s < keyOf lay t) (selections G)
   selections-ascending =
       ascending-flatMap (allMasked G)
       (λ is m. ascending-map (masked G is) (ascending-in (mask-decides is) (from-ascending 0 (2 ^ length (G .balanced)))))

@@ -10,10 +10,11 @@ use Rattle.ac.specs.Lists.{below, keep, filter, flatMap, Ascending, none
 use Rattle.ac.proofs.Places.{from-bounds, from-member}
 use Rattle.ac.proofs.Order.{ascending-append}
 
--- the numbers below n
+-- the members of `below n` are below n
 pub below-members : (n : ℕ) {i : ℕ} → List·Memᴰ i (below n) → i < n
 below-members n {i} m = omega (arith, from-bounds 0 n i m)
 
+-- and every number below n is one of them
 pub members-below : {i n : ℕ} → i < n → List·Memᴰ i (below n)
 members-below {i} {n} h = from-member 0 n i (omega arith) (omega arith)
 
@@ -24,6 +25,7 @@ module _ {ℓ κ} {A : Type ℓ} {B : Type κ} where
   map-members f (a ∷ xs) (List·Memᴰ·head e) = (a, List·Memᴰ·head refl, e)
   map-members f (a ∷ xs) (List·Memᴰ·tail m) = let t = map-members f xs m in (t .0, List·Memᴰ·tail (t .1), t .2)
 
+  -- and every image of a member is a member of it
   pub members-map : (f : A → B) {a : A} {xs : List A} → List·Memᴰ a xs → List·Memᴰ (f a) (map f xs)
   members-map f (List·Memᴰ·head e) = List·Memᴰ·head (ap f e)
   members-map f (List·Memᴰ·tail m) = List·Memᴰ·tail (members-map f m)
@@ -35,6 +37,7 @@ module _ {ℓ κ} {A : Type ℓ} {B : Type κ} where
       ⊎-elim (λ here. (a, List·Memᴰ·head refl, here)) (λ later. let t = flatMap-members f xs later in (t .0, List·Memᴰ·tail (t .1), t .2))
       (List·Memᴰ·append-cases (f a) m)
 
+  -- and a member of one of them is a member
   pub members-flatMap : (f : A → List B) {a : A} {xs : List A} {b : B} → List·Memᴰ a xs → List·Memᴰ b (f a) → List·Memᴰ b (flatMap f xs)
   members-flatMap f {b = b} (List·Memᴰ·head {xs = rest} e) m = Memᴰ·append-left (flatMap f rest) (subst (λ (c : A). List·Memᴰ b (f c)) e m)
   members-flatMap f (List·Memᴰ·tail {x = a} at) m = Memᴰ·append-right (f a) (members-flatMap f at m)
@@ -46,14 +49,14 @@ module _ {ℓ} {A : Type ℓ} (passes : A → Bool) where
   filter-all (a ∷ xs) all =
       ap₂ {C = List A} (λ p rest. keep p a rest) (all a (List·Memᴰ·head refl)) (filter-all xs (λ b m. all b (List·Memᴰ·tail m)))
 
--- a member stands somewhere in its list
+-- a member stands somewhere in its list, with what is before and after it
 pub member-splits {ℓ} : {A : Type ℓ} {a : A} {xs : List A} → List·Memᴰ a xs → (before : List A) × (after : List A) × (xs ≡ before ++ a ∷ after)
 member-splits {A = A} (List·Memᴰ·head {x = b} {xs = rest} e) = ([], rest, ap {B = List A} (λ c. c ∷ rest) (sym e))
 member-splits {A = A} (List·Memᴰ·tail {x = b} m) =
     let t = member-splits m in
     (b ∷ t .0, t .1, ap {B = List A} (λ l. b ∷ l) (t .2))
 
--- an order that implies another on the members
+-- a list that ascends in one order ascends in any other that follows from it on the members
 pub ascending-in : {A : Type 0} {_before_ _earlier_ : A → A → Type 0} {xs : List A}
     → ((a b : A) → List·Memᴰ a xs → List·Memᴰ b xs → _before_ a b → _earlier_ a b) → Ascending _before_ xs → Ascending _earlier_ xs
 ascending-in implies none = none
@@ -62,6 +65,7 @@ ascending-in implies (next {a = a} first later) =
     (ascending-in (λ b c m n. implies b c (List·Memᴰ·tail m) (List·Memᴰ·tail n)) later)
 
 module _ {A B : Type 0} {_before_ : B → B → Type 0} where
+  -- a mapped list ascends where the images do
   pub ascending-map : (f : A → B) {xs : List A} → Ascending (λ a b. _before_ (f a) (f b)) xs → Ascending _before_ (map f xs)
   ascending-map f none = none
   ascending-map f (next {a = a} {rest = rest} first later) =

@@ -1,16 +1,16 @@
 -- The list in the words of source document 000: the substitutions of the listed selections are a complete set of minimal unifiers.
-use Prim.Native.Nat.{ℕ, suc, _≤_}
+use Prim.Native.Nat.{ℕ, _≤_}
 use native.Mathlib.Omega.{arith}
 use mathlib.Core.Path.{_≡_, refl, sym, ap, subst, subst₂, _∙_}
 use mathlib.Core.Logic.{_↔_, ⊎-elim}
-use mathlib.Core.Bool.{Bool, true, false, cond}
-use mathlib.Core.List.{List, [], _∷_, map, List·Memᴰ, List·Memᴰ·head, List·Memᴰ·tail, List·Memᴰ·not-nil, List·Memᴰ·append-cases}
+use mathlib.Core.Bool.{true, false, cond}
+use mathlib.Core.List.{map, List·Memᴰ}
 use borrow.Author.Tests.{lt-ltb, le-ltb}
 use lib.Dec.{lit≤}
 use Rattle.ac.specs.Term.{Term, atom, flatten}
 use Rattle.ac.specs.Pair.{Mode, IsSide, unifying, count}
 use Rattle.ac.specs.Rows.{Groups, GroupsOf}
-use Rattle.ac.specs.Selection.{Selection, SelectionOf, Taken, takenRows, takenBalanced, taken, placeOf, admissible, value}
+use Rattle.ac.specs.Selection.{Selection, SelectionOf, admissible, value}
 use Rattle.ac.specs.Keys.{Layout, layout, selections, listed}
 use Rattle.ac.specs.Replacement.{Replacement, Unifies, ComesFrom}
 use Rattle.ac.specs.Fages.{Substitution, ACUnifier, MoreGeneral, Pure, anyVariable, variablesOf, tree, substitutionOf, MinimalSet}

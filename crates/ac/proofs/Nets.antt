@@ -8,6 +8,7 @@ use lib.ListN.{length, getD}
 use Rattle.ac.specs.Equation.{weighted, coefficient, Equation, Solves, Minimal, beyond, netted}
 use Rattle.ac.proofs.Vectors.{same-length, least-same, dot-weighted}
 
+-- the differences of the two equations agree
 pub record SameNets (E F : Equation) : Type 0 where
   pub homogeneous : E .homogeneous ≡ F .homogeneous
   pub lengths : length (E .left) ≡ length (F .left)
@@ -52,6 +53,7 @@ module _ {E F : Equation} (same : SameNets E F) where
         not-all-zero = λ t. s .not-all-zero (same .homogeneous ∙ t);
       }
 
+-- Two such equations have the same minimal solutions.
 pub same-nets-minimal : {E F : Equation} → SameNets E F → (v : List ℕ) → Minimal E v ↔ Minimal F v
 same-nets-minimal {E} {F} same v = (one-way same, one-way (same-nets-symmetric same))
   where
@@ -67,13 +69,15 @@ same-nets-minimal {E} {F} same v = (one-way same, one-way (same-nets-symmetric s
 
 -- Net parts.
 
-pub beyond-entry : (ns ms : List ℕ) (i : ℕ) → getD (beyond ns ms) i 0 ≡ getD ns i 0 - getD ms i 0
+-- the excess at a place
+beyond-entry : (ns ms : List ℕ) (i : ℕ) → getD (beyond ns ms) i 0 ≡ getD ns i 0 - getD ms i 0
 beyond-entry [] ms i = omega arith
 beyond-entry (n ∷ ns) [] zero = omega arith
 beyond-entry (n ∷ ns) [] (suc i) = beyond-entry ns [] i
 beyond-entry (n ∷ ns) (m ∷ ms) zero = refl
 beyond-entry (n ∷ ns) (m ∷ ms) (suc i) = beyond-entry ns ms i
 
+-- there is one for each place
 pub length-beyond : (ns ms : List ℕ) → length (beyond ns ms) ≡ length ns
 length-beyond [] ms = refl
 length-beyond (n ∷ ns) [] = ap suc (length-beyond ns [])

@@ -53,11 +53,13 @@ pub exactly-unique : {Row : List ℕ → Type 0} {rows rows′ : List (List ℕ)
 exactly-unique e e′ =
     ascending-unique (λ u v. ≺-asymmetric) (e .ascending) (e′ .ascending) (λ v. (λ m. e′ .all v (e .only v m), λ m. e .all v (e′ .only v m)))
 
--- Ascending lists put together and taken apart.
+-- Ascending lists put together.
 module _ {A : Type 0} {_before_ : A → A → Type 0} where
+  -- one member alone
   pub ascending-single : (a : A) → Ascending _before_ (a ∷ [])
   ascending-single a = next (λ b m. absurd (List·Memᴰ·not-nil m)) none
 
+  -- two lists, all of the one before all of the other
   pub ascending-append : {xs ys : List A} → Ascending _before_ xs → Ascending _before_ ys
       → ((a b : A) → List·Memᴰ a xs → List·Memᴰ b ys → _before_ a b) → Ascending _before_ (xs ++ ys)
   ascending-append none ascending-ys apart = ascending-ys
@@ -70,6 +72,7 @@ module _ {A : Type 0} {_before_ : A → A → Type 0} where
 
 -- The members that pass a test, and their order.
 module _ {A : Type 0} (test : A → Bool) where
+  -- a member that is kept is a member and passes
   pub filter-member : (xs : List A) {a : A} → List·Memᴰ a (filter test xs) → List·Memᴰ a xs × (test a ≡ true)
   filter-member [] m = absurd (List·Memᴰ·not-nil m)
   filter-member (x ∷ xs) {a} m = by-test (test x) refl m (λ m′. filter-member xs m′)
@@ -84,11 +87,13 @@ module _ {A : Type 0} (test : A → Bool) where
   keep-tail true x m = List·Memᴰ·tail m
   keep-tail false x m = m
 
+  -- and a member that passes is kept
   pub member-filter : {xs : List A} {a : A} → List·Memᴰ a xs → test a ≡ true → List·Memᴰ a (filter test xs)
   member-filter {a = a} (List·Memᴰ·head {x = x} {xs = xs} e) t =
       subst (λ b. List·Memᴰ a (keep b x (filter test xs))) (sym (ap test (sym e) ∙ t)) (List·Memᴰ·head e)
   member-filter (List·Memᴰ·tail {x = x} m) t = keep-tail (test x) x (member-filter m t)
 
+  -- in an ascending list those that pass ascend
   pub filter-ascending : {_before_ : A → A → Type 0} {xs : List A} → Ascending _before_ xs → Ascending _before_ (filter test xs)
   filter-ascending none = none
   filter-ascending {_before_} (next {a = x} {rest = xs} others ascending) = by-test (test x) (filter-ascending ascending)

@@ -8,7 +8,7 @@ use mathlib.Core.List.{List, [], _∷_, _++_, List·Memᴰ, List·Memᴰ·head, 
 use borrow.Author.Tests.{ltb-true, lt-ltb, le-ltb}
 use lib.Dec.{ltb}
 use lib.Seq.{append-snoc}
-use lib.ListN.{take, drop, take-append-drop}
+use lib.ListN.{drop, take-append-drop}
 use Rattle.ac.specs.Lists.{keep, filter, Ascending, next}
 use Rattle.ac.specs.Keys.{Begin, start, after, remaining}
 use Rattle.ac.specs.Pages.{page, more, LeastFrom, NoneFrom, boundOf}
@@ -26,16 +26,18 @@ module _ {keys : List ℕ} where
   remaining-members start m = (m, omega arith)
   remaining-members (after k) {key} m = let t = filter-member (ltb k) keys m in (t .0, omega (arith, ltb-true k key (t .1)))
 
-  pub members-remaining : (begin : Begin) {key : ℕ} → List·Memᴰ key keys → boundOf begin ≤ key → List·Memᴰ key (remaining begin keys)
+  -- and every such key remains
+  members-remaining : (begin : Begin) {key : ℕ} → List·Memᴰ key keys → boundOf begin ≤ key → List·Memᴰ key (remaining begin keys)
   members-remaining start m h = m
   members-remaining (after k) {key} m h = member-filter (ltb k) m (lt-ltb k key (omega arith))
 
-  pub remaining-ascending : (begin : Begin) → Ascending _<_ keys → Ascending _<_ (remaining begin keys)
+  -- they ascend
+  remaining-ascending : (begin : Begin) → Ascending _<_ keys → Ascending _<_ (remaining begin keys)
   remaining-ascending start ascending = ascending
   remaining-ascending (after k) ascending = filter-ascending (ltb k) ascending
 
 -- what stands behind a key of an ascending list is what remains after it
-pub remaining-behind : (before : List ℕ) (key : ℕ) {behind : List ℕ} → Ascending _<_ (before ++ key ∷ behind)
+remaining-behind : (before : List ℕ) (key : ℕ) {behind : List ℕ} → Ascending _<_ (before ++ key ∷ behind)
     → remaining (after key) (before ++ key ∷ behind) ≡ behind
 remaining-behind [] key {behind} (next first later) =
     ap (λ t. keep t key (filter (ltb key) behind)) (le-ltb key key (le-refl key)) ∙ filter-all (ltb key) behind (λ c m. lt-ltb key c (first c m))
@@ -52,6 +54,7 @@ module _ {keys : List ℕ} {bound : ℕ} where
   pub passed-over : {key : ℕ} → LeastFrom keys bound key → (key ≡ bound → ⊥) → List·Memᴰ bound keys → ⊥
   passed-over {key} found differs m = differs (omega (arith, found .least bound m (le-refl bound), found .at-or-above))
 
+  -- where the list has no key from the number on
   pub not-reached : NoneFrom keys bound → List·Memᴰ bound keys → ⊥
   not-reached nothing m = omega (arith, nothing bound m)
 

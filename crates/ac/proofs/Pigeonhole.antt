@@ -6,6 +6,7 @@ use mathlib.Core.Path.{_≡_, refl, sym}
 use mathlib.Core.List.{List, [], _∷_, List·Memᴰ, List·Memᴰ·head, List·Memᴰ·tail, List·Memᴰ·not-nil, Memᴰ·cast}
 use lib.ListN.{length}
 
+-- no number stands twice in the list
 pub data Distinct : List ℕ → Type 0 where
   none : Distinct []
   also : {x : ℕ} {xs : List ℕ} → (List·Memᴰ x xs → ⊥) → Distinct xs → Distinct (x ∷ xs)
@@ -42,6 +43,7 @@ without b (also {x = x} {xs = xs} new distinct) = by-head (ℕ-discrete x b) (wi
         still-gone (List·Memᴰ·head e) = other (sym e)
         still-gone (List·Memᴰ·tail m) = w .gone m
 
+-- By induction on the bound: without its largest number the list is at most one shorter.
 pub pigeonhole : (bound : ℕ) {xs : List ℕ} → Distinct xs → ((x : ℕ) → List·Memᴰ x xs → x < bound) → length xs ≤ bound
 pigeonhole zero none small = omega arith
 pigeonhole zero (also {x = x} new distinct) small = absurd (let h : x < 0 = small x (List·Memᴰ·head refl) in omega arith)

@@ -17,6 +17,7 @@ getD-member [] i d h = absurd (omega arith)
 getD-member (x ∷ xs) zero d h = List·Memᴰ·head refl
 getD-member (x ∷ xs) (suc i) d h = List·Memᴰ·tail (getD-member xs i d (omega arith))
 
+-- what stands at a place of a list that is made member by member
 pub getD-map {ℓ κ} : {A : Type ℓ} {B : Type κ} (f : A → B) (xs : List A) (i : ℕ) (d : A) (e : B) → i < length xs → getD (map f xs) i e ≡ f (getD xs i d)
 getD-map f [] i d e h = absurd (omega arith)
 getD-map f (x ∷ xs) zero d e h = refl
@@ -27,6 +28,7 @@ pub from-bounds : (k n : ℕ) (a : ℕ) → List·Memᴰ a (from k n) → (k ≤
 from-bounds k (suc n) a (List·Memᴰ·head e) = omega arith
 from-bounds k (suc n) a (List·Memᴰ·tail m) = omega (arith, from-bounds (suc k) n a m)
 
+-- and every such number is one of them
 pub from-member : (k n : ℕ) (a : ℕ) → k ≤ a → a < k + n → List·Memᴰ a (from k n)
 from-member k zero a low high = absurd (omega arith)
 from-member k (suc n) a low high =
@@ -38,29 +40,30 @@ from-ascending k zero = none
 from-ascending k (suc n) = next (λ a m. from-bounds (suc k) n a m .0) (from-ascending (suc k) n)
 
 -- where a variable stands first
-pub placeOf-here : (x y : ℕ) (ys : List ℕ) → x ≡ y → placeOf x (y ∷ ys) ≡ 0
+placeOf-here : (x y : ℕ) (ys : List ℕ) → x ≡ y → placeOf x (y ∷ ys) ≡ 0
 placeOf-here x y ys e = rw (eq-eqb x y e, placeOf)
 
-pub placeOf-later : (x y : ℕ) (ys : List ℕ) → (x ≡ y → ⊥) → placeOf x (y ∷ ys) ≡ suc (placeOf x ys)
+-- where another stands in front
+placeOf-later : (x y : ℕ) (ys : List ℕ) → (x ≡ y → ⊥) → placeOf x (y ∷ ys) ≡ suc (placeOf x ys)
 placeOf-later x y ys n = rw (ne-eqb x y n, placeOf)
 
 -- the place of a member is one of the list's
 pub placeOf-lt : (xs : List ℕ) (x : ℕ) → List·Memᴰ x xs → placeOf x xs < length xs
 placeOf-lt (y ∷ ys) x (List·Memᴰ·head e) = rw (placeOf-here x y ys e) (omega arith)
-placeOf-lt (y ∷ ys) x (List·Memᴰ·tail m) = go (ℕ-discrete x y) (placeOf-lt ys x m)
+placeOf-lt (y ∷ ys) x (List·Memᴰ·tail m) = by-first (ℕ-discrete x y) (placeOf-lt ys x m)
   where
-    go : Dec (x ≡ y) → placeOf x ys < length ys → placeOf x (y ∷ ys) < suc (length ys)
-    go (yes e) h = rw (placeOf-here x y ys e) (omega arith)
-    go (no n) h = rw (placeOf-later x y ys n) (omega arith)
+    by-first : Dec (x ≡ y) → placeOf x ys < length ys → placeOf x (y ∷ ys) < suc (length ys)
+    by-first (yes e) h = rw (placeOf-here x y ys e) (omega arith)
+    by-first (no n) h = rw (placeOf-later x y ys n) (omega arith)
 
 -- what a list that is made member by member has at a member's place
 pub getD-placeOf : (f : ℕ → ℕ) (xs : List ℕ) (x : ℕ) → List·Memᴰ x xs → getD (map f xs) (placeOf x xs) 0 ≡ f x
 getD-placeOf f (y ∷ ys) x (List·Memᴰ·head e) = rw (placeOf-here x y ys e) (ap f (sym e))
-getD-placeOf f (y ∷ ys) x (List·Memᴰ·tail m) = go (ℕ-discrete x y) (getD-placeOf f ys x m)
+getD-placeOf f (y ∷ ys) x (List·Memᴰ·tail m) = by-first (ℕ-discrete x y) (getD-placeOf f ys x m)
   where
-    go : Dec (x ≡ y) → getD (map f ys) (placeOf x ys) 0 ≡ f x → getD (map f (y ∷ ys)) (placeOf x (y ∷ ys)) 0 ≡ f x
-    go (yes e) h = rw (placeOf-here x y ys e) (ap f (sym e))
-    go (no n) h = rw (placeOf-later x y ys n) h
+    by-first : Dec (x ≡ y) → getD (map f ys) (placeOf x ys) 0 ≡ f x → getD (map f (y ∷ ys)) (placeOf x (y ∷ ys)) 0 ≡ f x
+    by-first (yes e) h = rw (placeOf-here x y ys e) (ap f (sym e))
+    by-first (no n) h = rw (placeOf-later x y ys n) h
 
 -- in an ascending list each member stands at one place only
 pub placeOf-getD : {xs : List ℕ} → Ascending _<_ xs → (i : ℕ) → i < length xs → placeOf (getD xs i 0) xs ≡ i

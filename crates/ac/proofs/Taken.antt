@@ -20,6 +20,7 @@ abbrev pub total : ℕ → (ℕ → ℕ) → List Taken → ℕ
 total i weigh [] = 0
 total i weigh (t ∷ ts) = weigh (t .atom) * getD (t .row) i 0 + total i weigh ts
 
+-- over two lists it is the sum of theirs
 pub total-append : (i : ℕ) (weigh : ℕ → ℕ) (ts us : List Taken) → total i weigh (ts ++ us) ≡ total i weigh ts + total i weigh us
 total-append i weigh [] us = omega arith
 total-append i weigh (t ∷ ts) us = omega (arith, total-append i weigh ts us)
@@ -31,6 +32,7 @@ total-agrees i weigh weigh′ [] agree = refl
 total-agrees i weigh weigh′ (t ∷ ts) agree =
     ap₂ (λ m n. m * getD (t .row) i 0 + n) (agree t (List·Memᴰ·head refl)) (total-agrees i weigh weigh′ ts (λ u m. agree u (List·Memᴰ·tail m)))
 
+-- where no taken atom weighs anything it is 0
 pub total-zero : (i : ℕ) (weigh : ℕ → ℕ) (ts : List Taken) → ((t : Taken) → List·Memᴰ t ts → weigh (t .atom) ≡ 0) → total i weigh ts ≡ 0
 total-zero i weigh [] zeros = refl
 total-zero i weigh (t ∷ ts) zeros = rw (zeros t (List·Memᴰ·head refl)) (omega (arith, total-zero i weigh ts (λ u m. zeros u (List·Memᴰ·tail m))))
@@ -46,10 +48,11 @@ count-valueAt b i (t ∷ ts) =
 abbrev pub filledCount : ℕ → Replacement → ℕ → ℕ → ℕ
 filledCount new fill b a = count b (cond (isNew new a) (fill a) (a ∷ []))
 
--- a new variable becomes what it is filled with, any other atom stays
+-- a new variable becomes what it is filled with
 pub filledCount-new : (new : ℕ) (fill : Replacement) (b a : ℕ) → new ≤ a → filledCount new fill b a ≡ count b (fill a)
 filledCount-new new fill b a h = ap (λ (t : Bool). count b (cond t (fill a) (a ∷ []))) (le-leb new a h)
 
+-- any other atom stays
 pub filledCount-other : (new : ℕ) (fill : Replacement) (b a : ℕ) → a < new → filledCount new fill b a ≡ same b a
 filledCount-other new fill b a h = ap (λ (t : Bool). count b (cond t (fill a) (a ∷ []))) (lt-leb new a h) ∙ omega arith
 
@@ -60,6 +63,7 @@ module _ (new : ℕ) (fill : Replacement) (b : ℕ) where
   put-replicate (suc n) a =
       count-append b (cond (isNew new a) (fill a) (a ∷ [])) (put (isNew new) fill (replicate n a)) ∙ omega (arith, put-replicate n a)
 
+  -- the same sum, with the weight of what each atom becomes
   pub count-filled : (i : ℕ) (ts : List Taken) → count b (put (isNew new) fill (valueAt ts i)) ≡ total i (filledCount new fill b) ts
   count-filled i [] = refl
   count-filled i (t ∷ ts) =
@@ -70,44 +74,48 @@ module _ (new : ℕ) (fill : Replacement) (b : ℕ) where
 -- A place is reached where its value has an atom: whatever the atoms weigh, a sum above 0 reaches.
 pub total-reached : (i : ℕ) (weigh : ℕ → ℕ) (ts : List Taken) → 0 < total i weigh ts → reached ts i ≡ true
 total-reached i weigh [] h = absurd (omega arith)
-total-reached i weigh (t ∷ ts) h = go (ltb 0 (getD (t .row) i 0)) refl (total-reached i weigh ts)
+total-reached i weigh (t ∷ ts) h = by-entry (ltb 0 (getD (t .row) i 0)) refl (total-reached i weigh ts)
   where
-    go : (b : Bool) → ltb 0 (getD (t .row) i 0) ≡ b → (0 < total i weigh ts → reached ts i ≡ true) → reached (t ∷ ts) i ≡ true
-    go true e rest = rw (e, _||_)
-    go false e rest =
+    by-entry : (b : Bool) → ltb 0 (getD (t .row) i 0) ≡ b → (0 < total i weigh ts → reached ts i ≡ true) → reached (t ∷ ts) i ≡ true
+    by-entry true e rest = rw (e, _||_)
+    by-entry false e rest =
         let entry : getD (t .row) i 0 ≡ 0 = omega (arith, ltb-false 0 (getD (t .row) i 0) e) in
         let nothing : weigh (t .atom) * getD (t .row) i 0 ≡ 0 = rw entry (omega arith) in
         rw (e, _||_) (rest (omega arith))
 
+-- a place that is reached has a value that is not empty
 pub reached-value : (i : ℕ) (ts : List Taken) → reached ts i ≡ true → 0 < length (valueAt ts i)
 reached-value i [] h = absurd (false≢true h)
-reached-value i (t ∷ ts) h = go (ltb 0 (getD (t .row) i 0)) refl (reached-value i ts)
+reached-value i (t ∷ ts) h = by-entry (ltb 0 (getD (t .row) i 0)) refl (reached-value i ts)
   where
     long : length (valueAt (t ∷ ts) i) ≡ getD (t .row) i 0 + length (valueAt ts i)
     long =
         length-append (replicate (getD (t .row) i 0) (t .atom)) (valueAt ts i)
         ∙ ap (λ n. n + length (valueAt ts i)) (length-replicate (getD (t .row) i 0) (t .atom))
 
-    go : (b : Bool) → ltb 0 (getD (t .row) i 0) ≡ b → (reached ts i ≡ true → 0 < length (valueAt ts i)) → 0 < length (valueAt (t ∷ ts) i)
-    go true e rest = omega (arith, long, ltb-true 0 (getD (t .row) i 0) e)
-    go false e rest = omega (arith, long, rest (rw (e, _||_) at h))
+    by-entry : (b : Bool) → ltb 0 (getD (t .row) i 0) ≡ b → (reached ts i ≡ true → 0 < length (valueAt ts i)) → 0 < length (valueAt (t ∷ ts) i)
+    by-entry true e rest = omega (arith, long, ltb-true 0 (getD (t .row) i 0) e)
+    by-entry false e rest = omega (arith, long, rest (rw (e, _||_) at h))
 
--- all places are reached: each place is
+-- where all places are reached, each is
 pub allReached-reached : (ts : List Taken) (k : ℕ) → allReached ts k ≡ true → (i : ℕ) → i < k → reached ts i ≡ true
 allReached-reached ts zero all i h = absurd (omega arith)
 allReached-reached ts (suc k) all i h =
     let both = and-eq-true-iff (allReached ts k) (reached ts k) .0 all in
     ⊎-elim (λ (e : i ≡ k). rw e (both .1)) (λ (l : i < k). allReached-reached ts k (both .0) i l) (eq-or-lt-of-le (le-of-suc-le-suc h))
 
+-- and where each place is reached, all are
 pub reached-allReached : (ts : List Taken) (k : ℕ) → ((i : ℕ) → i < k → reached ts i ≡ true) → allReached ts k ≡ true
 reached-allReached ts zero each = refl
 reached-allReached ts (suc k) each = rw (reached-allReached ts k (λ i h. each i (omega arith))) (each k (omega arith))
 
 -- What admissible says where a value may not be empty, and where it may.
 module _ (M : Mode) (new : ℕ) (L R : List ℕ) (G : Groups) (s : Selection) where
+  -- where it may not: every place is reached
   pub admissible-reaches : M .empties ≡ false → admissible M new L R G s ≡ allReached (taken new G s) (length (variables M L R))
   admissible-reaches e = ap (λ (b : Bool). elim b [ true ↦ allTaken (s .takes) | false ↦ allReached (taken new G s) (length (variables M L R)) ]) e
 
+  -- where it may: every balanced row is taken
   pub admissible-takes : M .empties ≡ true → admissible M new L R G s ≡ allTaken (s .takes)
   admissible-takes e = ap (λ (b : Bool). elim b [ true ↦ allTaken (s .takes) | false ↦ allReached (taken new G s) (length (variables M L R)) ]) e
 

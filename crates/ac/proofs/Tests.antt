@@ -13,6 +13,7 @@ pub every-member : {A : Type 0} (passes : A → Bool) {a : A} {xs : List A} → 
 every-member passes {xs = x ∷ xs} e (List·Memᴰ·head q) = ap passes q ∙ both (passes x) (every passes xs) e .0
 every-member passes {xs = x ∷ xs} e (List·Memᴰ·tail m) = every-member passes (both (passes x) (every passes xs) e .1) m
 
+-- where each member passes, every one does
 pub member-every : {A : Type 0} (passes : A → Bool) (xs : List A) → ((a : A) → List·Memᴰ a xs → passes a ≡ true) → every passes xs ≡ true
 member-every passes [] each = refl
 member-every passes (a ∷ xs) each =
@@ -22,12 +23,14 @@ member-every passes (a ∷ xs) each =
 abbrev pub Tests : {A : Type 0} → (A → A → Bool) → Type 0
 Tests {A} same = (a b : A) → same a b ≡ true → a ≡ b
 
+-- what it is for lists
 abbrev pub equalLists : {A : Type 0} → (A → A → Bool) → List A → List A → Bool
 equalLists same [] [] = true
 equalLists same [] (b ∷ ys) = false
 equalLists same (a ∷ xs) [] = false
 equalLists same (a ∷ xs) (b ∷ ys) = same a b && equalLists same xs ys
 
+-- lists that pass it are equal
 pub lists-equal : {A : Type 0} {same : A → A → Bool} → Tests same → Tests (equalLists same)
 lists-equal tests [] [] e = refl
 lists-equal tests [] (b ∷ ys) e = absurd (false≢true e)

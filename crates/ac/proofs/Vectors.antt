@@ -11,20 +11,22 @@ use Rattle.ac.specs.Lists.{sum}
 use Rattle.ac.specs.Equation.{dot, weighted, coefficient}
 use Rattle.ac.specs.Rows.{Least, Exactly, _≼_, _≼_.none, _≼_.place}
 
--- At or below.
-
+-- A vector that is at or below another has as many places.
 pub same-length : {u v : List ℕ} → u ≼ v → length u ≡ length v
 same-length none = refl
 same-length (place h below) = ap suc (same-length below)
 
+-- a vector is at or below itself
 pub ≼-refl : (v : List ℕ) → v ≼ v
 ≼-refl [] = none
 ≼-refl (n ∷ v) = place (le-refl n) (≼-refl v)
 
+-- what is at or below a vector is at or below all that this one is at or below
 pub ≼-trans : {u v w : List ℕ} → u ≼ v → v ≼ w → u ≼ w
 ≼-trans none none = none
 ≼-trans (place h below) (place h′ below′) = place (le-trans h h′) (≼-trans below below′)
 
+-- a vector that is at or below another has no larger sum
 pub sum-mono : {u v : List ℕ} → u ≼ v → sum u ≤ sum v
 sum-mono none = le-refl 0
 sum-mono (place h below) = omega (arith, sum-mono below)
@@ -41,6 +43,7 @@ pub ≼-entry : {u v : List ℕ} → u ≼ v → (i : ℕ) → getD u i 0 ≤ ge
 ≼-entry (place h below) zero = h
 ≼-entry (place h below) (suc i) = ≼-entry below i
 
+-- and the other way round
 pub ≼-entries : (u v : List ℕ) → length u ≡ length v → ((i : ℕ) → i < length v → getD u i 0 ≤ getD v i 0) → u ≼ v
 ≼-entries [] [] same each = none
 ≼-entries [] (n ∷ v) same each = absurd (omega arith)
@@ -76,10 +79,12 @@ least-unless {Has} {v} has smaller = record { has = has; no-other = λ u below h
     by-sum u below h (yes le) = ≼-equal below le
     by-sum u below h (no gt) = absurd (smaller u below (omega arith) h)
 
-pub weighted-none : (v : List ℕ) → weighted (λ i. 0) v ≡ 0
+-- with no coefficients the sum is 0
+weighted-none : (v : List ℕ) → weighted (λ i. 0) v ≡ 0
 weighted-none [] = refl
 weighted-none (x ∷ v) = omega (arith, weighted-none v)
 
+-- the product with a list is the sum with its coefficients
 pub dot-weighted : (l v : List ℕ) → dot l v ≡ weighted (coefficient l) v
 dot-weighted [] v = sym (weighted-none v)
 dot-weighted (c ∷ l) [] = refl
@@ -93,6 +98,7 @@ pub record Rest (u v : List ℕ) : Type 0 where
   pub sums : sum v ≡ sum u + sum rest
   pub products : (p : ℕ → ℕ) → weighted p v ≡ weighted p u + weighted p rest
 
+-- the rest is the difference, place by place
 pub rest-of : {u v : List ℕ} → u ≼ v → Rest u v
 rest-of none = record { rest = []; below = none; entries = λ i. refl; sums = refl; products = λ p. refl }
 rest-of (place {m = m} {n = n} {u = u} {v = v} h below) = with-rest (rest-of below)

@@ -3,112 +3,23 @@
 -- p and n are the coefficients of the two sides. A unit at a place is up if n ≤ p there, else down. A smallest solution v of weighted p v = weighted n v
 -- is built up from 0, one unit at a time: an up unit while the difference of the two sums is at most 0, a down unit while it is above. The difference
 -- then stays within the largest coefficients, and no difference is met twice: between two meetings a smaller solution would have been taken.
-use Prim.Native.Nat.{ℕ, zero, suc, _+_, _*_, _-_, _≤_, _<_}
+use Prim.Native.Nat.{ℕ, zero, suc, _+_, _-_, _≤_, _<_}
 use native.Mathlib.Omega.{arith}
-use native.Mathlib.Nat.{le-refl, mul-le-mul-right}
-use native.Mathlib.Decide.{decLe, decLt}
+use native.Mathlib.Nat.{le-refl}
+use native.Mathlib.Decide.{decLe}
 use mathlib.Core.Path.{_≡_, refl, sym, ap, subst}
 use mathlib.Core.Logic.{_⊎_, inl, inr}
-use mathlib.Core.Bool.{Bool, true, false, not, cond}
+use mathlib.Core.Bool.{Bool, false, not, cond}
 use mathlib.Core.List.{List, [], _∷_, List·Memᴰ, List·Memᴰ·head, List·Memᴰ·tail, List·Memᴰ·not-nil}
 use lib.ListN.{length}
 use borrow.Author.Tests.{leb-true, leb-false, not-true, not-false}
 use Rattle.ac.specs.Lists.{sum}
-use Rattle.ac.specs.Rows.{_≼_, _≼_.none, _≼_.place}
+use Rattle.ac.specs.Rows.{_≼_, _≼_.none}
 use Rattle.ac.specs.Equation.{weighted}
 use Rattle.ac.specs.Budgets.{isUp, up, down}
-use Rattle.ac.proofs.Vectors.{≼-refl, ≼-trans, ≼-equal, sum-mono, Rest, rest-of}
+use Rattle.ac.proofs.Vectors.{≼-trans, ≼-equal, sum-mono, Rest, rest-of}
+use Rattle.ac.proofs.Units.{weighted-suc, weighted-zero, Zero, zero-below, UnitLeft, longer, NoneLeft, unit-or-none}
 use Rattle.ac.proofs.Pigeonhole.{Distinct, Distinct.none, Distinct.also, pigeonhole}
-
--- Sums over the entries.
-
-pub sum-weighted : (v : List ℕ) → sum v ≡ weighted (λ i. 1) v
-sum-weighted [] = refl
-sum-weighted (x ∷ v) = omega (arith, sum-weighted v)
-
-pub weighted-suc : (p : ℕ → ℕ) (v : List ℕ) → weighted (λ i. suc (p i)) v ≡ weighted p v + sum v
-weighted-suc p [] = refl
-weighted-suc p (x ∷ v) = omega (arith, weighted-suc (λ i. p (suc i)) v)
-
-pub weighted-zero : (p : ℕ → ℕ) (v : List ℕ) → sum v ≤ 0 → weighted p v ≡ 0
-weighted-zero p [] small = refl
-weighted-zero p (x ∷ v) small =
-    let e : x ≡ 0 = omega arith in omega (arith, ap (λ z. p 0 * z) e, weighted-zero (λ i. p (suc i)) v (let h : sum v ≤ 0 = omega arith in h))
-
--- below every vector stands the one that is all zero
-record Zero (v : List ℕ) : Type 0 where
-  zeros : List ℕ
-  below : zeros ≼ v
-  empty : sum zeros ≡ 0
-
-zero-below : (v : List ℕ) → Zero v
-zero-below [] = record { zeros = []; below = none; empty = refl }
-zero-below (x ∷ v) = let z : Zero v = zero-below v in
-    record { zeros = 0 ∷ z .zeros; below = place (let h : 0 ≤ x = omega arith in h) (z .below); empty = omega (arith, z .empty) }
-
--- One unit more, at a place that is wanted.
-record Unit-left (wanted : ℕ → Bool) (u v : List ℕ) : Type 0 where
-  at : ℕ
-  is-wanted : wanted at ≡ true
-  next : List ℕ
-  above : u ≼ next
-  below : next ≼ v
-  adds : (f : ℕ → ℕ) → weighted f next ≡ weighted f u + f at
-
--- one unit is one more in the sum
-longer : {wanted : ℕ → Bool} {u v : List ℕ} (unit : Unit-left wanted u v) → sum (unit .next) ≡ suc (sum u)
-longer {u = u} unit = omega (arith, sum-weighted (unit .next), sum-weighted u, unit .adds (λ i. 1))
-
--- no such unit is left: where f is at most g at the other places, v − u weighs no more by f than by g
-abbrev None-left : (ℕ → Bool) → List ℕ → List ℕ → Type 0
-None-left wanted u v = (f g : ℕ → ℕ) → ((i : ℕ) → wanted i ≡ false → f i ≤ g i) → weighted g u + weighted f v ≤ weighted f u + weighted g v
-
-rearranged : (a b m n : ℕ) → a ≤ b → m ≤ n → b * m + a * n ≤ a * m + b * n
-rearranged a b m n h le =
-    let e : n ≡ m + (n - m) = omega arith in
-    omega (arith, mul-le-mul-right (n - m) h, ap (λ z. a * z) e, ap (λ z. b * z) e)
-
-module _ (wanted : ℕ → Bool) {m n : ℕ} {u v : List ℕ} (le : m ≤ n) (below : u ≼ v) where
-  unit-here : m < n → wanted 0 ≡ true → Unit-left wanted (m ∷ u) (n ∷ v)
-  unit-here less is =
-      record {
-        at = 0;
-        is-wanted = is;
-        next = suc m ∷ u;
-        above = place (let h : m ≤ suc m = omega arith in h) (≼-refl u);
-        below = place less below;
-        adds = λ f. omega arith;
-      }
-
-  unit-later : Unit-left (λ i. wanted (suc i)) u v → Unit-left wanted (m ∷ u) (n ∷ v)
-  unit-later unit =
-      record {
-        at = suc (unit .at);
-        is-wanted = unit .is-wanted;
-        next = m ∷ unit .next;
-        above = place (le-refl m) (unit .above);
-        below = place le (unit .below);
-        adds = λ f. omega (arith, unit .adds (λ i. f (suc i)));
-      }
-
-  none-here : (m ≡ n) ⊎ (wanted 0 ≡ false) → None-left (λ i. wanted (suc i)) u v → None-left wanted (m ∷ u) (n ∷ v)
-  none-here (inl e) nothing f g h =
-      omega (arith, nothing (λ i. f (suc i)) (λ i. g (suc i)) (λ i. h (suc i)), ap (λ z. f 0 * z) e, ap (λ z. g 0 * z) e)
-  none-here (inr other) nothing f g h =
-      omega (arith, nothing (λ i. f (suc i)) (λ i. g (suc i)) (λ i. h (suc i)), rearranged (f 0) (g 0) m n (h 0 other) le)
-
-unit-or-none : (wanted : ℕ → Bool) {u v : List ℕ} → u ≼ v → Unit-left wanted u v ⊎ None-left wanted u v
-unit-or-none wanted none = inr (λ f g h. le-refl 0)
-unit-or-none wanted (place {m = m} {n = n} {u = u} {v = v} le below) = by-rest (unit-or-none (λ i. wanted (suc i)) below)
-  where
-    by-first : (b : Bool) → wanted 0 ≡ b → Dec (m < n) → None-left (λ i. wanted (suc i)) u v → Unit-left wanted (m ∷ u) (n ∷ v) ⊎ None-left wanted (m ∷ u) (n ∷ v)
-    by-first false e d nothing = inr (none-here wanted le below (inr e) nothing)
-    by-first true e (yes less) nothing = inl (unit-here wanted le below less e)
-    by-first true e (no not-less) nothing = inr (none-here wanted le below (inl (let h : m ≡ n = omega arith in h)) nothing)
-
-    by-rest : Unit-left (λ i. wanted (suc i)) u v ⊎ None-left (λ i. wanted (suc i)) u v → Unit-left wanted (m ∷ u) (n ∷ v) ⊎ None-left wanted (m ∷ u) (n ∷ v)
-    by-rest (inl unit) = inl (unit-later wanted le below unit)
-    by-rest (inr nothing) = by-first (wanted 0) refl (decLt m n) nothing
 
 -- The starts of the steps of one kind: the differences, from `first` on, of q over r at vectors passed on the way to u, no two equal.
 module _ (q r : ℕ → ℕ) (first limit : ℕ) where
@@ -161,7 +72,7 @@ module _ (q r : ℕ → ℕ) (first limit : ℕ) where
         omega (arith, no-smaller (d .rest) (≼-trans (d .below) below) equal positive, sum-mono (d .below))
 
     -- a unit is taken at a difference that is within the limits, and not met before
-    one-start-more : {wanted : ℕ → Bool} {u : List ℕ} {many : ℕ} (unit : Unit-left wanted u v) → u ≼ v
+    one-start-more : {wanted : ℕ → Bool} {u : List ℕ} {many : ℕ} (unit : UnitLeft wanted u v) → u ≼ v
         → weighted r u + first ≤ weighted q u → weighted q u < weighted r u + (first + limit) → Starts u many → Starts (unit .next) (suc many)
     one-start-more {wanted} {u} {many} unit below low high st =
         record {
@@ -221,7 +132,7 @@ module _ (p n : ℕ → ℕ) (v : List ℕ) (smallest : Smallest p n v) (B C : �
     abbrev here : List ℕ
     here = w .vector
 
-    step-up : weighted p here ≤ weighted n here → Unit-left (isUp p n) here v → Walked (suc k)
+    step-up : weighted p here ≤ weighted n here → UnitLeft (isUp p n) here v → Walked (suc k)
     step-up low unit =
         record {
           vector = unit .next;
@@ -242,7 +153,7 @@ module _ (p n : ℕ → ℕ) (v : List ℕ) (smallest : Smallest p n v) (B C : �
         reversed : (d : List ℕ) → d ≼ v → weighted n d ≡ weighted p d → 0 < sum d → sum v ≤ sum d
         reversed d le e positive = smallest .no-smaller d le (sym e) positive
 
-    step-down : weighted n here < weighted p here → Unit-left (λ i. not (isUp p n i)) here v → Walked (suc k)
+    step-down : weighted n here < weighted p here → UnitLeft (λ i. not (isUp p n i)) here v → Walked (suc k)
     step-down high unit =
         record {
           vector = unit .next;
@@ -266,7 +177,7 @@ module _ (p n : ℕ → ℕ) (v : List ℕ) (smallest : Smallest p n v) (B C : �
         as-many = omega (arith, unit .adds (up p n), ap (λ b. cond {A = ℕ} b 1 0) is-down)
 
     -- while the difference is at most 0, an up unit is left: otherwise nothing is
-    take-up : weighted p here ≤ weighted n here → Unit-left (isUp p n) here v ⊎ None-left (isUp p n) here v → Walked (suc k)
+    take-up : weighted p here ≤ weighted n here → UnitLeft (isUp p n) here v ⊎ NoneLeft (isUp p n) here v → Walked (suc k)
     take-up low (inl unit) = step-up low unit
     take-up low (inr nothing) =
         absurd
@@ -275,7 +186,7 @@ module _ (p n : ℕ → ℕ) (v : List ℕ) (smallest : Smallest p n v) (B C : �
         omega (arith, weighted-suc p here, weighted-suc p v, smallest .equal, w .size))
 
     -- while it is above 0, a down unit is left: otherwise it would stay above
-    take-down : weighted n here < weighted p here → Unit-left (λ i. not (isUp p n i)) here v ⊎ None-left (λ i. not (isUp p n i)) here v → Walked (suc k)
+    take-down : weighted n here < weighted p here → UnitLeft (λ i. not (isUp p n i)) here v ⊎ NoneLeft (λ i. not (isUp p n i)) here v → Walked (suc k)
     take-down high (inl unit) = step-down high unit
     take-down high (inr nothing) =
         absurd

@@ -47,15 +47,15 @@ all-pass = refl
 
 has-rows : (a k : ℕ) (gs : List Group) → hasRows a k gs ≡ true → (g : Group) × List·Memᴰ g gs × (g .constant ≡ a) × (length (g .rows) ≡ k)
 has-rows a k [] e = absurd (false≢true e)
-has-rows a k (g ∷ gs) e = go (eqb (g .constant) a && eqb (length (g .rows)) k) refl e (λ later. has-rows a k gs later)
+has-rows a k (g ∷ gs) e = by-first (eqb (g .constant) a && eqb (length (g .rows)) k) refl e (λ later. has-rows a k gs later)
   where
-    go : (here : Bool) → eqb (g .constant) a && eqb (length (g .rows)) k ≡ here → here || hasRows a k gs ≡ true
+    by-first : (here : Bool) → eqb (g .constant) a && eqb (length (g .rows)) k ≡ here → here || hasRows a k gs ≡ true
         → (hasRows a k gs ≡ true → (h : Group) × List·Memᴰ h gs × (h .constant ≡ a) × (length (h .rows) ≡ k))
         → (h : Group) × List·Memᴰ h (g ∷ gs) × (h .constant ≡ a) × (length (h .rows) ≡ k)
-    go true e e′ later =
+    by-first true e e′ later =
         let t = both (eqb (g .constant) a) (eqb (length (g .rows)) k) e in
         (g, List·Memᴰ·head refl, eqb-true (g .constant) a (t .0), eqb-true (length (g .rows)) k (t .1))
-    go false e e′ later = let t = later e′ in (t .0, List·Memᴰ·tail (t .1), t .2, t .3)
+    by-first false e e′ later = let t = later e′ in (t .0, List·Memᴰ·tail (t .1), t .2, t .3)
 
 -- what passes the test holds
 test-holds : (L R : List ℕ) (G : Groups) (what : Printed) → test L R G what ≡ true → Holds L R G what

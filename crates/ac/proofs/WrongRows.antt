@@ -9,7 +9,7 @@ use lib.ListN.{length, getD, drop}
 use lib.Dec.{leb, eqb}
 use Rattle.ac.specs.Lists.{filter, sum}
 use Rattle.ac.specs.Pair.{Mode, unifying, count, variables, unbalanced}
-use Rattle.ac.specs.Equation.{Equation, balancedEquation, equationOf}
+use Rattle.ac.specs.Equation.{Equation, equation, onLeft, onRight, balancedEquation, equationOf}
 use Rattle.ac.specs.Search.{lower, leastOf, candidates, minimalSolutions, groups}
 
 -- "Bounding a variable by the counts on its own side. The other side sets it: see pair 6."
@@ -30,13 +30,7 @@ unevenVariables M L R = filter (λ x. not (eqb (count x L) (count x R))) (variab
 
 abbrev droppingEquation : Mode → List ℕ → List ℕ → Equation
 droppingEquation M L R =
-    record {
-      left = map (λ x. count x L) (unevenVariables M L R);
-      right = map (λ x. count x R) (unevenVariables M L R);
-      left-offset = 0;
-      right-offset = 0;
-      homogeneous = true;
-    }
+    equation (map (λ x. count x L) (unevenVariables M L R)) (map (λ x. count x R) (unevenVariables M L R)) 0 0 true
 
 -- pair 7, v0 and v0: the row 1 is missed
 pub dropping-differs : minimalSolutions (droppingEquation unifying (0 ∷ []) (0 ∷ [])) ≢ groups unifying (0 ∷ []) (0 ∷ []) .balanced
@@ -45,13 +39,7 @@ dropping-differs e = omega (arith, ap length e)
 -- "Mixing two constants in one row": one equation for all unbalanced constants together.
 abbrev mixedEquation : Mode → List ℕ → List ℕ → Equation
 mixedEquation M L R =
-    record {
-      left = map (λ x. count x L) (variables M L R);
-      right = map (λ x. count x R) (variables M L R);
-      left-offset = sum (map (λ c. count c L) (unbalanced M L R));
-      right-offset = sum (map (λ c. count c R) (unbalanced M L R));
-      homogeneous = false;
-    }
+    equation (onLeft M L R) (onRight M L R) (sum (map (λ c. count c L) (unbalanced M L R))) (sum (map (λ c. count c R) (unbalanced M L R))) false
 
 -- pair 12, v0+v1 and c0+c1: the rows 02, 11, 20, where each constant has 01 and 10
 pub mixing-differs : minimalSolutions (mixedEquation unifying (0 ∷ 1 ∷ []) (64 ∷ 65 ∷ [])) ≢ minimalSolutions (equationOf unifying (0 ∷ 1 ∷ []) (64 ∷ 65 ∷ []) 64)

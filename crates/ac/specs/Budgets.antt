@@ -1,5 +1,5 @@
--- The two budgets of a row: how far a search must go. Document 01, "From sides to equations", leaves it to be proved from Huet's bound of 1978;
--- Lambert's bound of 1987 is over the two sums that stand here, and `proofs/Bound.antt` proves it.
+-- The two budgets of a row. Document 01, "From sides to equations": "How far the search must go is the team's to prove; Huet's bound of 1978 on minimal
+-- solutions is the public starting point." Lambert's bound of 1987 is on the two sums that stand here; `proofs/Bound.antt` proves it.
 use Prim.Native.Nat.{ℕ, _+_, _≤_}
 use mathlib.Core.Bool.{Bool, cond}
 use mathlib.Core.List.{List}

@@ -1,5 +1,5 @@
--- The working form in ℕ: a weight is 0, or minus a constant's net count, exactly when two sums of naturals agree.
--- `proofs/Bridge.antt` ties it to the signed weight of document 01.
+-- The working form in ℕ of the weights of document 01, "From sides to equations": a weight is 0, or minus a constant's net count, exactly when two sums
+-- of naturals agree. `proofs/Bridge.antt` proves it.
 use Prim.Native.Nat.{ℕ, suc, _+_, _*_, _-_, _<_}
 use mathlib.Core.Path.{_≡_}
 use mathlib.Core.Bool.{Bool, true, false}
@@ -32,6 +32,12 @@ pub record Equation : Type 0 where
   pub right-offset : ℕ
   pub homogeneous : Bool
 
+-- the equation of these coefficients and offsets
+abbrev pub equation : List ℕ → List ℕ → ℕ → ℕ → Bool → Equation
+equation left right left-offset right-offset homogeneous =
+    record { left = left; right = right; left-offset = left-offset; right-offset = right-offset; homogeneous = homogeneous }
+
+-- the vector solves the equation
 pub record Solves (E : Equation) (v : List ℕ) : Type 0 where
   pub equal : dot (E .left) v + E .left-offset ≡ dot (E .right) v + E .right-offset
   pub not-all-zero : E .homogeneous ≡ true → 0 < sum v
@@ -60,15 +66,21 @@ netted E =
 
 -- the equations whose minimal solutions are the rows of a pair
 module _ (M : Mode) (L R : List ℕ) where
-  abbrev pub balancedEquation : Equation
-  balancedEquation =
-      record
-      { left = map (λ x. count x L) (variables M L R); right = map (λ x. count x R) (variables M L R); left-offset = 0; right-offset = 0; homogeneous = true }
+  -- the variables' occurrences on the left
+  abbrev pub onLeft : List ℕ
+  onLeft = map (λ x. count x L) (variables M L R)
 
+  -- and on the right
+  abbrev pub onRight : List ℕ
+  onRight = map (λ x. count x R) (variables M L R)
+
+  -- of the balanced rows: "not all zero, of weight 0"
+  abbrev pub balancedEquation : Equation
+  balancedEquation = equation onLeft onRight 0 0 true
+
+  -- of the rows of a constant: "whose weight is minus the constant's net count"
   abbrev pub equationOf : ℕ → Equation
-  equationOf c =
-      record
-      { left = map (λ x. count x L) (variables M L R); right = map (λ x. count x R) (variables M L R); left-offset = count c L; right-offset = count c R; homogeneous = false }
+  equationOf c = equation onLeft onRight (count c L) (count c R) false
 
 -- at place i, the sum over the rows of multiplicity times entry
 abbrev pub combined : List ℕ → List (List ℕ) → ℕ → ℕ

@@ -65,11 +65,12 @@ pub record MinimalSet (M : Mode) (new : ℕ) (s t : Term) (unifiers : List Subst
   pub minimality : (σ σ′ : Substitution) → List·Memᴰ σ unifiers → List·Memᴰ σ′ unifiers → MoreGeneral (anyVariable M new) (variablesOf M s t) σ σ′
       → σ ≡ σ′
 
--- the term of a list of atoms, leaning to the right; the empty list, which is no term's, has any
+-- the term of an atom and others after it, leaning to the right
 abbrev pub comb : ℕ → List ℕ → Term
 comb a [] = atom a
 comb a (b ∷ rest) = plus (atom a) (comb b rest)
 
+-- the term of a list of atoms; the empty list, which is no term's flattening, gets any
 abbrev pub tree : List ℕ → Term
 tree [] = atom 0
 tree (a ∷ rest) = comb a rest

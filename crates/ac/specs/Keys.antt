@@ -77,10 +77,11 @@ abbrev pub selections : Groups → List Selection
 selections G =
     flatMap (λ is. map (λ m. record { indexes = is; takes = bits (length (G .balanced)) m }) (below (2 ^ length (G .balanced)))) (tuples (G .constants))
 
--- The list: the admissible selections in that order, by their keys.
+-- "The list is ascending by key": the admissible selections in that order.
 abbrev pub listed : Mode → Layout → List ℕ → List ℕ → Groups → List Selection
 listed M lay L R G = filter (admissible M (lay .new) L R G) (selections G)
 
+-- and the keys alone: what document 01 calls the list
 abbrev pub keys : Mode → Layout → List ℕ → List ℕ → Groups → List ℕ
 keys M lay L R G = map (keyOf lay) (listed M lay L R G)
 

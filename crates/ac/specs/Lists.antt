@@ -1,4 +1,4 @@
--- Words on lists that the definitions share.
+-- Words on lists that the definitions share; none is a notion of its own in document 01, but for a lent buffer that receives what is written.
 use Prim.Native.Nat.{ℕ, zero, suc, _+_}
 use mathlib.Core.Bool.{Bool, true, false, _&&_}
 use mathlib.Core.List.{List, [], _∷_, _++_, List·Memᴰ}

@@ -1,4 +1,5 @@
--- Replacements, which unify, and which come from a selection (demand 3; source document 000, in flattened form).
+-- Replacements, which unify, and which come from another (document 01, "What every promise has to say", demand 3; source document 000, section 1.1, in
+-- flattened form).
 use Prim.Native.Nat.{ℕ, _<_, _≤_}
 use mathlib.Core.Path.{_≡_}
 use mathlib.Core.Bool.{Bool, false, cond}

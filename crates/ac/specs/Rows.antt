@@ -41,6 +41,7 @@ pub record Exactly (Row : List ℕ → Type 0) (rows : List (List ℕ)) : Type 0
   pub all : (v : List ℕ) → Row v → List·Memᴰ v rows
 
 module _ (M : Mode) (L R : List ℕ) where
+  -- the weight over the pair's variables
   abbrev pub weight : List ℕ → ℤ
   weight = weigh (net L R) (variables M L R)
 
@@ -70,6 +71,7 @@ pub record Groups : Type 0 where
   pub balanced : List (List ℕ)
   pub constants : List Group
 
+-- These are the groups of the pair: exactly the balanced rows, and for each unbalanced constant exactly its rows.
 pub record GroupsOf (M : Mode) (L R : List ℕ) (G : Groups) : Type 0 where
   pub balanced-rows : Exactly (BalancedRow M L R) (G .balanced)
   pub the-constants : map (λ (g : Group). g .constant) (G .constants) ≡ unbalanced M L R

@@ -18,6 +18,7 @@ pub data Within : List Group → List ℕ → Type 0 where
   none : Within [] []
   index : {g : Group} {gs : List Group} {i : ℕ} {is : List ℕ} → i < length (g .rows) → Within gs is → Within (g ∷ gs) (i ∷ is)
 
+-- the selection has a row for each constant of the groups and a truth value for each of their balanced rows
 pub record SelectionOf (G : Groups) (s : Selection) : Type 0 where
   pub a-row-each : Within (G .constants) (s .indexes)
   pub a-truth-each : length (s .takes) ≡ length (G .balanced)
@@ -59,7 +60,7 @@ abbrev pub allReached : List Taken → ℕ → Bool
 allReached ts zero = true
 allReached ts (suc k) = allReached ts k && reached ts k
 
--- It is admissible if each variable is above 0 in at least one taken row; where a variable may be empty, if all balanced rows are taken.
+-- every balanced row is taken
 abbrev pub allTaken : List Bool → Bool
 allTaken [] = true
 allTaken (t ∷ ts) = t && allTaken ts
@@ -70,6 +71,7 @@ placeOf x [] = 0
 placeOf x (y ∷ ys) = elim (eqb x y) [ true ↦ 0 | false ↦ suc (placeOf x ys) ]
 
 module _ (M : Mode) (new : ℕ) (L R : List ℕ) (G : Groups) where
+  -- It is admissible if each variable is above 0 in at least one taken row; where a variable may be empty, if all balanced rows are taken.
   abbrev pub admissible : Selection → Bool
   admissible s = elim (M .empties) [ true ↦ allTaken (s .takes) | false ↦ allReached (taken new G s) (length (variables M L R)) ]
 

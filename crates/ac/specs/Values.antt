@@ -8,6 +8,7 @@ pub record Binding : Type 0 where
   pub variable : ℕ
   pub value : List ℕ
 
+-- each variable's byte, the number of its atoms and the atoms, one variable after the other
 abbrev pub laidOut : List Binding → List ℕ
 laidOut [] = []
 laidOut (b ∷ bs) = (b .variable ∷ length (b .value) ∷ b .value) ++ laidOut bs

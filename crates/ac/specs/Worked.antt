@@ -9,19 +9,23 @@ use Rattle.ac.specs.Selection.{value}
 use Rattle.ac.specs.Keys.{layout, listed, keys}
 use Rattle.ac.specs.Values.{Binding, bindings}
 
--- 0 to 63 are variables v0 to v63, 64 to 127 are constants c0 to c63; in answers 192 to 207 are new variables n0 to n15
+-- 0 to 63 are variables v0 to v63, 64 to 127 are constants c0 to c63; in answers 192 to 207 are new variables n0 to n15.
+
+-- the variable vi
 abbrev v : ℕ → ℕ
 v i = i
 
+-- the constant ci
 abbrev c : ℕ → ℕ
 c i = 64 + i
 
+-- the new variable ni
 abbrev n : ℕ → ℕ
 n i = 192 + i
 
 -- a variable and its value
 infix 60 _is_
-abbrev pub _is_ : ℕ → List ℕ → Binding
+abbrev _is_ : ℕ → List ℕ → Binding
 x is atoms = record { variable = x; value = atoms }
 
 -- What the document prints of a pair.
@@ -36,11 +40,13 @@ pub data Printed : Type 0 where
 abbrev thirteen : Printed
 thirteen = the-keys []
 
+-- two sides, and what the document prints of them
 pub record Pair : Type 0 where
   pub left : List ℕ
   pub right : List ℕ
   pub printed : List Printed
 
+-- the table
 abbrev pub pairs : List Pair
 pairs =
     -- 1. v0 and v1+c0: one, v0=c0+n0 v1=n0.

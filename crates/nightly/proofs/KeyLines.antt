@@ -1,11 +1,10 @@
--- Laws of the lines of keys: what the values that were written say, and one line after another.
-use Prim.Native.Nat.{ℕ, suc, _+_, _<_, min}
+-- Laws of a key's line: what the values that were written say.
+use Prim.Native.Nat.{ℕ, min}
 use native.Mathlib.Omega.{arith}
 use mathlib.Core.Path.{_≡_, ap, sym, _∙_}
-use mathlib.Core.List.{List, [], _∷_, _++_, append-assoc, append-nil, List·Memᴰ}
-use lib.ListN.{length, take, drop, getD, length-append}
-use lib.Seq.{take-append-seam, take-suc}
-use Rattle.ac.specs.Lists.{flatMap}
+use mathlib.Core.List.{List, _++_}
+use lib.ListN.{length, take, drop, length-append}
+use lib.Seq.{take-append-seam}
 use Rattle.ac.specs.Pair.{Mode}
 use Rattle.ac.specs.Rows.{Groups}
 use Rattle.values.specs.Given.{LongValue}
@@ -23,8 +22,7 @@ pub written-values : {M : Mode} {L R : List ℕ} {G : Groups} {key n : ℕ} {out
     Writes M L R G key out o after → o ≡ written n → valuesOf M L R G key ≡ take (min n (length after)) after
 written-values (too-long long) e = absurd (let z : _≡_ {A = ℕ} 0 1 = cc e in omega arith)
 written-values {M} {L} {R} {G} {key} {n} {out} (fits short) e =
-    let size : min n (length after) ≡ length values =
-    omega (arith, told-length, length-append values (drop (length values) out)) in
+    let size : min n (length after) ≡ length values = omega (arith, told-length, length-append values (drop (length values) out)) in
     sym (take-append-seam values (drop (length values) out)) ∙ ap (λ (k : ℕ). take k after) (sym size)
   where
     values : List ℕ
@@ -35,16 +33,3 @@ written-values {M} {L} {R} {G} {key} {n} {out} (fits short) e =
 
     told-length : length values ≡ n
     told-length = cc e
-
--- what is said of a further member comes behind what is said of those before it
-flatMap-one : (f : ℕ → List ℕ) (xs : List ℕ) (b : ℕ) → flatMap f (xs ++ (b ∷ [])) ≡ flatMap f xs ++ f b
-flatMap-one f [] b = append-nil (f b)
-flatMap-one f (a ∷ xs) b =
-    ap (λ (l : List ℕ). f a ++ l) (flatMap-one f xs b) ∙ sym (append-assoc (f a) (flatMap f xs) (f b))
-
-pub flatMap-next : (f : ℕ → List ℕ) (xs : List ℕ) (i : ℕ) → i < length xs
-    → flatMap f (take i xs) ++ f (getD xs i 0) ≡ flatMap f (take (i + 1) xs)
-flatMap-next f xs i h =
-    sym (flatMap-one f (take i xs) (getD xs i 0))
-    ∙ ap (flatMap f) (sym (take-suc xs i 0 h))
-    ∙ ap (λ (k : ℕ). flatMap f (take k xs)) (let e : suc i ≡ i + 1 = omega arith in e)

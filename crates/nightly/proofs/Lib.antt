@@ -1,4 +1,3 @@
-pub mod Pages
+pub mod Places
 pub mod Sides
 pub mod KeyLines
-pub mod Batches

@@ -1,4 +1,2 @@
 pub mod Asked
-pub mod Text
-pub mod Putting
 pub mod Printed

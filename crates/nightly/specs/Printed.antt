@@ -1,74 +1,47 @@
--- What the program prints (document 01, "The nightly program"): the texts of the blocks in the order in which the library
--- hands them on, and last what stands at the end.
-use Prim.Native.Nat.{ℕ, _%_, _<_}
+-- Where printing leaves the output buffer, and what a key's line is.
+use Prim.Native.Nat.{ℕ, _+_, _≤_}
 use mathlib.Core.Path.{_≡_}
-use mathlib.Core.Bool.{true, false}
-use mathlib.Core.List.{List, [], _++_}
-use lib.ListN.{replicate}
+use mathlib.Core.Bool.{false}
+use mathlib.Core.List.{List, List·Memᴰ}
+use Rattle.ac.specs.Pair.{Mode, variables}
+use Rattle.ac.specs.Selection.{value}
+use Rattle.ac.specs.Keys.{layout, keys, selectionAt}
+use Rattle.ac.specs.Values.{Binding, bindings}
 use Rattle.buffer.specs.Put.{Put}
-use Rattle.table.specs.Table.{groupsIn}
-use Rattle.tally.specs.Line.{told, lineOf}
-use Rattle.tally.specs.Counts.{counted}
-use Rattle.tally.specs.declared.Line.{Line}
-use Rattle.tally.specs.declared.Counts.{Counts}
-use Rattle.library.specs.Reading.{part, Fits, HandsOn}
-use Rattle.library.specs.declared.Reader.{Reader}
-use Rattle.library.specs.declared.Next.{Next}
-use Rattle.library.specs.declared.Next.the-variants as next
-use Rattle.nightly.specs.Asked.{leftSide, rightSide, BlockAsked}
-use Rattle.nightly.specs.Text.{pageText, blockText, endText}
-use Rattle.nightly.specs.declared.ask.Asked.{Asked}
-use Rattle.nightly.specs.declared.Batch.{Batch}
-use Rattle.nightly.specs.declared.Done.{Done}
+use Rattle.table.specs.Table.{Within, TableOf, groupsIn}
+use Rattle.table.specs.declared.Table.{Table}
+use Rattle.solver.specs.declared.PageAnswer.{PageAnswer}
+use Rattle.solver.specs.declared.PageAnswer.the-variants.{Page, Refused}
+use Rattle.values.specs.Given.{LongValue}
+use Rattle.lines.specs.Lines.{substitutionLine}
+use Rattle.nightly.specs.declared.print.Place.{Place}
+use Rattle.nightly.specs.declared.print.Place.the-variants.{At, Closed}
 
--- the line that what the questions returned for a block gives
-abbrev pub lineFor : Asked → Line
-lineFor a = lineOf (told (a .read) (a .rows) (a .page))
+-- there is room for a line behind the place, in a buffer of so many bytes
+abbrev pub HasRoom : ℕ → Place → Type 0
+HasRoom size (At at) = at + 8192 ≤ size
+HasRoom size Closed = Unit {0}
 
--- the text of a block at its place in the file, from what was asked of it and what the lent buffers hold then
-abbrev pub textFor : ℕ → Asked → (left right ks : List ℕ) → List ℕ
-textFor P a left right ks =
-    blockText P (lineFor a) (pageText (leftSide a left) (rightSide a right) (groupsIn (a .table)) (a .page) ks)
+-- the place is in the buffer
+abbrev pub Inside : ℕ → Place → Type 0
+Inside size (At at) = at ≤ size
+Inside size Closed = Unit {0}
 
--- A block is printed: the questions are asked of it, where its number is to be its place in the file, modulo 65,536; its
--- text and the counts after it are those of what they return.
-pub record BlockPrinted (block : List ℕ) (before : Counts) (text : List ℕ) (after : Counts) : Type 0 where
-  pub asked : Asked
-  pub ks : List ℕ
-  pub the-questions : BlockAsked block (before .blocks % 65536) (replicate 200 0) asked ks
-  pub the-text : text ≡ textFor (before .blocks) asked (the-questions .left) (the-questions .right) ks
-  pub the-counts : after ≡ counted before (lineFor asked)
+-- a page of no more keys than there are, of a table whose numbers are within its room; or none
+abbrev pub PageReady : PageAnswer → Table → ℕ → Type 0
+PageReady (Page written more) table keys = (written ≤ keys) × Within table
+PageReady (Refused refusal) table keys = Unit {0}
 
--- and its text stands in the buffer from a place on
-pub record BlockPut (block : List ℕ) (before : Counts) (out : List ℕ) (at : ℕ) (d : Done) (out′ : List ℕ) : Type 0 where
-  pub text : List ℕ
-  pub printed : BlockPrinted block before text (d .counts)
-  pub put : Put out at text (d .at) out′
+-- the variables with the values that a key gives them, of the pair that the table is of
+abbrev pub bindingsOf : Mode → List ℕ → List ℕ → Table → ℕ → List Binding
+bindingsOf M L R table key = bindings (value M (layout .new) L R (groupsIn table) (selectionAt layout (groupsIn table) key)) (variables M L R)
 
--- Block after block: the text of those that the library handed on, from how far it had been read to how far it has.
-pub data Printed (input : List ℕ) (r : Reader) (c : Counts) : List ℕ → List ℕ → Reader → Counts → Type 0 where
-  nothing : Printed input r c [] input r c
-  a-block : {text more input′ input″ : List ℕ} {r′ r″ : Reader} {c′ c″ : Counts} {start size : ℕ}
-      → Printed input r c text input′ r′ c′ → HandsOn input′ r′ (next.Block start size) r″ input″
-      → BlockPrinted (part start size input″) c′ more c″ → Printed input r c (text ++ more) input″ r″ c″
+-- The line of a listed key is its substitution. A value that would be too long has none.
+pub data KeyLine (M : Mode) (L R : List ℕ) (table : Table) (key : ℕ) (out : List ℕ) (at : ℕ) : ℕ → List ℕ → Type 0 where
+  line : {next : ℕ} {after : List ℕ} → Put out at (substitutionLine (bindingsOf M L R table key)) next after → KeyLine M L R table key out at next after
+  too-long : LongValue M L R (groupsIn table) key → KeyLine M L R table key out at at out
 
--- the library hands on no block any more
-abbrev pub IsEnd : Next → Type 0
-IsEnd (next.Block start size) = ⊥
-IsEnd next.End = Unit {0}
-IsEnd next.Remains = Unit {0}
-IsEnd next.Failed = Unit {0}
-
--- What is written out at once: the texts of blocks and, where there is none any more, what stands at the end.
-pub data Batched (input : List ℕ) (r : Reader) (c : Counts) (b : Batch) : List ℕ → List ℕ → Type 0 where
-  goes-on : {text input′ : List ℕ} → b .over ≡ false → Printed input r c text input′ (b .reader) (b .counts)
-      → Fits input′ (b .reader) → b .reader .left < r .left → Batched input r c b text input′
-  ends : {text input′ input″ : List ℕ} {r′ r″ : Reader} {n : Next} → b .over ≡ true
-      → Printed input r c text input′ r′ (b .counts) → HandsOn input′ r′ n r″ input″ → IsEnd n
-      → Batched input r c b (text ++ endText n (b .counts)) input″
-
--- and it stands at the start of the buffer
-pub record BatchPut (input : List ℕ) (r : Reader) (c : Counts) (out : List ℕ) (b : Batch) (input′ out′ : List ℕ) : Type 0 where
-  pub text : List ℕ
-  pub batched : Batched input r c b text input′
-  pub put : Put out 0 text (b .at) out′
+abbrev pub KeyPut : Table → ℕ → List ℕ → ℕ → ℕ → List ℕ → Type 0
+KeyPut table key out at next after =
+    (M : Mode) (L R : List ℕ) → M .empties ≡ false → TableOf M L R table → List·Memᴰ key (keys M layout L R (groupsIn table))
+    → KeyLine M L R table key out at next after

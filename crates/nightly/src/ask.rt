@@ -14,7 +14,7 @@ ghost use Rattle.nightly.specs.Asked.{leftLength, rightLength, PairAsked
 // The first page is of 200.
 pub const PAGE: usize = 200;
 
-// What Read, Rows and Page returned for a block, and the pair's table, which says something where there is a page.
+// What Read, Rows and Page returned for a block, and the pair's table, which says something where Page did not refuse.
 pub struct Asked {
     pub read: ReadAnswer,
     pub rows: RowsAnswer,
@@ -58,8 +58,7 @@ pub fn ask(block: &[u8], number: u16, keys: &mut [u32]) -> Asked
 // Asks Rows and Page of two sides.
 fn ask_sides(read: ReadAnswer, left: &[u8], right: &[u8], keys: &mut [u32]) -> Asked
     requires { ⌜ 200 ≤ length (now keys) ⌝ }
-    ensures { λ r. ⌜ PairAsked read (now (left .entry)) (now (right .entry)) (now (keys .entry)) r
-        (now (keys .exit)) ⌝ }
+    ensures { λ r. ⌜ PairAsked read (now (left .entry)) (now (right .entry)) (now (keys .entry)) r (now (keys .exit)) ⌝ }
 {
     let solved = solve::solve(left, right);
     let verdict = solved.verdict;

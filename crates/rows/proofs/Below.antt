@@ -17,9 +17,8 @@ use Rattle.rows.proofs.Flat.{rowAt, Index, index-of, row-found}
 pub row-within : (k : ℕ) {row count : ℕ} → row < count → row * k + k ≤ count * k
 row-within k {row} h = omega (arith, suc-mul row k, mul-le-mul-right k h)
 
--- While the rows are tried: those before `row` are not below the vector.
-pub record Tried (rows vector : List ℕ) (count row : ℕ) : Type 0 where
-  pub tried : row ≤ count
+-- While the rows are tried: none of those before `row` is at or below the vector.
+pub record Tried (rows vector : List ℕ) (row : ℕ) : Type 0 where
   pub none-lower : (i : ℕ) → i < row → rowAt (length vector) rows i ≼ vector → ⊥
 
 -- While the places of a row are tried: the row is at or below the vector in those before `place`.
@@ -27,23 +26,25 @@ pub record Compared (rows vector : List ℕ) (row place : ℕ) : Type 0 where
   pub within : place ≤ length vector
   pub fine : (j : ℕ) → j < place → getD rows (row * length vector + j) 0 ≤ getD vector j 0
 
-module _ {rows vector : List ℕ} {count : ℕ} where
-  pub tried-none : Tried rows vector count 0
-  tried-none = record { tried = omega arith; none-lower = λ i h. absurd (omega arith) }
+-- at first none has been tried
+pub tried-none : {rows vector : List ℕ} → Tried rows vector 0
+tried-none = record { none-lower = λ i h. absurd (omega arith) }
 
-  -- when all rows have been tried, none is lower
-  pub tried-all : {row : ℕ} → Tried rows vector count row → count ≤ row → Lower (rowsOf (length vector) count rows) vector → ⊥
-  tried-all {row} t all lower =
-      let x : Index (length vector) count rows (lower .row) = index-of (length vector) count rows (lower .found) in
-      t .none-lower (x .index) (let h : x .index < row = omega (arith, x .within) in h) (subst (λ r. r ≼ vector) (x .same) (lower .below))
+-- when all rows have been tried, none is lower
+pub tried-all : {rows vector : List ℕ} {count row : ℕ} → Tried rows vector row → count ≤ row → Lower (rowsOf (length vector) count rows) vector → ⊥
+tried-all {rows} {vector} {count} {row} tried all lower =
+    let x : Index (length vector) count rows (lower .row) = index-of (length vector) count rows (lower .found) in
+    tried .none-lower (x .index) (let h : x .index < row = omega (arith, x .within) in h) (subst (λ r. r ≼ vector) (x .same) (lower .below))
 
 entry : (k : ℕ) (rows : List ℕ) (row j : ℕ) → j < k → getD (rowAt k rows row) j 0 ≡ getD rows (row * k + j) 0
 entry k rows row j h = getD-take k (drop (row * k) rows) j 0 h ∙ getD-drop (row * k) rows j 0
 
 module _ {rows vector : List ℕ} {row : ℕ} where
+  -- at first no place has been compared
   pub compared-none : Compared rows vector row 0
   compared-none = record { within = omega arith; fine = λ j h. absurd (omega arith) }
 
+  -- one place more
   pub compared-more : {place : ℕ} → Compared rows vector row place → place < length vector → getD rows (row * length vector + place) 0 ≤ getD vector place 0
       → Compared rows vector row (place + 1)
   compared-more {place} d h le =
@@ -64,11 +65,10 @@ module _ {rows vector : List ℕ} {row : ℕ} where
       whole = omega (arith, length-take (length vector) (drop (row * length vector) rows), length-drop (row * length vector) rows, row-within (length vector) more)
 
   -- a row that is above in one place is not
-  pub tried-more : {count : ℕ} → Tried rows vector count row → row < count → {place : ℕ} → place < length vector
-      → getD vector place 0 < getD rows (row * length vector + place) 0 → Tried rows vector count (row + 1)
-  tried-more t more {place} h above =
+  pub tried-more : Tried rows vector row → {place : ℕ} → place < length vector → getD vector place 0 < getD rows (row * length vector + place) 0
+      → Tried rows vector (row + 1)
+  tried-more tried {place} h above =
       record {
-        tried = omega arith;
-        none-lower = below-more (λ i. rowAt (length vector) rows i ≼ vector → ⊥) row (t .none-lower)
+        none-lower = below-more (λ i. rowAt (length vector) rows i ≼ vector → ⊥) row (tried .none-lower)
             (λ below. omega (arith, ≼-entry below place, entry (length vector) rows row place h));
       }

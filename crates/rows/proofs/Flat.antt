@@ -19,6 +19,7 @@ next-row : (k : ℕ) (bytes : List ℕ) (i : ℕ) → rowAt k (drop k bytes) i �
 next-row k bytes i =
     ap (take k) (drop-drop (i * k) k bytes ∙ ap (λ n. drop n bytes) (let e : k + i * k ≡ suc i * k = omega (arith, suc-mul i k) in e))
 
+-- n rows are n
 pub length-rows : (k n : ℕ) (bytes : List ℕ) → length (rowsOf k n bytes) ≡ n
 length-rows k zero bytes = refl
 length-rows k (suc n) bytes = ap suc (length-rows k n (drop k bytes))
@@ -29,6 +30,7 @@ pub record Index (k n : ℕ) (bytes row : List ℕ) : Type 0 where
   pub within : index < n
   pub same : row ≡ rowAt k bytes index
 
+-- it can be found from the front
 pub index-of : (k n : ℕ) (bytes : List ℕ) {row : List ℕ} → List·Memᴰ row (rowsOf k n bytes) → Index k n bytes row
 index-of k zero bytes member = absurd (elim member [ ])
 index-of k (suc n) bytes (List·Memᴰ·head e) = record { index = 0; within = omega arith; same = e ∙ sym (first-row k bytes) }
@@ -37,6 +39,7 @@ index-of k (suc n) bytes {row} (List·Memᴰ·tail member) = one-more (index-of 
     one-more : Index k n (drop k bytes) row → Index k (suc n) bytes row
     one-more x = record { index = suc (x .index); within = omega (arith, x .within); same = x .same ∙ next-row k bytes (x .index) }
 
+-- the row at an index below their number is found
 pub row-found : (k n : ℕ) (bytes : List ℕ) (i : ℕ) → i < n → List·Memᴰ (rowAt k bytes i) (rowsOf k n bytes)
 row-found k zero bytes i within = absurd (omega arith)
 row-found k (suc n) bytes zero within = List·Memᴰ·head (first-row k bytes)
@@ -51,7 +54,7 @@ rows-snoc k (suc n) bytes =
     (rows-snoc k n (drop k bytes) ∙ ap {B = List (List ℕ)} (λ r. rowsOf k n (drop k bytes) ++ (r ∷ [])) (next-row k bytes n))
 
 -- rows that stand in the first part of the bytes
-pub rows-append : (k n : ℕ) (first others : List ℕ) → n * k ≤ length first → rowsOf k n (first ++ others) ≡ rowsOf k n first
+rows-append : (k n : ℕ) (first others : List ℕ) → n * k ≤ length first → rowsOf k n (first ++ others) ≡ rowsOf k n first
 rows-append k zero first others room = refl
 rows-append k (suc n) first others room =
     ap₂ {C = List (List ℕ)} (λ r rs. r ∷ rs) (take-append-le k first others within)

@@ -13,7 +13,7 @@ use Rattle.ac.proofs.Vectors.{same-length, ≼-trans, ≼-equal, sum-mono, exac
 use Rattle.ac.proofs.Order.{≺-asymmetric, ascending-single, ascending-append}
 use Rattle.ac.proofs.Places.{getD-member}
 use Rattle.ac.proofs.Search.{minimal-solutions-exact}
-use Rattle.ac.proofs.Sums.{RowBelow, minimal-below}
+use Rattle.ac.proofs.RowBelow.{RowBelow, minimal-below}
 use Rattle.rows.specs.Flat.{rowsOf}
 use Rattle.rows.specs.Kept.{Holds, Holds.few, Holds.more, Upto, RowBefore, RowUpto, Lower, Keeps, Advances}
 use Rattle.rows.proofs.Flat.{length-rows, rows-put}
@@ -29,7 +29,8 @@ module _ (E : Equation) {v : List ℕ} (vector : length v ≡ length (E .left)) 
       let itself : v ≺ v = subst (λ w. w ≺ v) (minimal .least .no-other (lower .row) (lower .below) (row .0 .least .has)) (row .1) in
       ≺-asymmetric itself itself
 
-  pub upto-lower : Lower rows v → Exactly (RowUpto E v) rows
+  -- a lower row says that the vector is none
+  upto-lower : Lower rows v → Exactly (RowUpto E v) rows
   upto-lower lower = exactly-same (λ w. (λ b. (b .0, before-upto (b .1)), λ u. (u .0, before (u .0) (upto-cases (u .1))))) found
     where
       before : {w : List ℕ} → Minimal E w → (w ≺ v) ⊎ Begins v w → w ≺ v
@@ -61,7 +62,8 @@ module _ (E : Equation) {v : List ℕ} (vector : length v ≡ length (E .left)) 
               absurd (none-lower (record { row = g; found = found .all g (minimal-g, before); below = ≼-trans (b .below) below }))
           by-order (inr same) = ≼-equal below (sum-mono (subst (λ w. w ≼ u) same (b .below)))
 
-  pub upto-more : (Lower rows v → ⊥) → Exactly (RowUpto E v) (rows ++ (v ∷ []))
+  -- so the rows up to it are those before it and the vector itself
+  upto-more : (Lower rows v → ⊥) → Exactly (RowUpto E v) (rows ++ (v ∷ []))
   upto-more none-lower =
       record {
         ascending = ascending-append (found .ascending) (ascending-single v)
@@ -79,7 +81,7 @@ module _ (E : Equation) {v : List ℕ} (vector : length v ≡ length (E .left)) 
       all w minimal (inr b) = Memᴰ·append-right rows (List·Memᴰ·head (begins-whole v (minimal .vector ∙ sym vector) b))
 
 -- where the number is at most the limit, the bytes hold exactly the rows
-pub found-few : {limit places : ℕ} {Row : List ℕ → Type 0} {bytes : List ℕ} {n : ℕ} → n ≤ limit → Holds limit places Row bytes n
+found-few : {limit places : ℕ} {Row : List ℕ → Type 0} {bytes : List ℕ} {n : ℕ} → n ≤ limit → Holds limit places Row bytes n
     → Exactly Row (rowsOf places n bytes)
 found-few fits (few small found) = found
 found-few fits (more ascending only many) = absurd (omega arith)
@@ -90,6 +92,7 @@ module _ {limit n : ℕ} {v bytes : List ℕ} (fits : n ≤ limit) where
       → Exactly (RowBefore E v) (rowsOf (length v) n bytes)
   rows-of-vector E vector held = subst (λ k. Exactly (RowBefore E v) (rowsOf k n bytes)) (sym vector) (found-few fits held)
 
+  -- a row found is lower: nothing changes
   pub keeps-lower : Lower (rowsOf (length v) n bytes) v → Keeps limit v bytes n bytes n
   keeps-lower lower =
       record {
@@ -103,6 +106,7 @@ module _ {limit n : ℕ} {v bytes : List ℕ} (fits : n ≤ limit) where
         → Holds limit (length (E .left)) (RowBefore E v) bytes n → Exactly (RowUpto E v) (rowsOf (length v) n bytes ++ (v ∷ []))
     next E vector solves held = upto-more E vector solves (rows-of-vector E vector held) none-lower
 
+    -- none is, and there is no room: it is only counted
     pub keeps-full : n ≡ limit → Keeps limit v bytes n bytes (n + 1)
     keeps-full full = record { counted = omega arith; found = found }
       where
@@ -115,6 +119,7 @@ module _ {limit n : ℕ} {v bytes : List ℕ} (fits : n ≤ limit) where
             subst (Holds limit (length (E .left)) (RowUpto E v) bytes) (let e : suc limit ≡ n + 1 = omega arith in e)
             (more (rows .ascending) (rows .only) long)
 
+    -- none is, and it is put behind them
     pub keeps-put : (n ≡ limit → ⊥) → n * length v ≤ length bytes → {bytes′ : List ℕ}
         → bytes′ ≡ take (n * length v) bytes ++ v ++ drop (n * length v + length v) bytes → Keeps limit v bytes n bytes′ (n + 1)
     keeps-put room-left room {bytes′} put = record { counted = omega arith; found = found }
@@ -130,7 +135,8 @@ module _ {limit n : ℕ} {v bytes : List ℕ} (fits : n ≤ limit) where
 
 -- From one prefix to the next.
 
-pub holds-same : {limit places : ℕ} {Row Row′ : List ℕ → Type 0} {bytes : List ℕ} {n : ℕ} → ((v : List ℕ) → Row v ↔ Row′ v)
+-- rows of one kind are those of another that has the same members
+holds-same : {limit places : ℕ} {Row Row′ : List ℕ → Type 0} {bytes : List ℕ} {n : ℕ} → ((v : List ℕ) → Row v ↔ Row′ v)
     → Holds limit places Row bytes n → Holds limit places Row′ bytes n
 holds-same same (few small found) = few small (exactly-same same found)
 holds-same same (more ascending only many) = more ascending (λ v m. same v .0 (only v m)) many
@@ -154,6 +160,7 @@ module _ {E : Equation} {limit : ℕ} (p : List ℕ) {bytes : List ℕ} {n : ℕ
       before minimal (inl h) = h
       before minimal (inr s) = absurd (omega (arith, none (s .number) (s .rest) (subst (Minimal E) (s .whole) minimal), s .smaller))
 
+  -- the rows up to a number after the prefix are those before the next number
   pub to-next : (m : ℕ) → Holds limit (length (E .left)) (RowUpto E (p ++ m ∷ [])) bytes n
       → Holds limit (length (E .left)) (RowBefore E (p ++ (m + 1) ∷ [])) bytes n
   to-next m h =

@@ -5,7 +5,7 @@ pub mod Held
 pub mod Places
 pub mod Reach
 pub mod Ranges
-pub mod LargestBytes
+pub mod Tops
 pub mod Walking
 pub mod Turns
 pub mod Whole

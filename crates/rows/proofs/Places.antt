@@ -19,7 +19,7 @@ use Rattle.rows.specs.declared.standing.Standing.{Standing}
 use Rattle.rows.specs.Places.{Stands, budgetOf, afterChoice, Possible}
 
 -- one place more in the prefix
-pub one-place : (p : List ℕ) (n : ℕ) (rest : List ℕ) → (p ++ n ∷ []) ++ rest ≡ p ++ n ∷ rest
+one-place : (p : List ℕ) (n : ℕ) (rest : List ℕ) → (p ++ n ∷ []) ++ rest ≡ p ++ n ∷ rest
 one-place p n rest = append-assoc p (n ∷ []) rest
 
 or-false : (a b : Bool) → (a || b) ≡ false → (a ≡ false) × (b ≡ false)
@@ -44,7 +44,7 @@ within-own false n s t h h′ = omega arith
 
 module _ {E : Equation} {p left right : List ℕ} {l r : ℕ} {at : Standing} (s : Stands E p (l ∷ left) (r ∷ right) at) where
   -- in a row, the next number is within the place's budget
-  pub number-within : (n : ℕ) (rest : List ℕ) → Minimal E (p ++ n ∷ rest) → n ≤ budgetOf at l r
+  number-within : (n : ℕ) (rest : List ℕ) → Minimal E (p ++ n ∷ rest) → n ≤ budgetOf at l r
   number-within n rest minimal =
       within-own (leb r l) n (upSum left right rest) (downSum left right rest) (s .within-up (n ∷ rest) minimal) (s .within-down (n ∷ rest) minimal)
 
@@ -56,20 +56,31 @@ module _ {E : Equation} {p left right : List ℕ} {l r : ℕ} {at : Standing} (s
         by-size (yes h) = omega arith
         by-size (no not) = omega (arith, positive (false-or unless (le-ltb 0 n (omega arith))))
 
+    -- so the walk stands after one number more
     pub after-choice : Stands E (p ++ n ∷ []) left right (afterChoice at l r n)
     after-choice =
         record {
           level = omega (arith, s .level);
           places = omega (arith, s .places, length-append p (n ∷ []));
-          solves = λ rest long e positive.
-              subst (Solves E) (sym (one-place p n rest)) (s .solves (n ∷ rest) (omega arith) (omega arith) (not-zero rest positive));
-          equal = λ rest long solves. omega (arith, s .equal (n ∷ rest) (omega arith) (subst (Solves E) (one-place p n rest) solves));
-          not-all-zero = λ rest long solves unless.
-              let both = or-false (at .counts) (ltb 0 n) unless in
-              omega (arith, s .not-all-zero (n ∷ rest) (omega arith) (subst (Solves E) (one-place p n rest) solves) (both .0), ltb-false 0 n (both .1));
+          solves = λ rest long. (there rest long, back rest long);
           within-up = λ rest minimal. spent-own (leb r l) n (upSum left right rest) (s .within-up (n ∷ rest) (subst (Minimal E) (one-place p n rest) minimal));
           within-down = λ rest minimal. spent-other (leb r l) n (downSum left right rest) (s .within-down (n ∷ rest) (subst (Minimal E) (one-place p n rest) minimal));
         }
+      where
+        there : (rest : List ℕ) → length rest ≡ length left → Solves E ((p ++ n ∷ []) ++ rest)
+            → (dot left rest + (at .left + l * n) ≡ dot right rest + (at .right + r * n)) × ((at .counts || ltb 0 n) ≡ false → 0 < sum rest)
+        there rest long solves =
+            let before = s .solves (n ∷ rest) (omega arith) .0 (subst (Solves E) (one-place p n rest) solves) in
+            let positive : (at .counts || ltb 0 n) ≡ false → 0 < sum rest =
+            λ unless. let both = or-false (at .counts) (ltb 0 n) unless in omega (arith, before .1 (both .0), ltb-false 0 n (both .1)) in
+            (omega (arith, before .0), positive)
+
+        back : (rest : List ℕ) → length rest ≡ length left
+            → (dot left rest + (at .left + l * n) ≡ dot right rest + (at .right + r * n)) × ((at .counts || ltb 0 n) ≡ false → 0 < sum rest)
+            → Solves E ((p ++ n ∷ []) ++ rest)
+        back rest long h =
+            let equal : dot (l ∷ left) (n ∷ rest) + at .left ≡ dot (r ∷ right) (n ∷ rest) + at .right = omega (arith, h .0) in
+            subst (Solves E) (sym (one-place p n rest)) (s .solves (n ∷ rest) (omega arith) .1 (equal, not-zero rest (h .1)))
 
 -- in a row, the rest is as long as the coefficients that are left
 pub rest-places : {E : Equation} {p left right : List ℕ} {at : Standing} → Stands E p left right at → (rest : List ℕ) → Minimal E (p ++ rest)
@@ -86,8 +97,11 @@ module _ {E : Equation} {p left right : List ℕ} {l r : ℕ} {at : Standing} (s
   no-unit-more : (m : ℕ) → (at .counts ≡ false → 0 < m) → Minimal E (p ++ suc m ∷ rest) → ⊥
   no-unit-more m positive minimal =
       let long = rest-places s (suc m ∷ rest) minimal in
-      let equal = s .equal (suc m ∷ rest) long (minimal .least .has) in
-      let less = s .solves (m ∷ rest) long (omega (arith, ap (λ z. z * m) same, mul-suc l m, mul-suc r m)) (λ zero. omega (arith, positive zero)) in
+      let equal = s .solves (suc m ∷ rest) long .0 (minimal .least .has) .0 in
+      let equal-less : dot (l ∷ left) (m ∷ rest) + at .left ≡ dot (r ∷ right) (m ∷ rest) + at .right =
+      omega (arith, equal, ap (λ z. z * m) same, mul-suc l m, mul-suc r m) in
+      let some-left : at .counts ≡ false → 0 < sum (m ∷ rest) = λ zero. omega (arith, positive zero) in
+      let less = s .solves (m ∷ rest) long .1 (equal-less, some-left) in
       let below = ≼-after p (place (let h : m ≤ suc m = omega arith in h) (≼-refl rest)) in
       omega (arith, ap (λ v. getD v (length p) 0) (minimal .least .no-other (p ++ m ∷ rest) below less), getD-append-seam p m rest 0, getD-append-seam p (suc m) rest 0)
 
@@ -106,7 +120,7 @@ possible {left = left} {right = right} {at = at} last s none n rest minimal =
       within = number-within s n rest minimal;
       equal = λ t. omega (
         arith,
-        s .equal (n ∷ rest) (rest-places s (n ∷ rest) minimal) (minimal .least .has),
+        s .solves (n ∷ rest) (rest-places s (n ∷ rest) minimal) .0 (minimal .least .has) .0,
         dot-none left rest (none t),
         dot-none right rest (let e : length right ≡ 0 = omega (arith, s .level, none t) in e),
       );

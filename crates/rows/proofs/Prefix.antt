@@ -17,6 +17,7 @@ pub record Begins (prefix v : List ℕ) : Type 0 where
 begins-later : {n : ℕ} {p v : List ℕ} → Begins p v → Begins (n ∷ p) (n ∷ v)
 begins-later {n} b = record { rest = b .rest; whole = ap {B = List ℕ} (λ w. n ∷ w) (b .whole) }
 
+-- the two ways to stand up to a prefix
 pub upto-cases : {p v : List ℕ} → Upto p v → (v ≺ p) ⊎ Begins p v
 upto-cases (begins {v}) = inr (record { rest = v; whole = refl })
 upto-cases (here h) = inl (here h)
@@ -26,6 +27,7 @@ upto-cases (later {n} {p} {v} u) = one-place (upto-cases u)
     one-place (inl before) = inl (later before)
     one-place (inr b) = inr (begins-later b)
 
+-- what stands before all that begin with the prefix
 pub before-upto : {p v : List ℕ} → v ≺ p → Upto p v
 before-upto (here h) = here h
 before-upto (later before) = later (before-upto before)
@@ -46,6 +48,7 @@ some-place : {p v : List ℕ} → v ≺ p → 0 < length p
 some-place (here h) = omega arith
 some-place (later before) = omega arith
 
+-- nothing stands before all vectors
 pub nothing-before : {v : List ℕ} → v ≺ [] → ⊥
 nothing-before before = omega (arith, some-place before)
 
@@ -53,6 +56,7 @@ before-number : {n : ℕ} {v : List ℕ} → v ≺ (n ∷ []) → Smaller [] n v
 before-number (here {m} {n} {u} h) = record { number = m; smaller = h; rest = u; whole = refl }
 before-number (later before) = absurd (nothing-before before)
 
+-- before the prefix with a number: before the prefix, or with a smaller number
 pub before-number-cases : (p : List ℕ) (n : ℕ) {v : List ℕ} → v ≺ (p ++ n ∷ []) → (v ≺ p) ⊎ Smaller p n v
 before-number-cases [] n before = inr (before-number before)
 before-number-cases (k ∷ p) n (here h) = inl (here h)
@@ -77,6 +81,7 @@ number-before-next n m v small = by-order (decLt m n)
     by-order (yes h) = here h
     by-order (no not) = subst (λ k. Upto (n ∷ []) (k ∷ v)) (let e : n ≡ m = omega arith in e) (later begins)
 
+-- and the other way round
 pub before-next-upto : (p : List ℕ) (n : ℕ) {v : List ℕ} → v ≺ (p ++ suc n ∷ []) → Upto (p ++ n ∷ []) v
 before-next-upto [] n (here {m} {u = u} h) = number-before-next n m u h
 before-next-upto [] n (later before) = absurd (nothing-before before)
@@ -102,10 +107,12 @@ pub ≼-before : {u v : List ℕ} → u ≼ v → (u ≺ v) ⊎ (u ≡ v)
     by-order (no not) (inl before) = inl (subst (λ k. (m ∷ u) ≺ (k ∷ v)) (let e : m ≡ n = omega arith in e) (later before))
     by-order (no not) (inr same) = inr (ap₂ {C = List ℕ} (λ k w. k ∷ w) (let e : m ≡ n = omega arith in e) same)
 
+-- a vector stands up to itself
 pub begins-upto : (p : List ℕ) → Upto p p
 begins-upto [] = begins
 begins-upto (n ∷ p) = later (begins-upto p)
 
+-- up to a longer prefix is up to a shorter one
 pub upto-shorter : (p q : List ℕ) {v : List ℕ} → Upto (p ++ q) v → Upto p v
 upto-shorter [] q u = begins
 upto-shorter (n ∷ p) q (here h) = here h

@@ -39,6 +39,7 @@ right-gains l r false e small n = omega (arith, mul-le-mul-right n small)
 -- sums that the budgets cannot bridge have no row
 module _ {E : Equation} {p left right : List ℕ} {at : Standing} {mostLeft mostRight : ℕ} (s : Stands E p left right at)
     (lefts : (i : ℕ) → i < length left → getD left i 0 ≤ mostLeft) (rights : (i : ℕ) → i < length right → getD right i 0 ≤ mostRight) where
+  -- since a row makes them equal and is within the budgets
   pub no-row-apart : Apart at mostLeft mostRight → (rest : List ℕ) → Minimal E (p ++ rest) → ⊥
   no-row-apart apart rest minimal = by-side apart
     where
@@ -46,7 +47,7 @@ module _ {E : Equation} {p left right : List ℕ} {at : Standing} {mostLeft most
       long = rest-places s rest minimal
 
       equal : weighted (coefficient left) rest + at .left ≡ weighted (coefficient right) rest + at .right
-      equal = omega (arith, s .equal rest long (minimal .least .has), dot-weighted left rest, dot-weighted right rest)
+      equal = omega (arith, s .solves rest long .0 (minimal .least .has) .0, dot-weighted left rest, dot-weighted right rest)
 
       left-more : weighted (coefficient left) rest ≤ weighted (coefficient right) rest + upSum left right rest * mostLeft
       left-more =

@@ -25,6 +25,13 @@ pub record Choice (limit : ℕ) (left right mostLeft mostRight vector bytes : Li
   pub within : place < length left
   pub ranges : Ranges at (getD left place 0) (getD right place 0) (eqb (place + 1) (length left)) range
 
+-- so it does before a place that is not the end
+pub choice-here : {limit : ℕ} {left right mostLeft mostRight vector bytes : List ℕ} {place n : ℕ} {at : Standing} {range : Range}
+    → Ready limit left right mostLeft mostRight vector bytes place n at → (place ≡ length left → ⊥)
+    → Ranges at (getD left place 0) (getD right place 0) (eqb (place + 1) (length left)) range
+    → Choice limit left right mostLeft mostRight vector bytes place n at range
+choice-here ready not-end ranges = record { ready = ready; within = omega (arith, ready .within); ranges = ranges }
+
 -- from there it has reached some rows: the numbers before the place are as they were
 pub record Reached (limit : ℕ) (left right vector₀ bytes₀ : List ℕ) (place n₀ : ℕ) (at : Standing)
     (Row : Equation → List ℕ → Type 0) (vector bytes : List ℕ) (n : ℕ) : Type 0 where
@@ -68,6 +75,7 @@ module _ {limit : ℕ} {left right mostLeft mostRight vector₀ bytes₀ : List 
       no-row s [] minimal = omega (arith, rest-places s [] minimal, length-drop place left, choice .within)
       no-row s (m ∷ rest) minimal = omega (arith, in-range s m rest minimal)
 
+  -- the first turn: no row has a smaller number
   pub first-turn : range .first ≤ range .most
       → Turn limit left right mostLeft mostRight vector₀ bytes₀ place n₀ at range vector₀ bytes₀ (range .first) n₀
   first-turn some =
@@ -132,6 +140,7 @@ module _ {limit : ℕ} {left right mostLeft mostRight vector₀ bytes₀ : List 
           found = λ E s before. rw prefix-here at (walks .found E (stands-next s) (rw prefix-here (turn .reached .found E s before)));
         }
 
+    -- the next number's turn
     pub next-turn : (number ≡ range .most → ⊥)
         → Turn limit left right mostLeft mostRight vector₀ bytes₀ place n₀ at range vector′ bytes′ (number + 1) n′
     next-turn more =

@@ -15,7 +15,7 @@ use Rattle.rows.proofs.Held.{skip}
 use Rattle.rows.proofs.Reach.{no-row-apart}
 
 -- where more than the limit are found, more stay found
-pub full-advances : {E : Equation} {p : List ℕ} {limit : ℕ} {bytes : List ℕ} {n : ℕ} → limit < n → Advances E p limit bytes n bytes n
+full-advances : {E : Equation} {p : List ℕ} {limit : ℕ} {bytes : List ℕ} {n : ℕ} → limit < n → Advances E p limit bytes n bytes n
 full-advances full (few small found) = absurd (omega arith)
 full-advances full (more ascending only many) = more ascending (λ v m. (only v m .0, before-upto (only v m .1))) many
 
@@ -25,6 +25,7 @@ module _ {limit : ℕ} {left right mostLeft mostRight vector bytes : List ℕ} {
   pub walks-full : limit < n → Walks limit left right vector bytes place n at vector bytes n
   walks-full full = record { counted = ready .counted; prefix = refl; found = λ E s. full-advances full }
 
+  -- the bytes have room for the vector's places
   pub room-to-settle : limit * length vector ≤ length bytes
   room-to-settle = omega (arith, ap (λ k. limit * k) (ready .vectors), ready .bytes-room)
 

@@ -20,7 +20,7 @@ use Rattle.rows.specs.Kept.{Holds, Holds.few, Holds.more, Upto.begins, R
 use Rattle.rows.specs.Places.{Stands}
 use Rattle.rows.specs.Walk.{Starts, Searchable, Ready, AtMost, Tops}
 use Rattle.rows.proofs.Prefix.{nothing-before}
-use Rattle.rows.proofs.LargestBytes.{at-most-everywhere}
+use Rattle.rows.proofs.Tops.{at-most-everywhere}
 
 -- budgets from the largest coefficients, the offsets among them, are enough
 pub starts-from-largest : {left right : List ℕ} {a b mostLeft mostRight : ℕ} {h : Bool} {standing : Standing} → AtMost left 0 mostLeft → AtMost right 0 mostRight
@@ -45,14 +45,19 @@ stands-start {E} level starts =
     record {
       level = level;
       places = omega arith;
-      solves = λ rest long e positive.
-          record { equal = omega (arith, starts .left-sum, starts .right-sum); not-all-zero = λ t. positive (starts .counts ∙ ap not t) };
-      equal = λ rest long solves. omega (arith, solves .equal, starts .left-sum, starts .right-sum);
-      not-all-zero = λ rest long solves zero. solves .not-all-zero (not-false (E .homogeneous) (sym (starts .counts) ∙ zero));
+      solves = λ rest long. (
+        λ solves. (
+          omega (arith, solves .equal, starts .left-sum, starts .right-sum),
+          λ zero. solves .not-all-zero (not-false (E .homogeneous) (sym (starts .counts) ∙ zero)),
+        ),
+        λ h.
+            record { equal = omega (arith, h .0, starts .left-sum, starts .right-sum); not-all-zero = λ t. h .1 (starts .counts ∙ ap not t) },
+      );
       within-up = λ rest minimal. lambert-bound E minimal (starts .enough) .0;
       within-down = λ rest minimal. lambert-bound E minimal (starts .enough) .1;
     }
 
+-- before the first place everything has its length, and nothing is found
 pub ready-start : {limit : ℕ} {left right bytes mostLeft mostRight vector : List ℕ} {E : Equation} {standing : Standing} → Searchable limit left right bytes
     → Starts E standing → Tops left mostLeft → Tops right mostRight → length mostLeft ≡ 6 → length mostRight ≡ 6 → length vector ≡ length left
     → Ready limit left right mostLeft mostRight vector bytes 0 0 standing

@@ -1,4 +1,5 @@
--- Which rows are found so far. The search goes through the vectors in ascending order, so the rows found are at any time those before a prefix.
+-- Which rows are found so far (document 01, "From sides to equations": "Within a group rows stand in ascending order"). The walk goes through the vectors
+-- in that order, so the rows found are at any time those before a prefix.
 use Prim.Native.Nat.{ℕ, suc, _≤_, _<_}
 use mathlib.Core.Path.{_≡_}
 use mathlib.Core.Bool.{Bool, true, false}
@@ -30,11 +31,11 @@ module _ (E : Equation) (prefix : List ℕ) where
   abbrev pub RowUpto : List ℕ → Type 0
   RowUpto v = Minimal E v × Upto prefix v
 
-  -- from the one to the other
+  -- where the bytes held the rows before the prefix, they hold those up to it
   abbrev pub Advances : ℕ → List ℕ → ℕ → List ℕ → ℕ → Type 0
   Advances limit bytes n bytes′ n′ = Holds limit (length (E .left)) RowBefore bytes n → Holds limit (length (E .left)) RowUpto bytes′ n′
 
--- some row found is at or below the vector in every place
+-- "Any row found before may be the lower one": some row found is at or below the vector in every place.
 pub record Lower (rows : List (List ℕ)) (v : List ℕ) : Type 0 where
   pub row : List ℕ
   pub found : List·Memᴰ row rows
@@ -45,7 +46,7 @@ pub record Tells (test : Bool) (So : Type 0) : Type 0 where
   pub so : test ≡ true → So
   pub not-so : test ≡ false → So → ⊥
 
--- A vector that solves an equation has been kept, if it is a row.
+-- A vector that solves an equation has been kept, if it is a row: the rows before it were held, and those up to it are.
 pub record Keeps (limit : ℕ) (v bytes : List ℕ) (n : ℕ) (bytes′ : List ℕ) (n′ : ℕ) : Type 0 where
   pub counted : n′ ≤ suc limit
   pub found : (E : Equation) → length v ≡ length (E .left) → Solves E v → Advances E v limit bytes n bytes′ n′

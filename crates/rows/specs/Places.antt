@@ -1,6 +1,8 @@
--- Where the walk stands after a prefix, and which numbers the next place may have in a row.
+-- Where the walk stands after a prefix, and which numbers the next place may have in a row (document 01, "From sides to equations": "How far the search
+-- must go is the team's to prove").
 use Prim.Native.Nat.{ℕ, _+_, _*_, _-_, _^_, _≤_, _<_}
 use mathlib.Core.Path.{_≡_}
+use mathlib.Core.Logic.{_↔_}
 use mathlib.Core.Bool.{Bool, true, false, cond, _||_}
 use mathlib.Core.List.{List, _++_}
 use lib.ListN.{length}
@@ -16,10 +18,8 @@ use Rattle.rows.specs.declared.standing.Range.{Range}
 pub record Stands (E : Equation) (prefix left right : List ℕ) (at : Standing) : Type 0 where
   pub level : length left ≡ length right
   pub places : length prefix + length left ≡ length (E .left)
-  pub solves : (rest : List ℕ) → length rest ≡ length left → dot left rest + at .left ≡ dot right rest + at .right → (at .counts ≡ false → 0 < sum rest)
-      → Solves E (prefix ++ rest)
-  pub equal : (rest : List ℕ) → length rest ≡ length left → Solves E (prefix ++ rest) → dot left rest + at .left ≡ dot right rest + at .right
-  pub not-all-zero : (rest : List ℕ) → length rest ≡ length left → Solves E (prefix ++ rest) → at .counts ≡ false → 0 < sum rest
+  pub solves : (rest : List ℕ) → length rest ≡ length left
+      → Solves E (prefix ++ rest) ↔ ((dot left rest + at .left ≡ dot right rest + at .right) × (at .counts ≡ false → 0 < sum rest))
   pub within-up : (rest : List ℕ) → Minimal E (prefix ++ rest) → upSum left right rest ≤ at .up
   pub within-down : (rest : List ℕ) → Minimal E (prefix ++ rest) → downSum left right rest ≤ at .down
 

@@ -1,16 +1,17 @@
--- What the walk is given at a place, and what it gives.
+-- What the walk through the vectors is given at a place, and what it gives: the rows of document 01, "From sides to equations", that begin with the
+-- numbers before the place.
 use Prim.Native.Nat.{ℕ, suc, _*_, _≤_, _<_}
 use mathlib.Core.Path.{_≡_}
-use mathlib.Core.Bool.{not}
+use mathlib.Core.Bool.{Bool, not}
 use mathlib.Core.List.{List, []}
 use lib.ListN.{length, getD, take, drop}
-use Rattle.ac.specs.Equation.{Equation}
+use Rattle.ac.specs.Equation.{Equation, equation}
 use Rattle.ac.specs.Budgets.{Enough}
 use Rattle.rows.specs.declared.standing.Standing.{Standing}
 use Rattle.rows.specs.Kept.{Advances}
 use Rattle.rows.specs.Places.{Stands, Room}
 
--- after the last place: the rows up to the vector are found
+-- After the last place: where the walk stood at the end of a vector, the rows up to the vector are found.
 pub record Settles (limit : ℕ) (v : List ℕ) (at : Standing) (bytes : List ℕ) (n : ℕ) (bytes′ : List ℕ) (n′ : ℕ) : Type 0 where
   pub counted : n′ ≤ suc limit
   pub found : (E : Equation) → Stands E v [] [] at → Advances E v limit bytes n bytes′ n′
@@ -19,7 +20,7 @@ pub record Settles (limit : ℕ) (v : List ℕ) (at : Standing) (bytes : List �
 abbrev pub AtMost : List ℕ → ℕ → ℕ → Type 0
 AtMost coefficients i most = (j : ℕ) → i ≤ j → j < length coefficients → getD coefficients j 0 ≤ most
 
--- for each place such a number
+-- for each place a number that none of the coefficients from there on is above
 abbrev pub Tops : List ℕ → List ℕ → Type 0
 Tops coefficients tops = (i : ℕ) → AtMost coefficients i (getD tops i 0)
 
@@ -30,6 +31,11 @@ pub record Starts (E : Equation) (at : Standing) : Type 0 where
   pub counts : at .counts ≡ not (E .homogeneous)
   pub enough : Enough E (at .up) (at .down)
   pub room : Room at
+
+-- so it begins for every equation with these offsets whose coefficients are at most these numbers
+abbrev pub StartsAll : ℕ → ℕ → ℕ → ℕ → Bool → Standing → Type 0
+StartsAll mostLeft mostRight left-offset right-offset homogeneous at =
+    (left right : List ℕ) → AtMost left 0 mostLeft → AtMost right 0 mostRight → Starts (equation left right left-offset right-offset homogeneous) at
 
 -- coefficients with their tops, a vector and bytes of the lengths that go with them, and a place of the vector
 pub record Ready (limit : ℕ) (left right mostLeft mostRight vector bytes : List ℕ) (place n : ℕ) (at : Standing) : Type 0 where

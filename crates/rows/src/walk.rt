@@ -9,7 +9,7 @@ ghost use mathlib.Core.Path.{_≡_};
 ghost use Prim.Native.Nat.{_*_, _<_, _≤_, max};
 ghost use lib.ListN.{length};
 ghost use Rattle.rows.specs.Found.{equation, Finds};
-ghost use Rattle.rows.specs.Walk.{Settles, Ready, Walks, AtMost, Tops, Starts, Searchable};
+ghost use Rattle.rows.specs.Walk.{Settles, Ready, Walks, Tops, StartsAll, Searchable};
 
 // At the end of a vector: keeps it if it solves the equation.
 fn settle(rows: &mut [u8], limit: usize, count: usize, vector: &[u8], at: Standing) -> usize
@@ -87,49 +87,33 @@ fn larger(a: u8, b: u8) -> u8
     if a < b { b } else { a }
 }
 
-// The largest of the bytes from a place on.
-fn largest(bytes: &[u8], from: usize) -> u8
-    ensures { λ r. ⌜ AtMost (now (bytes .entry)) from r ⌝ }
-{
-    let mut most = 0;
-    let mut place = from;
-    while place < bytes.len() {
-        most = larger(most, bytes[place]);
-        place += 1;
-    }
-    most
-}
-
 // For each place the largest of the bytes from there on.
 fn tops(bytes: &[u8]) -> [u8; 6]
     requires { ⌜ length (now bytes) ≤ 6 ⌝ }
     ensures { λ r. ⌜ Tops (now (bytes .entry)) r ⌝ }
 {
     let mut each = [0u8; 6];
-    let mut place = 0;
-    while place < bytes.len() {
-        each[place] = largest(bytes, place);
-        place += 1;
+    let mut most = 0;
+    let mut place = bytes.len();
+    while 0 < place {
+        place -= 1;
+        most = larger(most, bytes[place]);
+        each[place] = most;
     }
     each
 }
 
-// Where the walk starts. The places whose left coefficient is at least the right one get their budget from the largest right coefficient, the
-// others from the largest left one, the offsets among them: the other side sets how large an entry of a row can be.
-fn start(
-    left: &[u8],
-    right: &[u8],
-    left_offset: u8,
-    right_offset: u8,
-    homogeneous: bool,
-) -> Standing
-    ensures { λ r. ⌜ Starts (equation (now (left .entry)) (now (right .entry)) «left_offset» «right_offset» homogeneous) r ⌝ }
+// Where the walk starts, where no left coefficient is above `lift` and no right one above `drop`. The places whose left coefficient is at least the
+// right one get their budget from the right side, the others from the left one, the offsets among them: the other side sets how large an entry of
+// a row can be.
+fn start(lift: u8, drop: u8, left_offset: u8, right_offset: u8, homogeneous: bool) -> Standing
+    ensures { λ r. ⌜ StartsAll lift drop «left_offset» «right_offset» homogeneous r ⌝ }
 {
     Standing {
         left: wide(left_offset),
         right: wide(right_offset),
-        up: larger(1, larger(right_offset, largest(right, 0))),
-        down: larger(left_offset, largest(left, 0)),
+        up: larger(1, larger(right_offset, drop)),
+        down: larger(left_offset, lift),
         counts: !homogeneous,
     }
 }
@@ -149,7 +133,7 @@ pub fn search(
 {
     let lifts = tops(left);
     let drops = tops(right);
-    let at = start(left, right, left_offset, right_offset, homogeneous);
+    let at = start(lifts[0], drops[0], left_offset, right_offset, homogeneous);
     let places = left.len();
     let mut vector = [0u8; 6];
     walk(

@@ -1,12 +1,7 @@
--- `nightly::do_block` meets its contract: what was asked is printed, with the tally's line. Assumes nothing.
-use native.Mathlib.Omega.{arith}
-use mathlib.Core.Path.{refl, ap₂}
-use Rattle.table.specs.Table.{groupsIn}
-use Rattle.buffer.proofs.Puts.{put-as}
-use Rattle.nightly.specs.Asked.{leftSide, rightSide}
-use Rattle.nightly.specs.Text.{pageText, blockText}
+-- `nightly::do_block` meets its contract: what was asked is ready to be printed, and the counts are the tally's. Assumes nothing.
 use Rattle.nightly.proofs.Sides.{numbered}
-use Rattle.nightly.proofs.Pages.{asked-ready, asked-page-of}
+use native.Mathlib.Omega.{arith}
+use Rattle.nightly.proofs.Sides.{asked-ready}
 use borrow.Author.Needs.{needs}
 use Rattle.nightly.proofs.do_block.Statement.{statement}
 use Rattle.nightly.proofs.do_block.Tie as tie
@@ -23,46 +18,25 @@ ask-requires c κs = search needs
 tally-requires : tie.Need-tally-requires
 tally-requires c κs = search needs
 
-slice-aggregate-put-block : tie.Need-slice-aggregate-put-block
-slice-aggregate-put-block c = search needs
+slice-aggregate-print-block : tie.Need-slice-aggregate-print-block
+slice-aggregate-print-block c = search needs
 
-put-block-requires : tie.Need-put-block-requires
-put-block-requires c κs =
-    let at-ask = c .before .before .before .before .before .before in
-    let entry = at-ask .before .before .before .before .before in
-    (asked-ready (at-ask .ask .ensures .pair) (omega (arith, at-ask .ask .kept .1 .1 .0)), entry .pre)
+print-block-requires : tie.Need-print-block-requires
+print-block-requires c κs = (asked-ready (c .before .before .before .before .before .before .ask .ensures .pair) (omega (arith, c .before .before .before .before .before .before .ask .kept .1 .1 .0)), (c .before .before .before .before .before .before .before .before .before .before .before .pre .0, c .before .before .before .before .before .before .before .before .before .before .before .pre .1))
 
 same-length : tie.Need-same-length
 same-length c = search needs
 
 returns : tie.Need-returns
-returns c =
-    let at-tally = c .before .before .before .before .before .before in
-    let at-ask = at-tally .before .before .before in
-    let at-expected-number = at-ask .before .before in
-    let a = at-ask .ask .result in
-    let questions = numbered (at-expected-number .expected-number .ensures) (at-ask .ask .ensures) in
-    let ks = at-ask .ask .last .1 .1 .0 in
-    let left = leftSide a (questions .left) in
-    let right = rightSide a (questions .right) in
-    let page = pageText left right (groupsIn (a .table)) (a .page) ks in
-    let t = at-tally .tally .ensures in (
-      c .before .before .put-block .ensures .0,
-      record {
-        text = _;
-        printed =
-            record {
-              asked = a;
-              ks = ks;
-              the-questions = questions;
-              the-text = refl;
-              the-counts = t .the-counts;
-            };
-        put =
-            put-as (ap₂ (λ P line. blockText P line page) (t .the-place) (t .the-line))
-            (c .before .before .put-block .ensures .1 _ _ (asked-page-of (questions .pair)));
-      },
-    )
+returns c = (
+  c .before .before .print-block .ensures,
+  record {
+    asked = c .before .before .before .before .before .before .before .before .before .ask .result;
+    keys-after = c .before .before .before .before .before .before .before .before .before .ask .last .1 .1 .0;
+    the-questions = numbered (c .before .before .before .before .before .before .before .before .before .before .before .expected-number .ensures) (c .before .before .before .before .before .before .before .before .before .ask .ensures);
+    the-counts = c .before .before .before .before .before .before .tally .ensures .the-counts;
+  },
+)
 
 pub do-block-spec : {M : Type 1} → statement M
 do-block-spec =
@@ -72,7 +46,7 @@ do-block-spec =
     slice-aggregate-ask
     ask-requires
     tally-requires
-    slice-aggregate-put-block
-    put-block-requires
+    slice-aggregate-print-block
+    print-block-requires
     same-length
     returns)

@@ -1,4 +1,4 @@
--- `nightly::ask::ask` meets its contract: the sides that Read gave fit their buffers. Assumes nothing.
+-- `nightly::ask::ask` meets its contract: the sides that Read gave fit their buffers, and are asked about. Assumes nothing.
 use native.Mathlib.Omega.{arith}
 use Prim.Native.Nat.{_≤_}
 use mathlib.Core.Path.{sym}
@@ -25,30 +25,18 @@ right-length-requires : tie.Need-right-length-requires
 right-length-requires c κs = search needs
 
 array-share-prefix-left : tie.Need-array-share-prefix-left
-array-share-prefix-left c =
-    let at-read = c .before .before .before .before in
-    omega (arith, c .before .left-length .ensures, left-fits (at-read .read .result) (at-read .read .ensures))
+array-share-prefix-left c = omega (arith, c .before .left-length .ensures, left-fits (c .before .before .before .before .read .result) (c .before .before .before .before .read .ensures))
 
 slice-aggregate-ask-sides : tie.Need-slice-aggregate-ask-sides
-slice-aggregate-ask-sides c =
-    let at-read = c .before .before .before .before .before in
-    let l = c .before .before .left-length in
-    let within : l .result ≤ length (at-read .read .last .1 .1 .0) =
-    omega (arith, l .ensures, left-fits (at-read .read .result) (at-read .read .ensures)) in
-    sym (length-take-le (c .before .before .left-length .result) (at-read .read .last .1 .1 .0) within)
+slice-aggregate-ask-sides c = let within : c .before .before .left-length .result ≤ length (c .before .before .before .before .before .read .last .1 .1 .0) = omega (arith, c .before .before .left-length .ensures, left-fits (c .before .before .before .before .before .read .result) (c .before .before .before .before .before .read .ensures)) in
+    sym (length-take-le (c .before .before .left-length .result) (c .before .before .before .before .before .read .last .1 .1 .0) within)
 
 array-share-prefix-right : tie.Need-array-share-prefix-right
-array-share-prefix-right c =
-    let at-read = c .before .before .before .before .before in
-    omega (arith, c .before .right-length .ensures, right-fits (at-read .read .result) (at-read .read .ensures))
+array-share-prefix-right c = omega (arith, c .before .right-length .ensures, right-fits (c .before .before .before .before .before .read .result) (c .before .before .before .before .before .read .ensures))
 
 slice-aggregate-ask-sides-2 : tie.Need-slice-aggregate-ask-sides-2
-slice-aggregate-ask-sides-2 c =
-    let at-read = c .before .before .before .before .before .before in
-    let r = c .before .before .right-length in
-    let within : r .result ≤ length (at-read .read .last .1 .1 .1 .0) =
-    omega (arith, r .ensures, right-fits (at-read .read .result) (at-read .read .ensures)) in
-    sym (length-take-le (c .before .before .right-length .result) (at-read .read .last .1 .1 .1 .0) within)
+slice-aggregate-ask-sides-2 c = let within : c .before .before .right-length .result ≤ length (c .before .before .before .before .before .before .read .last .1 .1 .1 .0) = omega (arith, c .before .before .right-length .ensures, right-fits (c .before .before .before .before .before .before .read .result) (c .before .before .before .before .before .before .read .ensures)) in
+    sym (length-take-le (c .before .before .right-length .result) (c .before .before .before .before .before .before .read .last .1 .1 .1 .0) within)
 
 ask-sides-requires : tie.Need-ask-sides-requires
 ask-sides-requires c κs = search needs
@@ -57,12 +45,7 @@ same-length : tie.Need-same-length
 same-length c = search needs
 
 returns : tie.Need-returns
-returns c =
-    let at-right-length = c .before .before .before .before .before .before in
-    let at-left-length = at-right-length .before in
-    let at-read = at-left-length .before .before .before in
-    block-asked (at-read .read .ensures) (at-left-length .left-length .ensures) (at-right-length .right-length .ensures)
-    (c .before .before .ask-sides .ensures)
+returns c = block-asked (c .before .before .before .before .before .before .before .before .before .before .read .ensures) (c .before .before .before .before .before .before .before .left-length .ensures) (c .before .before .before .before .before .before .right-length .ensures) (c .before .before .ask-sides .ensures)
 
 pub ask-spec : {M : Type 1} → statement M
 ask-spec =

@@ -1,4 +1,4 @@
--- `nightly::ask::ask_sides` meets its contract: what solving refuses, Rows and Page refuse. Assumes nothing.
+-- `nightly::ask::ask_sides` meets its contract: what solving refuses, Rows and Page refuse; a solved pair they answer. Assumes nothing.
 use native.Mathlib.Omega.{arith}
 use mathlib.Core.Path.{_≡_, refl}
 use Prim.Native.Nat.{ℕ}
@@ -22,46 +22,33 @@ slice-aggregate-rows-of : tie.Need-slice-aggregate-rows-of
 slice-aggregate-rows-of c = search needs
 
 rows-of-requires : tie.Need-rows-of-requires
-rows-of-requires c κs =
-    let at-solve = c .before .before .before .before in
-    (at-solve .solve .ensures .the-table (c .before .enum-told .given .1) .within, omega arith)
+rows-of-requires c κs = (c .before .before .before .before .solve .ensures .the-table (c .before .enum-told .given .1) .within, omega arith)
 
 page-of-requires : tie.Need-page-of-requires
-page-of-requires c κs =
-    let at-enum-told = c .before .before .before .before in
-    let at-solve = at-enum-told .before .before .before in
-    at-solve .solve .ensures .the-table (at-enum-told .enum-told .given .1) .within
+page-of-requires c κs = c .before .before .before .before .before .before .before .solve .ensures .the-table (c .before .before .before .before .enum-told .given .1) .within
 
 returns : tie.Need-returns
-returns c =
-    let at-solve = c .before .before .before .before in
-    let entry = at-solve .before .before .before .before in
-    let first = at-solve .solve .ensures .refused _ (c .before .verdict .given .1) in
+returns c = let first = c .before .before .before .before .solve .ensures .refused _ (c .before .verdict .given .1) in
     record {
       same-read = refl;
       rows-after = _;
       rows-promise = sides-refused (omega arith) first;
-      page-promise = is-refused (first-of-sides (entry .pre) first);
-      solved = λ e. absurd (let z : _≡_ {A = ℕ} 0 1 = cc e in omega arith);
+      page-promise = is-refused (first-of-sides (c .before .before .before .before .before .before .before .before .pre) first);
+      the-table = λ e. absurd (let z : _≡_ {A = ℕ} 0 1 = cc e in omega arith);
     }
 
 same-length : tie.Need-same-length
 same-length c = search needs
 
 returns-2 : tie.Need-returns-2
-returns-2 c =
-    let at-rows-of = c .before .before .before .before .before in
-    let at-enum-told = at-rows-of .before .before in
-    let at-solve = at-enum-told .before .before .before in
-    let solved = at-solve .solve .ensures in
-    let accepted = at-enum-told .enum-told .given .1 in
+returns-2 c = let solved = c .before .before .before .before .before .before .before .before .before .before .solve .ensures in
+    let accepted = c .before .before .before .before .before .before .before .enum-told .given .1 in
     record {
       same-read = refl;
       rows-after = _;
-      rows-promise = at-rows-of .rows-of .ensures _ _ _ (solved .the-table accepted) (solved .none-given accepted);
-      page-promise =
-          c .before .before .page-of .ensures _ _ _ refl (solved .the-table accepted) (solved .none-given accepted);
-      solved = λ e. record { none-given = solved .none-given accepted; the-table = solved .the-table accepted };
+      rows-promise = c .before .before .before .before .before .rows-of .ensures _ _ _ (solved .the-table accepted) (solved .none-given accepted);
+      page-promise = c .before .before .page-of .ensures _ _ _ refl (solved .the-table accepted) (solved .none-given accepted);
+      the-table = λ e. solved .the-table accepted;
     }
 
 pub ask-sides-spec : {M : Type 1} → statement M

@@ -16,7 +16,7 @@ abbrev μ-places : tie.MeasureT-places
 μ-places rows count vector met₀ row start place₀ met place = length vector - place
 
 abbrev Inv-rows : tie.InvT-rows
-Inv-rows rows count vector met₀ row₀ met row = Tried rows vector count row × (met ≡ false)
+Inv-rows rows count vector met₀ row₀ met row = Tried rows vector row × (met ≡ false)
 
 abbrev μ-rows : tie.MeasureT-rows
 μ-rows rows count vector met₀ row₀ met row = count - row
@@ -72,9 +72,8 @@ rows-less c = omega arith
 rows-again : tie.Need-rows-again Inv-places μ-places Inv-rows μ-rows
 rows-again c =
     let at-places = c .before .before .before .before in
-    let at-rows-test = at-places .before in
-    let at-rows = at-rows-test .before in
-    (tried-more (at-rows .rows .inv .0) (at-rows-test .rows-test .taken) (omega (arith, at-places .places .inv .0 .within)) (c .if2 .taken), at-places .places .inv .1)
+    let at-rows = at-places .before .before in
+    (tried-more (at-rows .rows .inv .0) (omega (arith, at-places .places .inv .0 .within)) (c .if2 .taken), at-places .places .inv .1)
 
 returns : tie.Need-returns Inv-places μ-places Inv-rows μ-rows
 returns c = record {

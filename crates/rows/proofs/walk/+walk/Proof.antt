@@ -4,7 +4,7 @@ use mathlib.Core.Path.{_∙_}
 use lib.ListN.{length, length-set}
 use borrow.Author.Needs.{needs}
 use Rattle.rows.proofs.Walking.{walks-full, room-to-settle, walks-settled, walks-apart}
-use Rattle.rows.proofs.Turns.{Turn, walks-none, first-turn, ready-next, next-turn, walks-most}
+use Rattle.rows.proofs.Turns.{Turn, choice-here, walks-none, first-turn, ready-next, next-turn, walks-most}
 use Prim.Native.Nat.{ℕ, _-_, _<_}
 use borrow.Fn.Kinds.{In}
 use borrow.Fn.PlainCycle.{Measures, is, falls, and}
@@ -117,17 +117,13 @@ walk-returns-4 : (t : ℕ) → walk-lts.Need-returns-4 (calls t) (walk-at t) wal
 walk-returns-4 t c =
     let at-if2 = c .before .before .before .before .before .before .before .before in
     let entry = at-if2 .before .before .before .before .before .before .before .before in
-    walks-none
-    (record { ready = entry .pre .1; within = omega (arith, entry .pre .1 .within, at-if2 .if2 .left); ranges = c .before .possible .ensures })
-    (c .if4 .taken)
+    walks-none (choice-here (entry .pre .1) (at-if2 .if2 .left) (c .before .possible .ensures)) (c .if4 .taken)
 
 walk-loop-holds : (t : ℕ) → walk-lts.Need-loop-holds (calls t) (walk-at t) walk.Post walk-Inv-loop walk-μ-loop
 walk-loop-holds t c =
     let at-if2 = c .before .before .before .before .before .before .before .before in
     let entry = at-if2 .before .before .before .before .before .before .before .before in
-    first-turn
-    (record { ready = entry .pre .1; within = omega (arith, entry .pre .1 .within, at-if2 .if2 .left); ranges = c .before .possible .ensures })
-    (c .if4 .left)
+    first-turn (choice-here (entry .pre .1) (at-if2 .if2 .left) (c .before .possible .ensures)) (c .if4 .left)
 
 walk-slice-write-vector : (t : ℕ) → walk-lts.Need-slice-write-vector (calls t) (walk-at t) walk.Post walk-Inv-loop walk-μ-loop
 walk-slice-write-vector t c = omega (arith, c .loop .inv .choice .within, c .loop .inv .choice .ready .vectors, c .loop .inv .reached .vectors)

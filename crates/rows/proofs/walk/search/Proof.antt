@@ -14,6 +14,12 @@ tops-requires c κs = search needs
 tops-requires-2 : tie.Need-tops-requires-2
 tops-requires-2 c κs = search needs
 
+array-read-start : tie.Need-array-read-start
+array-read-start c = search needs
+
+array-read-start-2 : tie.Need-array-read-start-2
+array-read-start-2 c = search needs
+
 start-requires : tie.Need-start-requires
 start-requires c κs = search needs
 
@@ -37,7 +43,10 @@ walk-requires c κs =
     let at-tops2 = at-start .before in
     let at-tops = at-tops2 .before in
     let entry = at-tops .before .before .before .before in
-    ready-start (entry .pre) (at-start .start .ensures) (at-tops .tops .ensures) (at-tops2 .tops2 .ensures) (search needs) (search needs)
+    let lefts = at-tops .tops .ensures in
+    let rights = at-tops2 .tops2 .ensures in
+    ready-start (entry .pre) (at-start .start .ensures (entry .args .left .now) (entry .args .right .now) (lefts 0) (rights 0)) lefts rights
+    (search needs) (search needs)
     (length-take-le (length (entry .args .left .now)) (replicate 6 0) (entry .pre .few-places))
 
 same-length : tie.Need-same-length
@@ -47,10 +56,13 @@ returns : tie.Need-returns
 returns c =
     let at-walk = c .before .before .before in
     let at-start = at-walk .before .before .before .before .before in
-    let entry = at-start .before .before .before .before .before .before in
+    let at-tops2 = at-start .before in
+    let at-tops = at-tops2 .before in
+    let entry = at-tops .before .before .before .before in
+    let starts = at-start .start .ensures (entry .args .left .now) (entry .args .right .now) (at-tops .tops .ensures 0) (at-tops2 .tops2 .ensures 0) in
     let E = equation (entry .args .left .now) (entry .args .right .now) (entry .args .left-offset) (entry .args .right-offset) (entry .args .homogeneous) in
     finds-all
-    (at-walk .walk .ensures .found E (stands-start {E = E} (sym (entry .pre .rights)) (at-start .start .ensures)) (holds-start E (entry .args .limit) (entry .args .rows .now)))
+    (at-walk .walk .ensures .found E (stands-start {E = E} (sym (entry .pre .rights)) starts) (holds-start E (entry .args .limit) (entry .args .rows .now)))
 
 pub search-spec : {M : Type 1} → statement M
 search-spec =
@@ -58,6 +70,8 @@ search-spec =
     (tie.spec
     tops-requires
     tops-requires-2
+    array-read-start
+    array-read-start-2
     start-requires
     slice-aggregate-walk
     slice-aggregate-walk-2

@@ -1,6 +1,6 @@
 -- `rows::walk::settle` meets its contract: after the last place a vector solves the equation exactly if the sums are equal and it counts.
 -- Assumes nothing.
-use Prim.Native.Nat.{ℕ, _≤_, _<_}
+use Prim.Native.Nat.{ℕ, _+_, _≤_, _<_}
 use native.Mathlib.Omega.{arith}
 use mathlib.Core.Path.{_≡_, refl, sym, subst, _∙_}
 use mathlib.Core.Bool.{true, false, true≢false}
@@ -23,14 +23,14 @@ module _ {limit n : ℕ} {v bytes : List ℕ} {at : Standing} (fits : n ≤ limi
   settles-unequal unequal =
       record {
         counted = omega arith;
-        found = λ E s. skip v (λ rest minimal. unequal (omega (arith, s .equal rest (rest-places s rest minimal) (minimal .least .has))));
+        found = λ E s. skip v (λ rest minimal. unequal (omega (arith, s .solves rest (rest-places s rest minimal) .0 (minimal .least .has) .0)));
       }
 
   settles-zero : at .counts ≡ false → Settles limit v at bytes n bytes n
   settles-zero zero =
       record {
         counted = omega arith;
-        found = λ E s. skip v (λ rest minimal. none rest (rest-places s rest minimal) (s .not-all-zero rest (rest-places s rest minimal) (minimal .least .has) zero));
+        found = λ E s. skip v (λ rest minimal. none rest (rest-places s rest minimal) (s .solves rest (rest-places s rest minimal) .0 (minimal .least .has) .1 zero));
       }
     where
       none : (rest : List ℕ) → length rest ≡ 0 → 0 < sum rest → ⊥
@@ -39,11 +39,12 @@ module _ {limit n : ℕ} {v bytes : List ℕ} {at : Standing} (fits : n ≤ limi
 
 settles-kept : {limit n n′ : ℕ} {v bytes bytes′ : List ℕ} {at : Standing} → at .left ≡ at .right → at .counts ≡ true → Keeps limit v bytes n bytes′ n′
     → Settles limit v at bytes n bytes′ n′
-settles-kept {v = v} equal counts kept =
+settles-kept {v = v} {at = at} equal counts kept =
     record {
       counted = kept .counted;
       found = λ E s. kept .found E (omega (arith, s .places))
-          (subst (Solves E) (append-nil v) (s .solves [] refl (omega arith) (λ zero. absurd (true≢false (sym counts ∙ zero)))));
+          (let ends : 0 + at .left ≡ 0 + at .right = omega arith in
+          subst (Solves E) (append-nil v) (s .solves [] refl .1 (ends, λ zero. absurd (true≢false (sym counts ∙ zero)))));
     }
 
 returns : tie.Need-returns

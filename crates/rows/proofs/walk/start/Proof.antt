@@ -12,29 +12,23 @@ wide-requires c κs = search needs
 wide-requires-2 : tie.Need-wide-requires-2
 wide-requires-2 c κs = search needs
 
-largest-requires : tie.Need-largest-requires
-largest-requires c κs = search needs
-
 larger-requires : tie.Need-larger-requires
 larger-requires c κs = search needs
 
 larger-requires-2 : tie.Need-larger-requires-2
 larger-requires-2 c κs = search needs
 
-largest-requires-2 : tie.Need-largest-requires-2
-largest-requires-2 c κs = search needs
-
 larger-requires-3 : tie.Need-larger-requires-3
 larger-requires-3 c κs = search needs
 
 returns : tie.Need-returns
 returns c =
-    let at-larger2 = c .before .before in
+    let at-larger2 = c .before in
     let at-larger = at-larger2 .before in
-    let at-largest = at-larger .before in
-    let at-wide2 = at-largest .before in
+    let at-wide2 = at-larger .before in
     let at-wide = at-wide2 .before in
-    starts-from-largest (c .before .largest2 .ensures) (at-largest .largest .ensures) (at-wide .wide .ensures) (at-wide2 .wide2 .ensures) refl
+    λ left right lefts rights.
+    starts-from-largest lefts rights (at-wide .wide .ensures) (at-wide2 .wide2 .ensures) refl
     (omega (arith, at-larger .larger .ensures, at-larger2 .larger2 .ensures)) (c .larger3 .ensures) (omega (arith, at-larger2 .larger2 .ok))
     (omega (arith, c .larger3 .ok))
 
@@ -44,9 +38,7 @@ start-spec =
     (tie.spec
     wide-requires
     wide-requires-2
-    largest-requires
     larger-requires
     larger-requires-2
-    largest-requires-2
     larger-requires-3
     returns)

@@ -1,39 +1,43 @@
 -- `rows::walk::tops` meets its contract. Assumes nothing.
-use Prim.Native.Nat.{_-_}
 use native.Mathlib.Omega.{arith}
 use mathlib.Core.Path.{refl}
-use lib.ListN.{length}
 use borrow.Author.Needs.{needs}
-use Rattle.rows.proofs.LargestBytes.{ToppedTo, topped-more, topped-all}
+use Rattle.rows.proofs.Tops.{ToppedFrom, topped-none, topped-more, topped-all}
 use Rattle.rows.proofs.walk.tops.Statement.{statement}
 use Rattle.rows.proofs.walk.tops.Tie as tie
 
 abbrev Inv-loop : tie.InvT-loop
-Inv-loop bytes each₀ place₀ each place = ToppedTo bytes each place
+Inv-loop bytes each₀ most₀ place₀ each most place = ToppedFrom bytes each most place
 
 abbrev μ-loop : tie.MeasureT-loop
-μ-loop bytes each₀ place₀ each place = length bytes - place
+μ-loop bytes each₀ most₀ place₀ each most place = place
 
 loop-holds : tie.Need-loop-holds Inv-loop μ-loop
-loop-holds c = record { tops-length = refl; topped = λ i h. absurd (omega arith) }
+loop-holds c = topped-none _ _ refl
 
-largest-requires : tie.Need-largest-requires Inv-loop μ-loop
-largest-requires c κs = search needs
+sub-place : tie.Need-sub-place Inv-loop μ-loop
+sub-place c = omega arith
+
+shared-slice-read-larger : tie.Need-shared-slice-read-larger Inv-loop μ-loop
+shared-slice-read-larger c = omega (arith, c .before .before .loop .inv .within, c .before .loop-test .taken)
+
+larger-requires : tie.Need-larger-requires Inv-loop μ-loop
+larger-requires c κs = search needs
 
 array-write-each : tie.Need-array-write-each Inv-loop μ-loop
-array-write-each c = omega (arith, c .before .before .loop .inv .tops-length, c .before .loop-test .taken, c .before .before .before .before .pre)
-
-add-place : tie.Need-add-place Inv-loop μ-loop
-add-place c = omega (arith, c .before .loop-test .taken, c .before .before .before .before .good .0 .0)
+array-write-each c =
+    let at-loop = c .before .before .before in
+    let entry = at-loop .before .before in
+    omega (arith, at-loop .loop .inv .within, entry .pre)
 
 loop-less : tie.Need-loop-less Inv-loop μ-loop
 loop-less c = omega arith
 
 loop-again : tie.Need-loop-again Inv-loop μ-loop
 loop-again c =
-    let at-loop = c .before .before in
+    let at-loop = c .before .before .before in
     let entry = at-loop .before .before in
-    topped-more (at-loop .loop .inv) (omega (arith, c .before .loop-test .taken, entry .pre)) (c .largest .ensures)
+    topped-more (at-loop .loop .inv) (c .before .before .loop-test .taken) (entry .pre) (c .larger .ensures)
 
 returns : tie.Need-returns Inv-loop μ-loop
 returns c = topped-all (c .before .loop .inv) (c .loop-test .left)
@@ -45,9 +49,10 @@ tops-spec =
     Inv-loop
     μ-loop
     loop-holds
-    largest-requires
+    sub-place
+    shared-slice-read-larger
+    larger-requires
     array-write-each
-    add-place
     loop-less
     loop-again
     returns)

@@ -5,26 +5,28 @@ use native.Mathlib.Decide.{decLt, ℕ-discrete}
 use mathlib.Core.Path.{_≡_, sym, _∙_, ap, subst}
 use mathlib.Core.Bool.{Bool, true, false}
 use mathlib.Core.List.{List, List·Memᴰ}
-use lib.ListN.{length, getD}
+use lib.ListN.{length}
 use Rattle.ac.specs.Pair.{Mode, variables}
 use Rattle.ac.specs.Rows.{Groups}
-use Rattle.ac.specs.Selection.{Selection, admissible, allTaken, allReached, taken}
+use Rattle.ac.specs.Selection.{Selection as Taking, admissible, allTaken, allReached, taken}
 use Rattle.ac.specs.Keys.{layout, keys, selectionAt, Candidate, Fits}
 use Rattle.ac.specs.Pages.{LeastFrom, NoneFrom}
 use Rattle.ac.proofs.Listed.{listed-candidates, keys-below}
 use Rattle.table.specs.Table.{groupsIn, Within, TableOf}
 use Rattle.table.specs.declared.Table.{Table}
+use Rattle.keys.specs.declared.Selection.{Selection}
 use Rattle.keys.specs.declared.Standing.{Standing}
 use Rattle.keys.specs.declared.Standing.the-variants.{Candidate as IsCandidate, NoneBefore}
 use Rattle.keys.specs.declared.Next.{Next}
 use Rattle.keys.specs.declared.Next.the-variants.{Key, None}
+use Rattle.keys.specs.Runs.{selectionIn}
 use Rattle.keys.specs.Reach.{Holds}
 use Rattle.keys.specs.Candidates.{Sized, Stands, on-candidate, between}
 use Rattle.keys.specs.List.{OfItsList, NextFrom, found, nothing}
 use Rattle.keys.proofs.Table.{table-sized, table-holds, table-fits}
 
 -- where no variable may be empty, admissible is that every place is reached
-admissible-reached : (M : Mode) (new : ℕ) (L R : List ℕ) (G : Groups) (s : Selection) → M .empties ≡ false
+admissible-reached : (M : Mode) (new : ℕ) (L R : List ℕ) (G : Groups) (s : Taking) → M .empties ≡ false
     → admissible M new L R G s ≡ allReached (taken new G s) (length (variables M L R))
 admissible-reached M new L R G s full =
     ap (λ b. elim b as (λ _. Bool) [ true ↦ allTaken (s .takes) | false ↦ allReached (taken new G s) (length (variables M L R)) ]) full
@@ -108,6 +110,12 @@ between-none (between less none) = (less, none)
 stands-candidate : {G : Groups} {key : ℕ} → Stands G key IsCandidate → Candidate layout G key
 stands-candidate (on-candidate candidate) = candidate
 
+-- what weighing a selection tells
+abbrev Weighed : Table → Selection → Bool → Type 0
+Weighed t s reaches =
+    (G : Groups) → Holds (t .rows) (t .places) s G → Fits layout G → Candidate layout G (s .key)
+    → reaches ≡ allReached (taken (layout .new) G (selectionAt layout G (s .key))) (t .places)
+
 -- One step of the walk, from what was told of the number that it has come to.
 module _ {t : Table} {start at : ℕ} (within : Within t) (walked : Walked t start at) {standing : Standing}
     (told : (G : Groups) → Sized (t .sizes) (t .unbalanced) G → Fits layout G → Stands G at standing) where
@@ -119,14 +127,13 @@ module _ {t : Table} {start at : ℕ} (within : Within t) (walked : Walked t sta
       let h = between-none (subst (Stands (groupsIn t) at) e here) in
       (h .0, record { above = omega (arith, walked .above, h .0); passed = passed-between (walked .passed) (h .1) })
 
-  module _ (e : standing ≡ IsCandidate) {reaches : Bool}
-      (weighed : (G : Groups) → Holds (t .rows) (t .places) (t .unbalanced) (getD (t .sizes) 0 0) G → Fits layout G → Candidate layout G at
-      → reaches ≡ allReached (taken (layout .new) G (selectionAt layout G at)) (t .places)) where
+  module _ (e : standing ≡ IsCandidate) {selection : Selection} (its : selection ≡ selectionIn t at) {reaches : Bool}
+      (weighed : Weighed t selection reaches) where
     candidate : Candidate layout (groupsIn t) at
     candidate = stands-candidate (subst (Stands (groupsIn t) at) e here)
 
     tells : reaches ≡ fills t at
-    tells = weighed (groupsIn t) (table-holds within) (table-fits within) candidate
+    tells = subst (λ s. Weighed t s reaches) its weighed (groupsIn t) (table-holds within at) (table-fits within) candidate
 
     pub step-weighed : reaches ≡ false → Walked t start (at + 1)
     step-weighed missed =

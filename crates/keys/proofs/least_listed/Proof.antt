@@ -3,19 +3,18 @@
 use Prim.Native.Nat.{_-_, _^_}
 use native.Mathlib.Omega.{arith}
 use native.Mathlib.Nat.{le-refl}
+use mathlib.Core.Path.{sym, subst}
 use borrow.Author.Needs.{needs}
+use Rattle.keys.specs.Runs.{Fit}
 use Rattle.keys.proofs.Walk.{Walked, passed-none, step-between, step-weighed, step-found, step-end}
 use Rattle.keys.proofs.least_listed.Statement.{statement}
 use Rattle.keys.proofs.least_listed.Tie as tie
 
 abbrev Inv-loop : tie.InvT-loop
-Inv-loop from table balanced at₀ at = Walked table from at
+Inv-loop from table at₀ at = Walked table from at
 
 abbrev μ-loop : tie.MeasureT-loop
-μ-loop from table balanced at₀ at = 2 ^ 32 - at
-
-element-copy-out-balanced : tie.Need-element-copy-out-balanced Inv-loop μ-loop
-element-copy-out-balanced c = search needs
+μ-loop from table at₀ at = 2 ^ 32 - at
 
 loop-holds : tie.Need-loop-holds Inv-loop μ-loop
 loop-holds c = record { above = le-refl _; passed = passed-none _ _ }
@@ -25,7 +24,7 @@ cast-key c = omega arith
 
 stands-requires : tie.Need-stands-requires Inv-loop μ-loop
 stands-requires c κs =
-    let fit = c .before .before .before .before .before .pre in
+    let fit = c .before .before .before .before .pre in
     (fit .constants-fit, fit .sizes-fit 0)
 
 enum-known-standing : tie.Need-enum-known-standing Inv-loop μ-loop
@@ -37,7 +36,7 @@ loop-less c =
     let turn = stood .before .before .before in
     omega (
       arith,
-      step-between (turn .before .before .before .pre) (turn .before .loop .inv) (stood .stands .ensures) (c .before .standing .given .1) .0,
+      step-between (turn .before .before .pre) (turn .before .loop .inv) (stood .stands .ensures) (c .before .standing .given .1) .0,
       turn .loop-test .taken,
     )
 
@@ -45,23 +44,26 @@ loop-again : tie.Need-loop-again Inv-loop μ-loop
 loop-again c =
     let stood = c .before .before .before in
     let turn = stood .before .before .before in
-    step-between (turn .before .before .before .pre) (turn .before .loop .inv) (stood .stands .ensures) (c .before .standing .given .1) .1
+    step-between (turn .before .before .pre) (turn .before .loop .inv) (stood .stands .ensures) (c .before .standing .given .1) .1
 
 enum-told : tie.Need-enum-told Inv-loop μ-loop
 enum-told c = search needs
 
+selection-of-requires : tie.Need-selection-of-requires Inv-loop μ-loop
+selection-of-requires c κs = search needs
+
 weigh-requires : tie.Need-weigh-requires Inv-loop μ-loop
 weigh-requires c κs =
     let fit = c .before .before .before .before .before .before .before .before .before .before .pre in
-    (fit .places-fit, fit .constants-fit, fit .sizes-fit 0)
+    (subst Fit (sym (c .before .before .selection-of .ensures)) (fit .constants-fit, fit .sizes-fit 0), fit .places-fit)
 
 returns : tie.Need-returns Inv-loop μ-loop
 returns c =
-    let candidate = c .before .before .before .before in
+    let candidate = c .before .before .before .before .before in
     let stood = candidate .before .before in
     let turn = stood .before .before .before in
-    step-found (turn .before .before .before .pre) (turn .before .loop .inv) (stood .stands .ensures) (candidate .enum-told .given .1) (c .before .weigh .ensures)
-    (c .if1 .taken)
+    step-found (turn .before .before .pre) (turn .before .loop .inv) (stood .stands .ensures) (candidate .enum-told .given .1)
+    (c .before .before .before .before .selection-of .ensures) (c .before .weigh .ensures) (c .if1 .taken)
 
 add-at : tie.Need-add-at Inv-loop μ-loop
 add-at c = omega arith
@@ -71,11 +73,11 @@ loop-less-2 c = omega arith
 
 loop-again-2 : tie.Need-loop-again-2 Inv-loop μ-loop
 loop-again-2 c =
-    let candidate = c .before .before .before .before in
+    let candidate = c .before .before .before .before .before in
     let stood = candidate .before .before in
     let turn = stood .before .before .before in
-    step-weighed (turn .before .before .before .pre) (turn .before .loop .inv) (stood .stands .ensures) (candidate .enum-told .given .1) (c .before .weigh .ensures)
-    (c .if1 .left)
+    step-weighed (turn .before .before .pre) (turn .before .loop .inv) (stood .stands .ensures) (candidate .enum-told .given .1)
+    (c .before .before .before .before .selection-of .ensures) (c .before .weigh .ensures) (c .if1 .left)
 
 returns-2 : tie.Need-returns-2 Inv-loop μ-loop
 returns-2 c = step-end (c .before .loop .inv) (c .loop-test .left)
@@ -86,7 +88,6 @@ least-listed-spec =
     (tie.spec
     Inv-loop
     μ-loop
-    element-copy-out-balanced
     loop-holds
     cast-key
     stands-requires
@@ -94,6 +95,7 @@ least-listed-spec =
     loop-less
     loop-again
     enum-told
+    selection-of-requires
     weigh-requires
     returns
     add-at

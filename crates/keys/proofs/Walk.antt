@@ -19,13 +19,12 @@ use Rattle.keys.specs.declared.Standing.{Standing}
 use Rattle.keys.specs.declared.Standing.the-variants.{Candidate as IsCandidate, NoneBefore}
 use Rattle.keys.specs.declared.Next.{Next}
 use Rattle.keys.specs.declared.Next.the-variants.{Key, None}
-use Rattle.keys.specs.Reach.{Holds}
 use Rattle.keys.specs.Candidates.{Sized, Stands, on-candidate, between, fills, HasTuple, LeastWithin}
 use Rattle.keys.specs.Candidates as within
 use Rattle.keys.specs.List.{OfItsList, NextFrom, found, nothing}
 use Rattle.keys.proofs.Candidates.{blockEnd, below-block-end, same-block}
 use Rattle.keys.proofs.Tuples.{mask-fits}
-use Rattle.keys.proofs.Table.{table-sized, table-holds, table-fits}
+use Rattle.keys.proofs.Table.{table-sized, table-fits}
 
 -- where no variable may be empty, admissible is that every place is reached
 admissible-reached : (M : Mode) (new : ℕ) (L R : List ℕ) (G : Groups) (s : Selection) → M .empties ≡ false
@@ -146,8 +145,8 @@ module _ {t : Table} {start at : ℕ} (within : Within t) (walked : Walked t sta
 
   -- A candidate's tuple was tried from its mask on.
   module _ (e : standing ≡ IsCandidate) {tuple from : ℕ} (its-tuple : tuple ≡ at / 65536) (its-mask : from ≡ at % 65536) {next : Next}
-      (tried : (G : Groups) → Holds (t .rows) (t .places) (t .unbalanced) (getD (t .sizes) 0 0) G → Fits layout G → HasTuple G tuple
-      → LeastWithin (fills G (t .places)) (tuple * 65536 + from) (tuple * 65536 + 2 ^ getD (t .sizes) 0 0) next) where
+      (tried : HasTuple (groupsIn t) tuple
+      → LeastWithin (fills (groupsIn t) (t .places)) (tuple * 65536 + from) (tuple * 65536 + 2 ^ getD (t .sizes) 0 0) next) where
     candidate : Candidate layout (groupsIn t) at
     candidate = stands-candidate (subst (Stands (groupsIn t) at) e here)
 
@@ -158,7 +157,7 @@ module _ {t : Table} {start at : ℕ} (within : Within t) (walked : Walked t sta
     least =
         let begins : tuple * 65536 + from ≡ at = omega arith in
         subst (λ (n : ℕ). LeastWithin (fills (groupsIn t) (t .places)) n (tuple * 65536 + 2 ^ getD (t .sizes) 0 0) next) begins
-        (tried (groupsIn t) (table-holds within) (table-fits within) has-tuple)
+        (tried has-tuple)
 
     -- Its masks all miss a place: the walk goes on with the next tuple, since a larger mask has a bit beyond the balanced rows.
     pub step-over : next ≡ None → Walked t start (blockEnd at 16)

@@ -1,2 +1,5 @@
 pub mod Moved
-pub mod Readings
+pub mod Came
+pub mod Growing
+pub mod Waiting
+pub mod Handing

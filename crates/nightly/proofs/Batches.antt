@@ -1,21 +1,18 @@
 -- Laws of what is printed block after block.
 use Prim.Native.Nat.{ℕ, _+_, _-_, _<_, _≤_}
 use native.Mathlib.Omega.{arith}
-use mathlib.Core.Path.{_≡_, refl, ap, sym, subst}
+use mathlib.Core.Path.{_≡_, refl, subst}
 use mathlib.Core.Bool.{false}
 use mathlib.Core.List.{List, [], _∷_, _++_}
 use denote.Enum.Declared.{tagOf}
 use types.Run.{OneOf, miss}
-use Rattle.buffer.specs.Put.{Put}
-use Rattle.buffer.proofs.Puts.{put-as}
 use Rattle.tally.specs.declared.Counts.{Counts}
 use Rattle.library.proofs.Next.{the-type}
-use Rattle.library.proofs.Readings.{handed-block}
+use Rattle.library.proofs.Handing.{handed-block}
 use Rattle.library.specs.Reading.{part, Fits, HandsOn}
 use Rattle.library.specs.declared.Reader.{Reader}
 use Rattle.library.specs.declared.Next.{Next}
 use Rattle.library.specs.declared.Next.the-variants as next
-use Rattle.nightly.specs.Text.{endText}
 use Rattle.nightly.specs.Printed.{BlockPrinted, Printed, IsEnd, Batched}
 use Rattle.nightly.specs.declared.Batch.{Batch}
 
@@ -53,8 +50,3 @@ pub going-on : {input input′ text : List ℕ} {r : Reader} {c : Counts} {b : B
     → b .over ≡ false → GoesOn r (b .reader) input′
 going-on (Batched.goes-on not-over printed fits fewer) e = record { fits = fits; fewer-left = fewer }
 going-on (Batched.ends over printed handed end) e = absurd (let z : _≡_ {A = ℕ} 0 1 = cc (over, e) in omega arith)
-
--- what stands at the end, where it is known how the library ended
-pub put-ending : (c : Counts) {n n′ : Next} {out after : List ℕ} {at next : ℕ} → n ≡ n′
-    → Put out at (endText n′ c) next after → Put out at (endText n c) next after
-put-ending c e p = put-as (sym (ap (λ n. endText n c) e)) p

@@ -1,4 +1,5 @@
--- What is asked of a block: Read, and of the sides that it gives Rows and Page. What each returned is what its promise says.
+-- What is asked of a block: Read, and of the sides that it gives Rows and Page. What each returned is what its
+-- promise says.
 use Prim.Native.Nat.{ℕ}
 use mathlib.Core.Path.{_≡_}
 use mathlib.Core.Bool.{Bool}

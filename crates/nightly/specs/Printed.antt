@@ -1,5 +1,5 @@
--- What the program prints (document 01, "The nightly program"): the texts of the blocks in the order in which the library
--- hands them on, and last what stands at the end.
+-- What the program prints (document 01, "The nightly program"): the texts of the blocks in the order in which
+-- the library hands them on, and last what stands at the end.
 use Prim.Native.Nat.{ℕ, _%_, _<_}
 use mathlib.Core.Path.{_≡_}
 use mathlib.Core.Bool.{true, false}
@@ -30,8 +30,8 @@ abbrev pub textFor : ℕ → Asked → (left right ks : List ℕ) → List ℕ
 textFor P a left right ks =
     blockText P (lineFor a) (pageText (leftSide a left) (rightSide a right) (groupsIn (a .table)) (a .page) ks)
 
--- A block is printed: the questions are asked of it, where its number is to be its place in the file, modulo 65,536; its
--- text and the counts after it are those of what they return.
+-- A block is printed: the questions are asked of it, where its number is to be its place in the file, modulo
+-- 65,536; its text and the counts after it are those of what they return.
 pub record BlockPrinted (block : List ℕ) (before : Counts) (text : List ℕ) (after : Counts) : Type 0 where
   pub asked : Asked
   pub ks : List ℕ
@@ -45,7 +45,8 @@ pub record BlockPut (block : List ℕ) (before : Counts) (out : List ℕ) (at : 
   pub printed : BlockPrinted block before text (d .counts)
   pub put : Put out at text (d .at) out′
 
--- Block after block: the text of those that the library handed on, from how far it had been read to how far it has.
+-- Block after block: the text of those that the library handed on, from how far it had been read to how far it
+-- has.
 pub data Printed (input : List ℕ) (r : Reader) (c : Counts) : List ℕ → List ℕ → Reader → Counts → Type 0 where
   nothing : Printed input r c [] input r c
   a-block : {text more input′ input″ : List ℕ} {r′ r″ : Reader} {c′ c″ : Counts} {start size : ℕ}

@@ -27,7 +27,8 @@ abbrev pub PageOf : List ℕ → List ℕ → PageAnswer → Table → List ℕ 
 PageOf L R (Page written more) table ks = SolvedPair L R table × AllOnList L R table (take written ks)
 PageOf L R (Refused refusal) table ks = Unit {0}
 
--- From a place on these stand in the buffer, for the sides that the table is of: the lines of keys, in their order; ..
+-- From a place on these stand in the buffer, for the sides that the table is of: the lines of keys, in their
+-- order; ..
 abbrev pub KeysPut : Table → List ℕ → List ℕ → ℕ → ℕ → List ℕ → Type 0
 KeysPut table ks out at next after =
     (L R : List ℕ) → SolvedPair L R table → AllOnList L R table ks

@@ -34,7 +34,8 @@ pageText L R G (Refused refusal) keys = []
 abbrev pub blockText : ℕ → Line → List ℕ → List ℕ
 blockText P line page = blockLine P line ++ page ++ endLine line
 
--- what stands at the end: the closing lines, at the end of the input or where input remains; where a read failed, nothing
+-- what stands at the end: the closing lines, at the end of the input or where input remains; where a read
+-- failed, nothing
 abbrev pub endText : Next → Counts → List ℕ
 endText (next.Block start size) c = []
 endText next.End c = closingLines (closingOf c false)

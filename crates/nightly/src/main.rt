@@ -1,5 +1,5 @@
-// The nightly program (document 01, "The nightly program"): reads a library from standard input and prints what is found
-// of each block. It only reads, calls and prints what the proved functions return.
+// The nightly program (document 01, "The nightly program"): reads a library from standard input and prints what
+// is found of each block. It only reads, calls and prints what the proved functions return.
 //
 // No contract can say what is written out. These say, byte for byte, what the output buffer holds where it is.
 mod ask;
@@ -21,7 +21,7 @@ use tally::tally;
 ghost use mathlib.Core.Path.{_≡_};
 ghost use Prim.Native.Nat.{_+_, _≤_};
 ghost use lib.ListN.{length};
-ghost use Rattle.buffer.specs.Put.{Put};
+ghost use Rattle.lines.specs.Putting.{PutWithin};
 ghost use Rattle.library.specs.Reading.{Fits};
 ghost use Rattle.nightly.specs.Text.{endText};
 ghost use Rattle.nightly.specs.Printed.{BlockPut, BatchPut};
@@ -65,7 +65,8 @@ fn run(input: &mut [u8], output: &mut [u8])
     }
 }
 
-// How many bytes of the output buffer are to be written out, whether all is printed then, and where reading goes on.
+// How many bytes of the output buffer are to be written out, whether all is printed then, and where reading
+// goes on.
 struct Batch {
     at: usize,
     over: bool,
@@ -73,7 +74,8 @@ struct Batch {
     counts: Counts,
 }
 
-// Block after block, until the text of another may not fit any more or there is none; then what stands at the end.
+// Block after block, until the text of another may not fit any more or there is none; then what stands at the
+// end.
 fn fill(input: &mut [u8], output: &mut [u8], from: Reader, before: Counts) -> Batch
     requires { ⌜ Fits (now input) from ⌝ }
     requires { ⌜ 1461056 ≤ length (now output) ⌝ }
@@ -141,8 +143,7 @@ fn do_block(block: &[u8], counts: Counts, output: &mut [u8], at: usize) -> Done
 // The lines at the end; where a read failed there are none.
 fn put_end(next: Next, counts: Counts, output: &mut [u8], at: usize) -> usize
     requires { ⌜ at + 128 ≤ length (now output) ⌝ }
-    ensures { λ r. ⌜ r ≤ at + 128 ⌝ }
-    ensures { λ r. ⌜ Put (now (output .entry)) at (endText next counts) r (now (output .exit)) ⌝ }
+    ensures { λ r. ⌜ PutWithin 128 (now (output .entry)) at (endText next counts) r (now (output .exit)) ⌝ }
 {
     match next {
         Next::Block {

@@ -14,7 +14,8 @@ ghost use lib.ListN.{length};
 ghost use Rattle.table.specs.Table.{Within};
 ghost use Rattle.nightly.specs.Putting.{PageReady, KeyPut, KeysPut, PagePut, TextPut};
 
-// The most that the text of a block takes: 200 lines of at most 7,304 bytes, and 128 before them and after them.
+// The most that the text of a block takes: 200 lines of at most 7,304 bytes, and 128 before them and after
+// them.
 pub const BLOCK_TEXT: usize = 1461056;
 
 // The line of a key, from its values. Of a solved pair no value is too long to be written.

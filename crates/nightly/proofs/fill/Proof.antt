@@ -8,7 +8,7 @@ use borrow.Author.Needs.{needs}
 use Rattle.buffer.specs.Put.{Put}
 use Rattle.buffer.proofs.Puts.{put-nothing, put-then}
 use Rattle.library.specs.Reading.{Fits}
-use Rattle.library.proofs.Readings.{handed-block}
+use Rattle.library.proofs.Handing.{handed-block}
 use Rattle.nightly.specs.Printed.{Printed, Batched}
 use Rattle.nightly.proofs.Batches.{no-block, printed-left, printed-more}
 use Rattle.nightly.proofs.fill.Statement.{statement}
@@ -59,11 +59,11 @@ returns c =
     let turn = at-next-block .before .before in
     let n = at-next-block .next-block in
     let l = turn .loop in (
-      omega (arith, c .before .before .put-end .ensures .0, l .inv .1, l .inv .3),
+      omega (arith, c .before .before .put-end .ensures .within, l .inv .1, l .inv .3),
       record {
         text = _;
         batched = Batched.ends refl (l .inv .5) (n .ensures) (no-block (n .result .next) (at-match .match .keys2));
-        put = put-then (l .inv .6) (c .before .before .put-end .ensures .1);
+        put = put-then (l .inv .6) (c .before .before .put-end .ensures .put);
       },
     )
 

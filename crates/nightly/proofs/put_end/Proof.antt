@@ -1,12 +1,17 @@
-use native.Mathlib.Omega.{arith}
 -- `nightly::put_end` meets its contract: each way in which a library ends has its own lines. Assumes nothing.
-use mathlib.Core.Path.{ap}
-use Rattle.lines.specs.Lines.{closingLines}
-use Rattle.buffer.proofs.Puts.{put-as, put-nothing}
-use Rattle.nightly.proofs.Batches.{put-ending}
+use mathlib.Core.Path.{_≡_, ap, sym, _∙_}
 use borrow.Author.Needs.{needs}
+use Rattle.tally.specs.declared.Counts.{Counts}
+use Rattle.lines.specs.Lines.{closingLines}
+use Rattle.lines.proofs.Putting.{within-as, within-nothing}
+use Rattle.library.specs.declared.Next.{Next}
+use Rattle.nightly.specs.Text.{endText}
 use Rattle.nightly.proofs.put_end.Statement.{statement}
 use Rattle.nightly.proofs.put_end.Tie as tie
+
+-- what stands at the end, where it is known how the library ended
+ended : (counts : Counts) {n told : Next} → n ≡ told → endText told counts ≡ endText n counts
+ended counts e = sym (ap (λ n. endText n counts) e)
 
 enum-told : tie.Need-enum-told
 enum-told c = search needs
@@ -33,36 +38,32 @@ enum-told-4 : tie.Need-enum-told-4
 enum-told-4 c = search needs
 
 returns : tie.Need-returns
-returns c = (omega arith, put-ending (c .before .before .before .args .counts) (c .enum-told .given .1) (put-nothing _ _))
+returns c = within-as (ended (c .before .before .before .args .counts) (c .enum-told .given .1)) (within-nothing _ _ _)
 
 same-length : tie.Need-same-length
 same-length c = search needs
 
 returns-2 : tie.Need-returns-2
 returns-2 c =
-    let put = c .before .before .put-closing .ensures in
-    let closing = c .before .before .before .closing-lines .ensures in
-    let at-told = c .before .before .before .before .before in (
-      put .1,
-      put-ending (at-told .before .before .before .args .counts) (at-told .enum-told2 .given .1)
-          (put-as (ap closingLines closing) (put .0)),
-    )
+    let at-told = c .before .before .before .before .before in
+    within-as
+    (ap closingLines (c .before .before .before .closing-lines .ensures)
+    ∙ ended (at-told .before .before .before .args .counts) (at-told .enum-told2 .given .1))
+    (c .before .before .put-closing .ensures)
 
 same-length-2 : tie.Need-same-length-2
 same-length-2 c = search needs
 
 returns-3 : tie.Need-returns-3
 returns-3 c =
-    let put = c .before .before .put-closing2 .ensures in
-    let closing = c .before .before .before .closing-lines2 .ensures in
-    let at-told = c .before .before .before .before .before in (
-      put .1,
-      put-ending (at-told .before .before .before .args .counts) (at-told .enum-told3 .given .1)
-          (put-as (ap closingLines closing) (put .0)),
-    )
+    let at-told = c .before .before .before .before .before in
+    within-as
+    (ap closingLines (c .before .before .before .closing-lines2 .ensures)
+    ∙ ended (at-told .before .before .before .args .counts) (at-told .enum-told3 .given .1))
+    (c .before .before .put-closing2 .ensures)
 
 returns-4 : tie.Need-returns-4
-returns-4 c = (omega arith, put-ending (c .before .before .before .args .counts) (c .enum-told4 .given .1) (put-nothing _ _))
+returns-4 c = within-as (ended (c .before .before .before .args .counts) (c .enum-told4 .given .1)) (within-nothing _ _ _)
 
 pub put-end-spec : {M : Type 1} → statement M
 put-end-spec =

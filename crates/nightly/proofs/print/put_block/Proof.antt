@@ -23,8 +23,8 @@ returns c =
     let line = at-put-page .before .before .before .before .put-block-line .ensures in
     let page = at-put-page .put-page .ensures in
     let end = c .before .before .put-end-line .ensures in (
-      omega (arith, line .1, page .0, end .1),
-      λ L R of. put-then (put-then (line .0) (page .1 L R of)) (end .0),
+      omega (arith, line .within, page .0, end .within),
+      λ L R of. put-then (put-then (line .put) (page .1 L R of)) (end .put),
     )
 
 pub put-block-spec : {M : Type 1} → statement M

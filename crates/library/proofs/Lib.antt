@@ -2,4 +2,4 @@ pub mod Moved
 pub mod Came
 pub mod Growing
 pub mod Waiting
-pub mod Handing
+pub mod Readings

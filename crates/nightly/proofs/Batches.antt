@@ -8,7 +8,7 @@ use denote.Enum.Declared.{tagOf}
 use types.Run.{OneOf, miss}
 use Rattle.tally.specs.declared.Counts.{Counts}
 use Rattle.library.proofs.Next.{the-type}
-use Rattle.library.proofs.Handing.{handed-block}
+use Rattle.library.proofs.Readings.{handed-block}
 use Rattle.library.specs.Reading.{part, Fits, HandsOn}
 use Rattle.library.specs.declared.Reader.{Reader}
 use Rattle.library.specs.declared.Next.{Next}

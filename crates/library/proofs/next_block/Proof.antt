@@ -1,7 +1,7 @@
 -- `library::next_block` meets its contract: what is handed on of the bytes that wait is what comes next. Assumes nothing.
 use Rattle.library.specs.Reading.{HandsOn}
 use Rattle.library.proofs.Waiting.{ready-waits}
-use Rattle.library.proofs.Handing.{hands-on}
+use Rattle.library.proofs.Readings.{hands-on}
 use borrow.Author.Needs.{needs}
 use Rattle.library.proofs.next_block.Statement.{statement}
 use Rattle.library.proofs.next_block.Tie as tie

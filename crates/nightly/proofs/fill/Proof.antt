@@ -8,7 +8,7 @@ use borrow.Author.Needs.{needs}
 use Rattle.buffer.specs.Put.{Put}
 use Rattle.buffer.proofs.Puts.{put-nothing, put-then}
 use Rattle.library.specs.Reading.{Fits}
-use Rattle.library.proofs.Handing.{handed-block}
+use Rattle.library.proofs.Readings.{handed-block}
 use Rattle.nightly.specs.Printed.{Printed, Batched}
 use Rattle.nightly.proofs.Batches.{no-block, printed-left, printed-more}
 use Rattle.nightly.proofs.fill.Statement.{statement}

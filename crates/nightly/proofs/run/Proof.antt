@@ -6,7 +6,7 @@ use lib.ListN.{length}
 use lib.Seq.{length-take-le}
 use borrow.Author.Needs.{needs}
 use Rattle.library.specs.Reading.{Fits}
-use Rattle.library.proofs.Handing.{opened-fits}
+use Rattle.library.proofs.Readings.{opened-fits}
 use Rattle.nightly.proofs.Batches.{going-on}
 use Rattle.nightly.proofs.run.Statement.{statement}
 use Rattle.nightly.proofs.run.Tie as tie

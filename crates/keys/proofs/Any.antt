@@ -4,7 +4,7 @@ use native.Mathlib.Omega.{arith}
 use native.Mathlib.Numerals.{add-one}
 use native.Mathlib.Decide.{decLt}
 use mathlib.Core.Path.{_≡_, refl, sym, _∙_, ap, ap₂, subst}
-use mathlib.Core.Bool.{Bool, true, false, _||_, _&&_}
+use mathlib.Core.Bool.{Bool, true, false, _||_, _&&_, false≢true}
 use borrow.Author.Tests.{lt-ltb, le-ltb}
 use lib.Dec.{ltb}
 use Rattle.keys.specs.Reach.{any, all}
@@ -42,27 +42,27 @@ module _ {bound : ℕ} (value : ℕ → ℕ) where
   pub any-above : (n : ℕ) {i v : ℕ} → i < n → v ≡ value i → bound < v → any n (λ j. ltb bound (value j)) ≡ true
   any-above n {i} h e above = any-found n i (λ j. ltb bound (value j)) h (lt-ltb bound (value i) (subst (λ (k : ℕ). bound < k) e above))
 
-  pub none-above : {i v : ℕ} → any i (λ j. ltb bound (value j)) ≡ false → v ≡ value i → v ≤ bound → any (i + 1) (λ j. ltb bound (value j)) ≡ false
+  pub none-above : {i v : ℕ} → any i (λ j. ltb bound (value j)) ≡ false → v ≡ value i → v ≤ bound
+      → any (i + 1) (λ j. ltb bound (value j)) ≡ false
   none-above {i} none e below = any-more i (λ j. ltb bound (value j)) none (le-ltb bound (value i) (subst (λ (k : ℕ). k ≤ bound) e below))
 
-  pub not-above : {n i : ℕ} → any n (λ j. ltb bound (value j)) ≡ false → i < n → value i ≤ bound
-  not-above {n} {i} none h = go (decLt bound (value i))
+  pub not-above : (n : ℕ) {i : ℕ} → any n (λ j. ltb bound (value j)) ≡ false → i < n → value i ≤ bound
+  not-above n {i} none h = go (decLt bound (value i))
     where
       go : Dec (bound < value i) → value i ≤ bound
-      go (yes above) = absurd (let z : _≡_ {A = ℕ} 0 1 = cc (sym (any-above n h refl above) ∙ none) in omega arith)
+      go (yes above) = absurd (false≢true (sym none ∙ any-above n h refl above))
       go (no below) = omega arith
 
 -- where one passes, there is one that does
 pub any-some : (n : ℕ) (test : ℕ → Bool) → any n test ≡ true → (i : ℕ) × (i < n) × (test i ≡ true)
-any-some zero test e = absurd (let z : _≡_ {A = ℕ} 0 1 = cc e in omega arith)
+any-some zero test e = absurd (false≢true e)
 any-some (suc n) test e = go (any n test) refl (test n) refl (any-some n test)
   where
-    go : (a : Bool) → any n test ≡ a → (b : Bool) → test n ≡ b → (any n test ≡ true → (i : ℕ) × (i < n) × (test i ≡ true)) → (i : ℕ) × (i < suc n) × (test i ≡ true)
+    go : (a : Bool) → any n test ≡ a → (b : Bool) → test n ≡ b → (any n test ≡ true → (i : ℕ) × (i < n) × (test i ≡ true))
+        → (i : ℕ) × (i < suc n) × (test i ≡ true)
     go true p b q rec = let r = rec p in (r .0, omega (arith, r .1), r .2)
     go false p true q rec = (n, omega arith, q)
-    go false p false q rec =
-        let contra : false ≡ true = sym (ap (λ a. a || test n) p ∙ q) ∙ e in
-        absurd (let z : _≡_ {A = ℕ} 0 1 = cc contra in omega arith)
+    go false p false q rec = absurd (false≢true (sym (ap (λ a. a || test n) p ∙ q) ∙ e))
 
 -- where all passed so far and this one does, all passed with this one; one that does not is enough against all
 pub all-more : (i : ℕ) (test : ℕ → Bool) → all i test ≡ true → test i ≡ true → all (i + 1) test ≡ true

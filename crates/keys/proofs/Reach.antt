@@ -25,10 +25,10 @@ some-of-total zero times = refl
 some-of-total (suc n) times = some-of-sum (total n times) (times n) ∙ ap (λ b. b || ltb 0 (times n)) (some-of-total n times)
 
 -- taken rows reach a place if the value there has an atom
-reached-value : (ts : List Taken) (p : ℕ) → reached ts p ≡ ltb 0 (length (valueAt ts p))
-reached-value [] p = refl
-reached-value (t ∷ ts) p =
-    ap (λ b. ltb 0 (getD (t .row) p 0) || b) (reached-value ts p) ∙ sym (some-of-sum (getD (t .row) p 0) (length (valueAt ts p)))
+reached-length : (ts : List Taken) (p : ℕ) → reached ts p ≡ ltb 0 (length (valueAt ts p))
+reached-length [] p = refl
+reached-length (t ∷ ts) p =
+    ap (λ b. ltb 0 (getD (t .row) p 0) || b) (reached-length ts p) ∙ sym (some-of-sum (getD (t .row) p 0) (length (valueAt ts p)))
     ∙ ap (ltb 0)
     (sym
     (length-append (replicate (getD (t .row) p 0) (t .atom)) (valueAt ts p)
@@ -38,7 +38,7 @@ module _ {rows : List ℕ} {places : ℕ} {s : Selection} {G : Groups} (holds : 
     (candidate : Candidate layout G (s .key)) where
   place-reached : (p : ℕ) → p < places → reached (taken (layout .new) G (selectionAt layout G (s .key))) p ≡ reaches rows s p
   place-reached p h =
-      reached-value (taken (layout .new) G (selectionAt layout G (s .key))) p
+      reached-length (taken (layout .new) G (selectionAt layout G (s .key))) p
       ∙ ap (λ l. ltb 0 (length l)) (sym (atoms-value holds fits candidate p h))
       ∙ ap (ltb 0) (length-runs (runCount s) (timesAt rows s p) (atomOf s)) ∙ some-of-total (runCount s) (timesAt rows s p)
 

@@ -34,5 +34,6 @@ module _ (g : ℕ) (times atom : ℕ → ℕ) {out₀ out : List ℕ} {at next :
   run-fits n h room e = omega (arith, put .place, put-length put, length-runs g times atom, total-within n g times h)
 
   -- the next run is put
-  pub put-run : {k b m : ℕ} {after : List ℕ} → k ≡ times g → b ≡ atom g → Put out next (replicate k b) m after → Put out₀ at (runs (g + 1) times atom) m after
+  pub put-run : {k b m : ℕ} {after : List ℕ} → k ≡ times g → b ≡ atom g → Put out next (replicate k b) m after
+      → Put out₀ at (runs (g + 1) times atom) m after
   put-run e f more = put-as (runs-next g times atom) (put-then put (put-as (ap₂ (λ a c. replicate a c) e f) more))

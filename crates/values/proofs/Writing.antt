@@ -4,7 +4,7 @@ use native.Mathlib.Omega.{arith}
 use mathlib.Core.Path.{_≡_, sym, _∙_, ap, subst, subst₂}
 use mathlib.Core.Bool.{true, false}
 use mathlib.Core.List.{List, [], List·Memᴰ}
-use borrow.Author.Tests.{ltb-true, lt-ltb}
+use borrow.Author.Tests.{ltb-true}
 use lib.Dec.{ltb}
 use lib.ListN.{length, getD}
 use lib.Seq.{getD-take}
@@ -20,7 +20,7 @@ use Rattle.buffer.proofs.Puts.{put-as, put-received}
 use Rattle.keys.specs.Runs.{selectionIn, runCount, timesAt, atomOf, atomsAt, lengthAt}
 use Rattle.keys.specs.Reach.{Holds}
 use Rattle.keys.specs.declared.Selection.{Selection}
-use Rattle.keys.proofs.Any.{any-found, any-some}
+use Rattle.keys.proofs.Any.{any-some, not-above}
 use Rattle.keys.proofs.Runs.{length-runs, atoms-value}
 use Rattle.keys.proofs.Table.{table-fits, table-holds}
 use Rattle.table.specs.Table.{TableOf, groupsIn}
@@ -67,22 +67,17 @@ module _ {M : Mode} {L R : List ℕ} {t : Table} {key : ℕ} (of : TableOf M L R
         variable = getD (variables M L R) p 0;
         of-the-pair = getD-member (variables M L R) p 0 h;
         long =
-            subst (λ n. 200 < n)
-            (counted p h
-            ∙ ap (λ i. length (valueAt (taken (layout .new) (groupsIn t) (selectionAt layout (groupsIn t) key)) i)) (sym (placeOf-getD (variables-ascending M L R) p h)))
-            (ltb-true 200 _ (found .2));
+            subst (λ i. 200 < length (valueAt (taken (layout .new) (groupsIn t) (selectionAt layout (groupsIn t) key)) i))
+            (sym (placeOf-getD (variables-ascending M L R) p h)) (subst (λ n. 200 < n) (counted p h) (ltb-true 200 _ (found .2)));
       }
 
   -- and the other way round
   counted-long : tooLong (t .rows) (t .places) (selectionIn t key) ≡ false → LongValue M L R (groupsIn t) key → ⊥
   counted-long e long =
-      let h : placeOf (long .variable) (variables M L R) < length (variables M L R) = placeOf-lt (variables M L R) (long .variable) (long .of-the-pair) in
       let p = placeOf (long .variable) (variables M L R) in
-      let some : tooLong (t .rows) (t .places) (selectionIn t key) ≡ true =
-      any-found (t .places) p (λ p. ltb 200 (lengthAt (t .rows) (selectionIn t key) p)) (omega (arith, of .the-places, h))
-      (lt-ltb 200 _ (subst (λ n. 200 < n) (sym (counted p h)) (long .long))) in
-      let z : _≡_ {A = ℕ} 0 1 = cc (sym some ∙ e) in
-      omega arith
+      let h : p < length (variables M L R) = placeOf-lt (variables M L R) (long .variable) (long .of-the-pair) in
+      let within : p < t .places = omega (arith, of .the-places) in
+      omega (arith, not-above (lengthAt (t .rows) (selectionIn t key)) (t .places) e within, counted p h, long .long)
 
   -- What is told of the selection and put of it is told and put of the key.
   module _ {selection : Selection} (its : selection ≡ selectionIn t key) {out : List ℕ} where
@@ -95,5 +90,6 @@ module _ {M : Mode} {L R : List ℕ} {t : Table} {key : ℕ} (of : TableOf M L R
     writes-values {after} {n} e space put =
         let mine : Put out 0 (valuesOf M L R (groupsIn t) key) n after =
         put-as (ap (λ s. laidOut (bindingsBelow (t .variables) (atomsAt (t .rows) s) (t .places))) its ∙ laid) put in
-        subst₂ (λ k l. Writes M L R (groupsIn t) key out (written k) l) (let size : length (valuesOf M L R (groupsIn t) key) ≡ n = omega (arith, mine .place) in size)
-        (sym (put-received mine space)) (fits (counted-long (sym (e ∙ ap (tooLong (t .rows) (t .places)) its))))
+        let size : length (valuesOf M L R (groupsIn t) key) ≡ n = omega (arith, mine .place) in
+        subst₂ (λ k l. Writes M L R (groupsIn t) key out (written k) l) size (sym (put-received mine space))
+        (fits (counted-long (sym (e ∙ ap (tooLong (t .rows) (t .places)) its))))

@@ -28,7 +28,9 @@ times-requires c κs = omega arith
 returns : tie.Need-returns Inv-loop μ-loop
 returns c =
     let a = c .before .before .before .before .before .args in
-    sym (any-above (timesAt (a .rows .now) (a .selection) (a .place)) (runCount (a .selection)) (omega arith) (c .before .times .ensures .0) (c .if1 .taken))
+    sym
+    (any-above (timesAt (a .rows .now) (a .selection) (a .place)) (runCount (a .selection)) (omega arith) (c .before .times .ensures .0)
+    (c .if1 .taken))
 
 add-run : tie.Need-add-run Inv-loop μ-loop
 add-run c = omega arith

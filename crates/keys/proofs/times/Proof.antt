@@ -70,7 +70,8 @@ returns-2 c =
 returns-3 : tie.Need-returns-3
 returns-3 c =
     let a = c .before .before .before .before .before .args in (
-      ap (λ (b : Bool). cond b (getD (a .rows .now) (6 * (a .run - a .selection .unbalanced) + a .place) 0) 0) (sym (c .if2 .left) ∙ c .before .takes .ensures)
+      ap (λ (b : Bool). cond b (getD (a .rows .now) (6 * (a .run - a .selection .unbalanced) + a .place) 0) 0)
+          (sym (c .if2 .left) ∙ c .before .takes .ensures)
           ∙ sym (times-balanced (a .rows .now) (a .selection) (a .place) (c .before .before .before .if1 .left)),
       omega arith,
     )

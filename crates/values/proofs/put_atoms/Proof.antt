@@ -47,7 +47,8 @@ loop-again c =
     let l = c .before .before .before .before .before .before .before .loop in (
       omega arith,
       put-run (l .run) (timesAt (a .rows .now) (a .selection) (a .place)) (atomOf (a .selection)) (l .inv .1)
-          (c .before .before .before .before .before .times .ensures .0) (c .before .before .before .atom .ensures) (c .before .before .put-repeated .ensures),
+          (c .before .before .before .before .before .times .ensures .0) (c .before .before .before .atom .ensures)
+          (c .before .before .put-repeated .ensures),
     )
 
 same-length : tie.Need-same-length Inv-loop μ-loop

@@ -28,10 +28,11 @@ element-copy-out-put-binding c = omega arith
 
 put-binding-requires : tie.Need-put-binding-requires Inv-loop μ-loop
 put-binding-requires c κs =
-    let a = c .before .before .before .before .before .args in
+    let entry = c .before .before .before .before .before in
+    let a = entry .args in
     let l = c .before .before .before .loop in
-    let h : l .place < a .places = omega arith in
-    (omega arith, (not-above (lengthAt (a .rows .now) (a .selection)) (c .before .before .before .before .before .pre .1 .0) h, omega (arith, put-length (l .inv .2))))
+    let short = not-above (lengthAt (a .rows .now) (a .selection)) (a .places) (entry .pre .1 .0) (let h : l .place < a .places = omega arith in h) in
+    (omega arith, (short, omega (arith, put-length (l .inv .2))))
 
 add-place : tie.Need-add-place Inv-loop μ-loop
 add-place c = omega arith
@@ -41,13 +42,14 @@ loop-less c = omega arith
 
 loop-again : tie.Need-loop-again Inv-loop μ-loop
 loop-again c =
-    let a = c .before .before .before .before .before .before .before .before .args in
+    let entry = c .before .before .before .before .before .before .before .before in
+    let a = entry .args in
     let l = c .before .before .before .before .before .before .loop in
     let p = c .before .before .put-binding .ensures in
-    let h : l .place < a .places = omega arith in
+    let short = not-above (lengthAt (a .rows .now) (a .selection)) (a .places) (entry .pre .1 .0) (let h : l .place < a .places = omega arith in h) in
     let size = length-runs (runCount (a .selection)) (timesAt (a .rows .now) (a .selection) (l .place)) (atomOf (a .selection)) in (
       omega arith,
-      omega (arith, p .place, not-above (lengthAt (a .rows .now) (a .selection)) (c .before .before .before .before .before .before .before .before .pre .1 .0) h),
+      omega (arith, p .place, short),
       put-as (laidOut-next (a .variables .now) (atomsAt (a .rows .now) (a .selection)) (l .place) size) (put-then (l .inv .2) p),
     )
 

@@ -8,7 +8,8 @@ use Rattle.values.proofs.value_length.Statement.{statement}
 use Rattle.values.proofs.value_length.Tie as tie
 
 abbrev Inv-loop : tie.InvT-loop
-Inv-loop rows selection place runs length₀ run₀ length run = (run ≤ runs) × (length ≡ total run (timesAt rows selection place)) × (length ≤ 255 * run)
+Inv-loop rows selection place runs length₀ run₀ length run =
+    (run ≤ runs) × (length ≡ total run (timesAt rows selection place)) × (length ≤ 255 * run)
 
 abbrev μ-loop : tie.MeasureT-loop
 μ-loop rows selection place runs length₀ run₀ length run = runs - run
@@ -35,7 +36,8 @@ loop-again : tie.Need-loop-again Inv-loop μ-loop
 loop-again c =
     let a = c .before .before .before .before .args in
     let l = c .before .before .loop in
-    (omega arith, total-next (timesAt (a .rows .now) (a .selection) (a .place)) (l .inv .1) (c .times .ensures .0), omega (arith, c .times .ensures .1))
+    let counted = total-next (timesAt (a .rows .now) (a .selection) (a .place)) (l .inv .1) (c .times .ensures .0) in
+    (omega arith, counted, omega (arith, c .times .ensures .1))
 
 returns : tie.Need-returns Inv-loop μ-loop
 returns c =

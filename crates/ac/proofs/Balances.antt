@@ -14,7 +14,8 @@ use Rattle.ac.proofs.Bridge.{weight-zero, weight-of-constant}
 use Rattle.ac.proofs.Sums.{balanced-sum, unbalanced-sum}
 use Rattle.ac.proofs.Replaced.{Kind, constant, other, kind-of, count-left, count-right}
 
-module _ (M : Mode) (L R : List ℕ) (left : IsSide L) (right : IsSide R) {G : Groups} (groups : GroupsOf M L R G) where
+module _ (M : Mode) (L R : List ℕ) (left : IsSide L) (right : IsSide R) {G : Groups}
+    (groups : GroupsOf M L R G) where
   module _ (θ : Replacement) (same : SameSum (put (M .moves) θ L) (put (M .moves) θ R)) where
     -- b's occurrences in the values
     abbrev its : ℕ → List ℕ
@@ -24,7 +25,8 @@ module _ (M : Mode) (L R : List ℕ) (left : IsSide L) (right : IsSide R) {G : G
     vector b = length-map (variables M L R) (λ x. count b (θ x))
 
     -- they solve b's equation
-    solves : (b : ℕ) → dot (onLeft M L R) (its b) + staying (M .moves) b L ≡ dot (onRight M L R) (its b) + staying (M .moves) b R
+    solves : (b : ℕ)
+        → dot (onLeft M L R) (its b) + staying (M .moves) b L ≡ dot (onRight M L R) (its b) + staying (M .moves) b R
     solves b = sym (count-left M L R left right θ b) ∙ same b ∙ count-right M L R left right θ b
 
     constant-rows : (g : Group) → List·Memᴰ g (G .constants) → RowAndSum (g .rows) (G .balanced) (its (g .constant))
@@ -41,7 +43,8 @@ module _ (M : Mode) (L R : List ℕ) (left : IsSide L) (right : IsSide R) {G : G
       where
         by-kind : Kind M L R b → SumOf (G .balanced) (its b)
         by-kind (constant m l r) = absurd (n m)
-        by-kind (other n e) = balanced-sum M L R groups (its b) (vector b) (weight-zero M L R (its b) .1 (omega (arith, solves b)))
+        by-kind (other n e) = balanced-sum M L R groups (its b) (vector b)
+            (weight-zero M L R (its b) .1 (omega (arith, solves b)))
 
     -- The two together: what makes the sides equal is made of rows.
     pub made-of-rows : Balances M L R G θ

@@ -1,7 +1,8 @@
 -- How far a minimal solution can go: Huet's bound on its entries (1978) and Lambert's on their two sums (1987).
 --
--- A solution of an equation without offsets is a smallest one, and the walk bounds it. For an equation with offsets these get a place of their own:
--- a minimal solution with the entry 1 at that place is a smallest solution of the equation without offsets.
+-- A solution of an equation without offsets is a smallest one, and the walk bounds it. For an equation with
+-- offsets these get a place of their own: a minimal solution with the entry 1 at that place is a smallest
+-- solution of the equation without offsets.
 use Prim.Native.Nat.{ℕ, zero, suc, _+_, _*_, _≤_, _<_}
 use native.Mathlib.Omega.{arith}
 use native.Mathlib.Decide.{decLe, ℕ-discrete}
@@ -29,7 +30,8 @@ module _ (E : Equation) {v : List ℕ} (minimal : Minimal E v) where
   abbrev n : ℕ → ℕ
   n = coefficient (E .right)
 
-  abbrev equal-weighted : (u : List ℕ) → dot (E .left) u + E .left-offset ≡ dot (E .right) u + E .right-offset → weighted p u + E .left-offset ≡ weighted n u + E .right-offset
+  abbrev equal-weighted : (u : List ℕ) → dot (E .left) u + E .left-offset ≡ dot (E .right) u + E .right-offset
+      → weighted p u + E .left-offset ≡ weighted n u + E .right-offset
   equal-weighted u e = omega (arith, dot-weighted (E .left) u, dot-weighted (E .right) u)
 
   smallest-balanced : E .homogeneous ≡ true → E .left-offset ≡ E .right-offset → Smallest p n v
@@ -37,7 +39,11 @@ module _ (E : Equation) {v : List ℕ} (minimal : Minimal E v) where
       record {
         equal = omega (arith, equal-weighted v (minimal .least .has .equal));
         no-smaller = λ d le e positive.
-            let solves : Solves E d = record { equal = omega (arith, dot-weighted (E .left) d, dot-weighted (E .right) d); not-all-zero = λ t. positive } in
+            let solves : Solves E d = record {
+              equal = omega (arith, dot-weighted (E .left) d, dot-weighted (E .right) d);
+              not-all-zero =
+                  λ t. positive;
+            } in
             omega (arith, ap sum (minimal .least .no-other d le solves));
       }
 
@@ -60,22 +66,28 @@ module _ (E : Equation) {v : List ℕ} (minimal : Minimal E v) where
         by-size : E .homogeneous ≡ true → Dec (sum u ≤ 0) → 0 < sum u
         by-size t (no positive) = omega arith
         by-size t (yes empty) =
-            absurd (apart t (let h : E .left-offset ≡ E .right-offset = omega (arith, weighted-zero p u empty, weighted-zero n u empty) in h))
+            absurd (apart t (let h : E .left-offset
+            ≡ E .right-offset = omega (arith, weighted-zero p u empty, weighted-zero n u empty) in h))
 
-    -- a solution with entry 1 in front is a solution of the equation; one with entry 0 can be taken off v, and what is left solves the equation
-    no-smaller-extended : (e : ℕ) (u : List ℕ) → e ≤ 1 → u ≼ v → weighted p₁ (e ∷ u) ≡ weighted n₁ (e ∷ u) → 0 < sum (e ∷ u) → sum (1 ∷ v) ≤ sum (e ∷ u)
+    -- a solution with entry 1 in front is a solution of the equation; one with entry 0 can be taken off v,
+    -- and what is left solves the equation
+    no-smaller-extended : (e : ℕ) (u : List ℕ) → e ≤ 1 → u ≼ v → weighted p₁ (e ∷ u) ≡ weighted n₁ (e ∷ u)
+        → 0 < sum (e ∷ u) → sum (1 ∷ v) ≤ sum (e ∷ u)
     no-smaller-extended zero u small le equal positive =
         let r : Rest u v = rest-of le in
-        let solves : Solves E (r .rest) = solves-weighted (r .rest) (let h : weighted p (r .rest) + E .left-offset ≡ weighted n (r .rest) + E .right-offset =
+        let solves : Solves E (r .rest) = solves-weighted (r .rest)
+        (let h : weighted p (r .rest) + E .left-offset ≡ weighted n (r .rest) + E .right-offset =
         omega (arith, equal-weighted v (minimal .least .has .equal), r .products p, r .products n) in h) in
         absurd (omega (arith, r .sums, ap sum (minimal .least .no-other (r .rest) (r .below) solves)))
     no-smaller-extended (suc zero) u small le equal positive =
-        let solves : Solves E u = solves-weighted u (let h : weighted p u + E .left-offset ≡ weighted n u + E .right-offset = omega arith in h) in
+        let solves : Solves E u = solves-weighted u
+        (let h : weighted p u + E .left-offset ≡ weighted n u + E .right-offset = omega arith in h) in
         omega (arith, ap sum (minimal .least .no-other u le solves))
     no-smaller-extended (suc (suc e)) u small le equal positive = absurd (omega arith)
 
     smallest-extended : Smallest p₁ n₁ (1 ∷ v)
-    smallest-extended = record { equal = omega (arith, equal-weighted v (minimal .least .has .equal)); no-smaller = no-smaller }
+    smallest-extended =
+        record { equal = omega (arith, equal-weighted v (minimal .least .has .equal)); no-smaller = no-smaller }
       where
         no-smaller : (d : List ℕ) → d ≼ (1 ∷ v) → weighted p₁ d ≡ weighted n₁ d → 0 < sum d → sum (1 ∷ v) ≤ sum d
         no-smaller d (place {m = e} {u = u} small le) = no-smaller-extended e u small le
@@ -85,22 +97,40 @@ module _ (E : Equation) {v : List ℕ} (minimal : Minimal E v) where
     bounded-extended zero = enough .offsets
     bounded-extended (suc i) = enough .places i
 
-    -- Lambert's bound: the entries at places where left is at least right sum to at most the one budget, the others to at most the other.
+    -- Lambert's bound: the entries at places where left is at least right sum to at most the one budget, the
+    -- others to at most the other.
     pub lambert-bound : (upSum (E .left) (E .right) v ≤ up′) × (downSum (E .left) (E .right) v ≤ down′)
     lambert-bound = by-kind (E .homogeneous) refl (ℕ-discrete (E .left-offset) (E .right-offset))
       where
-        extended : (E .homogeneous ≡ true → E .left-offset ≡ E .right-offset → ⊥) → (upSum (E .left) (E .right) v ≤ up′) × (downSum (E .left) (E .right) v ≤ down′)
-        extended apart = omega (arith, lambert p₁ n₁ (1 ∷ v) (smallest-extended apart) down′ up′ (enough .some) bounded-extended)
+        extended : (E .homogeneous ≡ true → E .left-offset ≡ E .right-offset → ⊥)
+            → (upSum (E .left) (E .right) v ≤ up′) × (downSum (E .left) (E .right) v ≤ down′)
+        extended apart = omega (
+          arith,
+          lambert p₁ n₁ (1 ∷ v) (smallest-extended apart) down′ up′ (enough .some) bounded-extended,
+        )
 
-        by-kind : (b : Bool) → E .homogeneous ≡ b → Dec (E .left-offset ≡ E .right-offset) → (upSum (E .left) (E .right) v ≤ up′) × (downSum (E .left) (E .right) v ≤ down′)
-        by-kind true t (yes same) = lambert p n v (smallest-balanced t same) down′ up′ (enough .some) (enough .places)
+        by-kind : (b : Bool) → E .homogeneous ≡ b → Dec (E .left-offset ≡ E .right-offset)
+            → (upSum (E .left) (E .right) v ≤ up′) × (downSum (E .left) (E .right) v ≤ down′)
+        by-kind true t (yes same) =
+            lambert p n v (smallest-balanced t same) down′ up′ (enough .some) (enough .places)
         by-kind true t (no other) = extended (λ t same. other same)
         by-kind false t d = extended (λ t′ same. true≢false (sym t′ ∙ t))
 
-  -- Huet's bound: every entry is at most every bound B that is at least 1 and at least every distance of left and right, the offsets' among them.
+  -- Huet's bound: every entry is at most every bound B that is at least 1 and at least every distance of left
+  -- and right, the offsets' among them.
   pub huet-bound : {B : ℕ} → Enough E B B → (i : ℕ) → getD v i 0 ≤ B
   huet-bound {B} enough i = by-kind (isUp p n i) refl
     where
       by-kind : (b : Bool) → isUp p n i ≡ b → getD v i 0 ≤ B
-      by-kind true t = omega (arith, entry-weighted (up p n) v i, ap (λ b. cond {A = ℕ} b 1 0 * getD v i 0) t, lambert-bound enough)
-      by-kind false t = omega (arith, entry-weighted (down p n) v i, ap (λ b. cond {A = ℕ} b 0 1 * getD v i 0) t, lambert-bound enough)
+      by-kind true t = omega (
+        arith,
+        entry-weighted (up p n) v i,
+        ap (λ b. cond {A = ℕ} b 1 0 * getD v i 0) t,
+        lambert-bound enough,
+      )
+      by-kind false t = omega (
+        arith,
+        entry-weighted (down p n) v i,
+        ap (λ b. cond {A = ℕ} b 0 1 * getD v i 0) t,
+        lambert-bound enough,
+      )

@@ -1,5 +1,5 @@
--- The working form in ℕ is document 01's signed weight: a weight is 0, or minus a constant's net count, exactly when two sums of naturals agree.
--- So the rows of a pair are the minimal solutions of its equations.
+-- The working form in ℕ is document 01's signed weight: a weight is 0, or minus a constant's net count,
+-- exactly when two sums of naturals agree. So the rows of a pair are the minimal solutions of its equations.
 use Prim.Native.Nat.{ℕ, zero, suc, _+_, _*_, _<_}
 use native.Mathlib.Omega.{arith}
 use native.Mathlib.Nat.{mul-suc, mul-zero}
@@ -45,11 +45,13 @@ difference-times a b n = *ℤ-comm (pos a -ℤ pos b) (pos n) ∙ times n
 
 -- the negated difference is the difference the other way round
 difference-negated : (a b : ℕ) → negℤ (pos a -ℤ pos b) ≡ pos b -ℤ pos a
-difference-negated a b = negℤ-+ℤ (pos a) (negℤ (pos b)) ∙ ap (λ z. negℤ (pos a) +ℤ z) (negℤ-negℤ (pos b)) ∙ +ℤ-comm (negℤ (pos a)) (pos b)
+difference-negated a b = negℤ-+ℤ (pos a) (negℤ (pos b)) ∙ ap (λ z. negℤ (pos a) +ℤ z) (negℤ-negℤ (pos b))
+    ∙ +ℤ-comm (negℤ (pos a)) (pos b)
 
 -- a difference, with what was taken away put back
 difference-restored : (a b d : ℕ) → (pos a -ℤ pos b) +ℤ pos (b + d) ≡ pos (a + d)
-difference-restored a b d = sym (+ℤ-assoc (pos a -ℤ pos b) (pos b) (pos d)) ∙ ap (λ z. z +ℤ pos d) (-ℤ-+ℤ-cancel (pos a) (pos b))
+difference-restored a b d =
+    sym (+ℤ-assoc (pos a -ℤ pos b) (pos b) (pos d)) ∙ ap (λ z. z +ℤ pos d) (-ℤ-+ℤ-cancel (pos a) (pos b))
 
 pos-injective : {m n : ℕ} → pos m ≡ pos n → m ≡ n
 pos-injective e = cc
@@ -59,14 +61,17 @@ difference-equal : (a b c d : ℕ) → (pos a -ℤ pos b ≡ pos c -ℤ pos d) �
 difference-equal a b c d = (to, back)
   where
     to : pos a -ℤ pos b ≡ pos c -ℤ pos d → a + d ≡ c + b
-    to e = pos-injective (sym (difference-restored a b d) ∙ ap₂ (λ x y. x +ℤ pos y) e (let h : b + d ≡ d + b = omega arith in h) ∙ difference-restored c d b)
+    to e = pos-injective (sym (difference-restored a b d)
+        ∙ ap₂ (λ x y. x +ℤ pos y) e (let h : b + d ≡ d + b = omega arith in h) ∙ difference-restored c d b)
 
     back : a + d ≡ c + b → pos a -ℤ pos b ≡ pos c -ℤ pos d
     back e =
-        difference-shifted a b d ∙ ap₂ (λ x y. pos x -ℤ pos y) e (let h : b + d ≡ d + b = omega arith in h) ∙ sym (difference-shifted c d b)
+        difference-shifted a b d ∙ ap₂ (λ x y. pos x -ℤ pos y) e (let h : b + d ≡ d + b = omega arith in h)
+        ∙ sym (difference-shifted c d b)
       where
         difference-shifted : (a b d : ℕ) → pos a -ℤ pos b ≡ pos (a + d) -ℤ pos (b + d)
-        difference-shifted a b d = sym (+ℤ-idr (pos a -ℤ pos b)) ∙ ap (λ z. (pos a -ℤ pos b) +ℤ z) (sym (+ℤ-invr (pos d))) ∙ difference-add a b d d
+        difference-shifted a b d = sym (+ℤ-idr (pos a -ℤ pos b))
+            ∙ ap (λ z. (pos a -ℤ pos b) +ℤ z) (sym (+ℤ-invr (pos d))) ∙ difference-add a b d d
 
 -- The weight, over any list of atoms, is the difference of the two sums of products.
 pub weigh-difference : (L R : List ℕ) (xs v : List ℕ)
@@ -75,11 +80,13 @@ weigh-difference L R [] v = refl
 weigh-difference L R (x ∷ xs) [] = refl
 weigh-difference L R (x ∷ xs) (n ∷ v) =
     ap₂ (λ y z. y +ℤ z) (difference-times (count x L) (count x R) n) (weigh-difference L R xs v)
-    ∙ difference-add (count x L * n) (count x R * n) (dot (map (λ x. count x L) xs) v) (dot (map (λ x. count x R) xs) v)
+    ∙ difference-add (count x L * n) (count x R * n) (dot (map (λ x. count x L) xs) v)
+    (dot (map (λ x. count x R) xs) v)
 
 module _ (M : Mode) (L R : List ℕ) where
   -- a weight is a difference of two numbers exactly when the two sums of products agree with these added crosswise
-  weight-difference : (v : List ℕ) (a b : ℕ) → (weight M L R v ≡ pos a -ℤ pos b) ↔ (dot (onLeft M L R) v + b ≡ dot (onRight M L R) v + a)
+  weight-difference : (v : List ℕ) (a b : ℕ)
+      → (weight M L R v ≡ pos a -ℤ pos b) ↔ (dot (onLeft M L R) v + b ≡ dot (onRight M L R) v + a)
   weight-difference v a b = (to, back)
     where
       left : ℕ
@@ -92,13 +99,15 @@ module _ (M : Mode) (L R : List ℕ) where
       to e = omega (arith, difference-equal left right a b .0 (sym (weigh-difference L R (variables M L R) v) ∙ e))
 
       back : left + b ≡ right + a → weight M L R v ≡ pos a -ℤ pos b
-      back e = weigh-difference L R (variables M L R) v ∙ difference-equal left right a b .1 (let h : left + b ≡ a + right = omega arith in h)
+      back e = weigh-difference L R (variables M L R) v
+          ∙ difference-equal left right a b .1 (let h : left + b ≡ a + right = omega arith in h)
 
   -- A weight is 0 exactly when the two sums of products agree.
   pub weight-zero : (v : List ℕ) → (weight M L R v ≡ pos 0) ↔ (dot (onLeft M L R) v ≡ dot (onRight M L R) v)
   weight-zero v = (
     λ e. omega (arith, weight-difference v 0 0 .0 e),
-    λ e. weight-difference v 0 0 .1 (let h : dot (onLeft M L R) v + 0 ≡ dot (onRight M L R) v + 0 = omega arith in h),
+    λ e. weight-difference v 0 0 .1 (let h : dot (onLeft M L R) v + 0
+        ≡ dot (onRight M L R) v + 0 = omega arith in h),
   )
 
   -- A weight is minus a constant's net count exactly when they agree with the constant's occurrences added.
@@ -111,7 +120,10 @@ module _ (M : Mode) (L R : List ℕ) where
 
   -- a vector has a number for each variable exactly when it has one for each coefficient
   vector-length : (v : List ℕ) → IsVector (variables M L R) v ↔ (length v ≡ length (onLeft M L R))
-  vector-length v = (λ e. e ∙ sym (length-map (variables M L R) (λ x. count x L)), λ e. e ∙ length-map (variables M L R) (λ x. count x L))
+  vector-length v = (
+    λ e. e ∙ sym (length-map (variables M L R) (λ x. count x L)),
+    λ e. e ∙ length-map (variables M L R) (λ x. count x L),
+  )
 
   -- what balanced rows are least for, and what the minimal solutions of their equation are
   balanced-solves : (u : List ℕ) → ((0 < sum u) × (weight M L R u ≡ pos 0)) ↔ Solves (balancedEquation M L R) u
@@ -130,13 +142,25 @@ module _ (M : Mode) (L R : List ℕ) where
   -- Balanced rows are the minimal solutions of the balanced equation.
   pub balanced-row-is-minimal : (v : List ℕ) → BalancedRow M L R v ↔ Minimal (balancedEquation M L R) v
   balanced-row-is-minimal v = (
-    λ r. record { vector = vector-length v .0 (r .vector); least = least-same (λ u h. balanced-solves u) (r .least) },
-    λ m. record { vector = vector-length v .1 (m .vector); least = least-same (λ u h. Iff·symm (balanced-solves u)) (m .least) },
+    λ r. record {
+      vector = vector-length v .0 (r .vector);
+      least = least-same (λ u h. balanced-solves u) (r .least);
+    },
+    λ m. record {
+      vector = vector-length v .1 (m .vector);
+      least = least-same (λ u h. Iff·symm (balanced-solves u)) (m .least);
+    },
   )
 
   -- Rows of a constant are the minimal solutions of its equation.
   pub row-of-constant-is-minimal : (c : ℕ) (v : List ℕ) → RowOf M L R c v ↔ Minimal (equationOf M L R c) v
   row-of-constant-is-minimal c v = (
-    λ r. record { vector = vector-length v .0 (r .vector); least = least-same (λ u h. constant-solves c u) (r .least) },
-    λ m. record { vector = vector-length v .1 (m .vector); least = least-same (λ u h. Iff·symm (constant-solves c u)) (m .least) },
+    λ r. record {
+      vector = vector-length v .0 (r .vector);
+      least = least-same (λ u h. constant-solves c u) (r .least);
+    },
+    λ m. record {
+      vector = vector-length v .1 (m .vector);
+      least = least-same (λ u h. Iff·symm (constant-solves c u)) (m .least);
+    },
   )

@@ -47,7 +47,8 @@ module _ (balanced : List (List ℕ)) (vectorOf : ℕ → List ℕ) where
       absent m = omega (arith, before (g .constant) m)
 
       extend : RowAndSum (g .rows) balanced (vectorOf (g .constant)) → Chosen gs → Chosen (g ∷ gs)
-      extend first rest = record { indexes = is; within = index (first .within) (rest .within); remainder = remainders }
+      extend first rest =
+          record { indexes = is; within = index (first .within) (rest .within); remainder = remainders }
         where
           is : List ℕ
           is = first .index ∷ rest .indexes
@@ -64,12 +65,14 @@ module _ (balanced : List (List ℕ)) (vectorOf : ℕ → List ℕ) where
               record {
                 times = rest .remainder b m .times;
                 adds-up = λ i.
-                    let later = takenRows-later g gs (rest .indexes) (first .index) b (λ (e : b ≡ g .constant). omega (arith, before b m)) i in
+                    let later = takenRows-later g gs (rest .indexes) (first .index) b
+                    (λ (e : b ≡ g .constant). omega (arith, before b m)) i in
                     omega (arith, rest .remainder b m .adds-up i);
               }
 
 -- Let θ be a unifier.
-module _ (M : Mode) (new : ℕ) (L R : List ℕ) (left : IsSide L) (right : IsSide R) (above : 128 ≤ new) {G : Groups} (groups : GroupsOf M L R G)
+module _ (M : Mode) (new : ℕ) (L R : List ℕ) (left : IsSide L) (right : IsSide R) (above : 128 ≤ new)
+    {G : Groups} (groups : GroupsOf M L R G)
     (θ : Replacement) (unifies : Unifies M L R θ) where
   abbrev vectorOf : ℕ → List ℕ
   vectorOf b = occurrences θ (variables M L R) b
@@ -113,7 +116,8 @@ module _ (M : Mode) (new : ℕ) (L R : List ℕ) (left : IsSide L) (right : IsSi
   unfolding bound
   atom-bound x b m n = omega (arith, member-le-sum b (flatMap θ (variables M L R)) (members-flatMap θ m n))
 
-  -- Each new variable is filled with the atoms below the bound, by their multiplicities of its row; the rows with a filled one are taken.
+  -- Each new variable is filled with the atoms below the bound, by their multiplicities of its row; the rows
+  -- with a filled one are taken.
   abbrev filling : Replacement
   filling n = spread (multiplicity n) 0 bound
 
@@ -124,7 +128,10 @@ module _ (M : Mode) (new : ℕ) (L R : List ℕ) (left : IsSide L) (right : IsSi
   selected = record { indexes = chosen .indexes; takes = takenOnes }
 
   selected-of : SelectionOf G selected
-  selected-of = record { a-row-each = chosen .within; a-truth-each = length-takesFrom (M .empties) filling new (length (G .balanced)) }
+  selected-of = record {
+    a-row-each = chosen .within;
+    a-truth-each = length-takesFrom (M .empties) filling new (length (G .balanced));
+  }
 
   filling-below : (b j : ℕ) → b < bound → count b (filling (new + j)) ≡ getD (remainder b .times) j 0
   filling-below b j h =
@@ -133,11 +140,13 @@ module _ (M : Mode) (new : ℕ) (L R : List ℕ) (left : IsSide L) (right : IsSi
 
   filling-above : (b j : ℕ) → bound ≤ b → count b (filling (new + j)) ≡ 0
   filling-above b j h =
-      count-spread-none (multiplicity (new + j)) b 0 bound (λ (m : List·Memᴰ b (from 0 bound)). omega (arith, from-bounds 0 bound b m))
+      count-spread-none (multiplicity (new + j)) b 0 bound
+      (λ (m : List·Memᴰ b (from 0 bound)). omega (arith, from-bounds 0 bound b m))
 
   -- what the taken rows, filled, add up to, where `times` is how often the new variables hold b
   filled-total : (b i : ℕ) (times : List ℕ) → ((j : ℕ) → count b (filling (new + j)) ≡ getD times j 0)
-      → total i (filledCount new filling b) (taken new G selected) ≡ total i (same b) constantRows + combined times (G .balanced) i
+      → total i (filledCount new filling b) (taken new G selected)
+      ≡ total i (same b) constantRows + combined times (G .balanced) i
   filled-total b i times counts =
       total-append i (filledCount new filling b) constantRows (takenBalanced new (G .balanced) takenOnes)
       ∙ ap₂
@@ -164,10 +173,12 @@ module _ (M : Mode) (new : ℕ) (L R : List ℕ) (left : IsSide L) (right : IsSi
       by-bound (no h) = omega (arith, occurs, nowhere h, filled-total b i [] (λ j. filling-above b j (omega arith)))
 
   -- each place is reached, since the unifier has an atom there
-  selected-reaches : M .empties ≡ false → (i : ℕ) → i < length (variables M L R) → reached (taken new G selected) i ≡ true
+  selected-reaches : M .empties ≡ false → (i : ℕ) → i < length (variables M L R)
+      → reached (taken new G selected) i ≡ true
   selected-reaches e i h =
       total-reached i (filledCount new filling b) (taken new G selected)
-      (subst (λ k. 0 < k) (selected-agrees x m b i (placeOf-getD (variables-ascending M L R) i h)) (count-some b (θ x) n))
+      (subst (λ k. 0 < k) (selected-agrees x m b i (placeOf-getD (variables-ascending M L R) i h))
+      (count-some b (θ x) n))
     where
       x : ℕ
       x = getD (variables M L R) i 0
@@ -185,9 +196,11 @@ module _ (M : Mode) (new : ℕ) (L R : List ℕ) (left : IsSide L) (right : IsSi
   selected-admissible = by-mode (M .empties) refl
     where
       by-mode : (t : Bool) → M .empties ≡ t → admissible M new L R G selected ≡ true
-      by-mode true e = admissible-takes M new L R G selected e ∙ all-takesFrom (M .empties) filling e new (length (G .balanced))
+      by-mode true e = admissible-takes M new L R G selected e
+          ∙ all-takesFrom (M .empties) filling e new (length (G .balanced))
       by-mode false e =
-          admissible-reaches M new L R G selected e ∙ reached-allReached (taken new G selected) (length (variables M L R)) (selected-reaches e)
+          admissible-reaches M new L R G selected e
+          ∙ reached-allReached (taken new G selected) (length (variables M L R)) (selected-reaches e)
 
   -- a new variable in a value belongs to a taken row, and so it is filled
   selected-filled : (x n : ℕ) → List·Memᴰ n (value M new L R G selected x) → new ≤ n → NonEmpty M (filling n)
@@ -195,24 +208,28 @@ module _ (M : Mode) (new : ℕ) (L R : List ℕ) (left : IsSide L) (right : IsSi
       subst
       (λ a. 0 < length (filling a))
       (sym (t .2))
-      (⊎-elim constant-row (takenBalanced-filled (M .empties) filling e new (G .balanced) (t .0)) (List·Memᴰ·append-cases constantRows (t .1)))
+      (⊎-elim constant-row (takenBalanced-filled (M .empties) filling e new (G .balanced) (t .0))
+      (List·Memᴰ·append-cases constantRows (t .1)))
     where
       t : (u : Taken) × List·Memᴰ u (taken new G selected) × (n ≡ u .atom)
       t = valueAt-atoms (taken new G selected) (placeOf x (variables M L R)) n v
 
       constant-row : List·Memᴰ (t .0) constantRows → 0 < length (filling (t .0 .atom))
       constant-row k =
-          let old : t .0 .atom < new = constant-old M L R groups new above (t .0 .atom) (takenRows-atoms (chosen .within) (t .0) k) in
+          let old : t .0 .atom < new =
+          constant-old M L R groups new above (t .0 .atom) (takenRows-atoms (chosen .within) (t .0) k) in
           absurd (let z : ⊥ = omega (arith, t .2) in z)
 
   comes-from-selected : ComesFrom M new L R (value M new L R G selected) θ
   comes-from-selected = record { fill = filling; filled = λ x n m. selected-filled x n; agrees = agrees }
     where
-      agrees : (x : ℕ) → List·Memᴰ x (variables M L R) → SameSum (θ x) (put (isNew new) filling (value M new L R G selected x))
+      agrees : (x : ℕ) → List·Memᴰ x (variables M L R)
+          → SameSum (θ x) (put (isNew new) filling (value M new L R G selected x))
       agrees x m b =
           selected-agrees x m b (placeOf x (variables M L R)) refl
           ∙ sym (count-filled new filling b (placeOf x (variables M L R)) (taken new G selected))
 
   -- The selection that was found, and that the unifier comes from it.
-  pub complete-selection : (s : Selection) × SelectionOf G s × (admissible M new L R G s ≡ true) × ComesFrom M new L R (value M new L R G s) θ
+  pub complete-selection : (s : Selection) × SelectionOf G s × (admissible M new L R G s ≡ true)
+      × ComesFrom M new L R (value M new L R G s) θ
   complete-selection = (selected, selected-of, selected-admissible, comes-from-selected)

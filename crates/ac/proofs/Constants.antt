@@ -1,4 +1,5 @@
--- The constants of a pair's groups, and what their taken rows add up to: each constant has its own row only, and none is a new variable.
+-- The constants of a pair's groups, and what their taken rows add up to: each constant has its own row only,
+-- and none is a new variable.
 use Prim.Native.Nat.{ℕ, _<_, _≤_}
 use mathlib.Core.Path.{_≡_, sym, ap, subst}
 use mathlib.Core.List.{List, [], _∷_, map, List·Memᴰ, List·Memᴰ·head, List·Memᴰ·tail}
@@ -34,14 +35,20 @@ pub takenRows-none : {gs : List Group} {is : List ℕ} → Within gs is → (b i
 takenRows-none {gs} {is} within b i absent =
     total-zero i (same b) (takenRows gs is)
     (λ t m. same-other b (t .atom)
-    (λ (e : b ≡ t .atom). absent (subst (λ (a : ℕ). List·Memᴰ a (constantsOf gs)) (sym e) (takenRows-atoms within t m))))
+    (λ (e : b ≡ t .atom). absent (subst (λ (a : ℕ). List·Memᴰ a (constantsOf gs)) (sym e)
+    (takenRows-atoms within t m))))
 
 -- a constant has its own row, and nothing from the others
-pub takenRows-first : (g : Group) {gs : List Group} {is : List ℕ} → Within gs is → (List·Memᴰ (g .constant) (constantsOf gs) → ⊥) → (k c : ℕ)
+pub takenRows-first : (g : Group) {gs : List Group} {is : List ℕ} → Within gs is
+    → (List·Memᴰ (g .constant) (constantsOf gs) → ⊥) → (k c : ℕ)
     → c ≡ g .constant → (i : ℕ) → total i (same c) (takenRows (g ∷ gs) (k ∷ is)) ≡ getD (getD (g .rows) k []) i 0
 takenRows-first g {gs} within absent k c e i =
     rw (same-self c (g .constant) e)
-    (omega (arith, takenRows-none within c i (λ (m : List·Memᴰ c (constantsOf gs)). absent (subst (λ (a : ℕ). List·Memᴰ a (constantsOf gs)) e m))))
+    (omega (
+      arith,
+      takenRows-none within c i
+          (λ (m : List·Memᴰ c (constantsOf gs)). absent (subst (λ (a : ℕ). List·Memᴰ a (constantsOf gs)) e m)),
+    ))
 
 -- any other atom has nothing from the first row
 pub takenRows-later : (g : Group) (gs : List Group) (is : List ℕ) (k c : ℕ) → (c ≡ g .constant → ⊥)
@@ -69,7 +76,8 @@ module _ (M : Mode) (L R : List ℕ) {G : Groups} (groups : GroupsOf M L R G) wh
 
     -- filling the new variables leaves the constants' rows as they are
     pub takenRows-stay : {is : List ℕ} → Within (G .constants) is → (fill : Replacement) (b i : ℕ)
-        → total i (filledCount new fill b) (takenRows (G .constants) is) ≡ total i (same b) (takenRows (G .constants) is)
+        → total i (filledCount new fill b) (takenRows (G .constants) is)
+        ≡ total i (same b) (takenRows (G .constants) is)
     takenRows-stay {is} within fill b i =
         total-agrees
         i

@@ -39,7 +39,8 @@ count-replicate b zero a = omega arith
 count-replicate b (suc n) a = omega (arith, count-replicate b n a)
 
 -- what a replacement makes of a joined list is joined
-pub put-append : (moves : ℕ → Bool) (θ : Replacement) (s t : List ℕ) → put moves θ (s ++ t) ≡ put moves θ s ++ put moves θ t
+pub put-append : (moves : ℕ → Bool) (θ : Replacement) (s t : List ℕ)
+    → put moves θ (s ++ t) ≡ put moves θ s ++ put moves θ t
 put-append moves θ [] t = refl
 put-append moves θ (a ∷ s) t =
     ap (λ (rest : List ℕ). cond (moves a) (θ a) (a ∷ []) ++ rest) (put-append moves θ s t)
@@ -49,7 +50,11 @@ put-append moves θ (a ∷ s) t =
 pub count-none : (b : ℕ) (s : List ℕ) → (List·Memᴰ b s → ⊥) → count b s ≡ 0
 count-none b [] n = refl
 count-none b (a ∷ s) n =
-    omega (arith, same-other b a (λ (e : b ≡ a). n (List·Memᴰ·head e)), count-none b s (λ (m : List·Memᴰ b s). n (List·Memᴰ·tail m)))
+    omega (
+      arith,
+      same-other b a (λ (e : b ≡ a). n (List·Memᴰ·head e)),
+      count-none b s (λ (m : List·Memᴰ b s). n (List·Memᴰ·tail m)),
+    )
 
 -- a member occurs
 pub count-some : (b : ℕ) (s : List ℕ) → List·Memᴰ b s → 0 < count b s
@@ -89,10 +94,12 @@ dot-none : (a : ℕ) (xs v : List ℕ) → (List·Memᴰ a xs → ⊥) → dot (
 dot-none a [] v n = refl
 dot-none a (x ∷ xs) [] n = refl
 dot-none a (x ∷ xs) (m ∷ v) n =
-    rw (same-other x a (λ (e : x ≡ a). n (List·Memᴰ·head (sym e)))) (omega (arith, dot-none a xs v (λ (h : List·Memᴰ a xs). n (List·Memᴰ·tail h))))
+    rw (same-other x a (λ (e : x ≡ a). n (List·Memᴰ·head (sym e))))
+    (omega (arith, dot-none a xs v (λ (h : List·Memᴰ a xs). n (List·Memᴰ·tail h))))
 
 -- and where a stands: the number at its place
-dot-one : (a : ℕ) {xs : List ℕ} → Ascending _<_ xs → (f : ℕ → ℕ) → List·Memᴰ a xs → dot (map (λ x. same x a) xs) (map f xs) ≡ f a
+dot-one : (a : ℕ) {xs : List ℕ} → Ascending _<_ xs → (f : ℕ → ℕ) → List·Memᴰ a xs
+    → dot (map (λ x. same x a) xs) (map f xs) ≡ f a
 dot-one a (next {a = x} {rest} before ascending) f (List·Memᴰ·head e) =
     rw (same-self x a (sym e))
     (omega (arith, ap f e, dot-none a rest (map f rest) (λ (m : List·Memᴰ a rest). omega (arith, before a m))))
@@ -107,11 +114,13 @@ cond-add : (t : Bool) (m n : ℕ) → cond t 0 (m + n) ≡ cond t 0 m + cond t 0
 cond-add true m n = omega arith
 cond-add false m n = refl
 
--- After a replacement b stands on a side as often as in the values of the variables that stand there, and where it stays.
+-- After a replacement b stands on a side as often as in the values of the variables that stand there, and
+-- where it stays.
 module _ (moves : ℕ → Bool) (θ : Replacement) (b : ℕ) {xs : List ℕ} (ascending : Ascending _<_ xs)
     (all : (a : ℕ) → List·Memᴰ a xs → moves a ≡ true) where
   count-put-atom : (a : ℕ) → (moves a ≡ true → List·Memᴰ a xs)
-      → count b (cond (moves a) (θ a) (a ∷ [])) ≡ dot (map (λ x. same x a) xs) (occurrences θ xs b) + cond (moves b) 0 (same b a)
+      → count b (cond (moves a) (θ a) (a ∷ []))
+      ≡ dot (map (λ x. same x a) xs) (occurrences θ xs b) + cond (moves b) 0 (same b a)
   count-put-atom a moving = by-kinds (moves a) refl (moves b) refl
     where
       other : moves a ≡ true → moves b ≡ false → same b a ≡ 0
@@ -121,12 +130,16 @@ module _ (moves : ℕ → Bool) (θ : Replacement) (b : ℕ) {xs : List ℕ} (as
       absent e m = true≢false (sym (all a m) ∙ e)
 
       by-kinds : (t : Bool) → moves a ≡ t → (u : Bool) → moves b ≡ u
-          → count b (cond t (θ a) (a ∷ [])) ≡ dot (map (λ x. same x a) xs) (occurrences θ xs b) + cond u 0 (same b a)
+          → count b (cond t (θ a) (a ∷ []))
+          ≡ dot (map (λ x. same x a) xs) (occurrences θ xs b) + cond u 0 (same b a)
       by-kinds true e true e′ = omega (arith, dot-one a ascending (λ x. count b (θ x)) (moving e))
       by-kinds true e false e′ = omega (arith, dot-one a ascending (λ x. count b (θ x)) (moving e), other e e′)
       by-kinds false e true e′ =
-          omega
-          (arith, dot-none a xs (occurrences θ xs b) (absent e), same-other b a (λ (q : b ≡ a). true≢false (sym e′ ∙ ap moves q ∙ e)))
+          omega (
+            arith,
+            dot-none a xs (occurrences θ xs b) (absent e),
+            same-other b a (λ (q : b ≡ a). true≢false (sym e′ ∙ ap moves q ∙ e)),
+          )
       by-kinds false e false e′ = omega (arith, dot-none a xs (occurrences θ xs b) (absent e))
 
   -- the same over a whole side, atom by atom
@@ -137,4 +150,8 @@ module _ (moves : ℕ → Bool) (θ : Replacement) (b : ℕ) {xs : List ℕ} (as
       let here = count-put-atom a (moving a (List·Memᴰ·head refl)) in
       let rest = count-put side (λ c m. moving c (List·Memᴰ·tail m)) in
       count-append b (cond (moves a) (θ a) (a ∷ [])) (put moves θ side)
-      ∙ omega (arith, dot-add (λ x. same x a) (λ x. count x side) xs (occurrences θ xs b), cond-add (moves b) (same b a) (count b side))
+      ∙ omega (
+        arith,
+        dot-add (λ x. same x a) (λ x. count x side) xs (occurrences θ xs b),
+        cond-add (moves b) (same b a) (count b side),
+      )

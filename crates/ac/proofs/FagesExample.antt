@@ -4,7 +4,8 @@ use mathlib.Core.List.{[], _∷_}
 use Rattle.ac.specs.Pair.{unifying}
 use Rattle.ac.specs.Search.{groups}
 
--- Source document 000, 3.1: the basis of 2x1 + x2 + x3 = 2y1 + y2 has seven solutions, s5, s2, s6, s1, s3, s7, s4 in ascending order.
+-- Source document 000, 3.1: the basis of 2x1 + x2 + x3 = 2y1 + y2 has seven solutions, s5, s2, s6, s1, s3,
+-- s7, s4 in ascending order.
 pub seven-rows : groups unifying (0 ∷ 0 ∷ 1 ∷ 2 ∷ []) (3 ∷ 3 ∷ 4 ∷ [])
     ≡ record {
       balanced =

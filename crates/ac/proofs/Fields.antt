@@ -13,13 +13,15 @@ use Rattle.ac.specs.Keys.{Layout, Fits, Candidate, fieldsOf, fieldAt, se
 use Rattle.ac.proofs.Keys.{next-field}
 
 -- within their groups, place by place
-within-places : {gs : List Group} {is : List ℕ} → Within gs is → (place : ℕ) → place < length gs → getD is place 0 < length (rowsAt gs place)
+within-places : {gs : List Group} {is : List ℕ} → Within gs is → (place : ℕ) → place < length gs
+    → getD is place 0 < length (rowsAt gs place)
 within-places none place h = absurd (omega arith)
 within-places (index less within) zero h = less
 within-places (index less within) (suc place) h = within-places within place (omega arith)
 
 -- and the other way round
-places-within : (gs : List Group) (is : List ℕ) → length is ≡ length gs → ((place : ℕ) → place < length gs → getD is place 0 < length (rowsAt gs place))
+places-within : (gs : List Group) (is : List ℕ) → length is ≡ length gs
+    → ((place : ℕ) → place < length gs → getD is place 0 < length (rowsAt gs place))
     → Within gs is
 places-within [] [] e each = none
 places-within [] (i ∷ is) e each = absurd (omega arith)
@@ -46,7 +48,8 @@ module _ (lay : Layout) where
       ∙ ap (λ (x : ℕ). m / 2 ^ (lay .index-bits * x) % 2 ^ (lay .index-bits)) (sym (suc-sub-suc k (suc place)))
 
   -- k fields are 0 together if each is 0
-  fields-zero : (k m : ℕ) → ((j : ℕ) → j < k → m / 2 ^ (lay .index-bits * j) % 2 ^ (lay .index-bits) ≡ 0) → m % 2 ^ (lay .index-bits * k) ≡ 0
+  fields-zero : (k m : ℕ) → ((j : ℕ) → j < k → m / 2 ^ (lay .index-bits * j) % 2 ^ (lay .index-bits) ≡ 0)
+      → m % 2 ^ (lay .index-bits * k) ≡ 0
   fields-zero zero m each = ap (λ (x : ℕ). m % 2 ^ x) (mul-zero (lay .index-bits)) ∙ omega arith
   fields-zero (suc k) m each =
       ap (λ (x : ℕ). m % x) (next-field lay k) ∙ mod-pow-add m (lay .index-bits) (lay .index-bits * k)
@@ -57,7 +60,8 @@ module _ (lay : Layout) where
       )
 
   -- and the other way round
-  zero-fields : (k m : ℕ) → m % 2 ^ (lay .index-bits * k) ≡ 0 → (j : ℕ) → j < k → m / 2 ^ (lay .index-bits * j) % 2 ^ (lay .index-bits) ≡ 0
+  zero-fields : (k m : ℕ) → m % 2 ^ (lay .index-bits * k) ≡ 0 → (j : ℕ) → j < k
+      → m / 2 ^ (lay .index-bits * j) % 2 ^ (lay .index-bits) ≡ 0
   zero-fields zero m e j h = absurd (omega arith)
   zero-fields (suc k) m e j h =
       ⊎-elim (λ same. subst (λ (i : ℕ). m / 2 ^ (w * i) % 2 ^ w ≡ 0) (sym (suc-inj same)) highest)
@@ -77,29 +81,35 @@ module _ (lay : Layout) where
 
 module _ {lay : Layout} {G : Groups} (fits : Fits lay G) (key : ℕ) where
   -- the field of the key at a constant's place is the index that the selection takes there
-  pub index-at : (place : ℕ) → place < length (G .constants) → getD (selectionAt lay G key .indexes) place 0 ≡ fieldAt lay key place
+  pub index-at : (place : ℕ) → place < length (G .constants)
+      → getD (selectionAt lay G key .indexes) place 0 ≡ fieldAt lay key place
   index-at place h =
       field-of lay (lay .constants) (G .constants) (key / 2 ^ (lay .rows)) place (fits .few-constants) h
-      ∙ ap (λ (x : ℕ). x % 2 ^ (lay .index-bits)) (shr-shr key (lay .rows) (lay .index-bits * (lay .constants - suc place)))
+      ∙ ap (λ (x : ℕ). x % 2 ^ (lay .index-bits))
+      (shr-shr key (lay .rows) (lay .index-bits * (lay .constants - suc place)))
 
   -- the fields counted from the lowest
   from-lowest : (j : ℕ) → j < lay .constants
-      → key / 2 ^ (lay .rows) / 2 ^ (lay .index-bits * j) % 2 ^ (lay .index-bits) ≡ fieldAt lay key (lay .constants - suc j)
+      → key / 2 ^ (lay .rows) / 2 ^ (lay .index-bits * j) % 2 ^ (lay .index-bits)
+      ≡ fieldAt lay key (lay .constants - suc j)
   from-lowest j h =
       let e : j ≡ lay .constants - suc (lay .constants - suc j) = omega arith in
       ap (λ (x : ℕ). x % 2 ^ (lay .index-bits)) (shr-shr key (lay .rows) (lay .index-bits * j))
       ∙ ap (λ (x : ℕ). key / 2 ^ (lay .rows + lay .index-bits * x) % 2 ^ (lay .index-bits)) e
 
   -- a candidate, place by place: each field of a constant below the number of its rows, each unused field 0
-  pub candidate-places : ((place : ℕ) → place < length (G .constants) → fieldAt lay key place < length (rowsAt (G .constants) place))
+  pub candidate-places : ((place : ℕ) → place < length (G .constants)
+      → fieldAt lay key place < length (rowsAt (G .constants) place))
       → ((place : ℕ) → length (G .constants) ≤ place → place < lay .constants → fieldAt lay key place ≡ 0)
-      → key % 2 ^ (lay .rows) < 2 ^ length (G .balanced) → key < 2 ^ (lay .index-bits * lay .constants + lay .rows) → Candidate lay G key
+      → key % 2 ^ (lay .rows) < 2 ^ length (G .balanced)
+      → key < 2 ^ (lay .index-bits * lay .constants + lay .rows) → Candidate lay G key
   candidate-places used unused low high =
       record {
         indexes-within =
             places-within (G .constants) (selectionAt lay G key .indexes)
             (length-fieldsOf lay (lay .constants) (G .constants) (key / 2 ^ (lay .rows)) (fits .few-constants))
-            (λ place h. subst (λ (i : ℕ). i < length (rowsAt (G .constants) place)) (sym (index-at place h)) (used place h));
+            (λ place h. subst (λ (i : ℕ). i < length (rowsAt (G .constants) place)) (sym (index-at place h))
+            (used place h));
         unused-zero =
             fields-zero lay (lay .constants - length (G .constants)) (key / 2 ^ (lay .rows))
             (λ j h. from-lowest j (omega arith) ∙ unused (lay .constants - suc j) (omega arith) (omega arith));
@@ -112,8 +122,11 @@ module _ {lay : Layout} {G : Groups} (fits : Fits lay G) (key : ℕ) where
       → ((place : ℕ) → place < length (G .constants) → fieldAt lay key place < length (rowsAt (G .constants) place))
       × ((place : ℕ) → length (G .constants) ≤ place → place < lay .constants → fieldAt lay key place ≡ 0)
   places-candidate candidate = (
-    λ place h. subst (λ (i : ℕ). i < length (rowsAt (G .constants) place)) (index-at place h) (within-places (candidate .indexes-within) place h),
+    λ place h. subst (λ (i : ℕ). i < length (rowsAt (G .constants) place)) (index-at place h)
+        (within-places (candidate .indexes-within) place h),
     λ place above within.
-        ap (λ (x : ℕ). x % 2 ^ (lay .index-bits)) (sym (shr-shr key (lay .rows) (lay .index-bits * (lay .constants - suc place))))
-        ∙ zero-fields lay (lay .constants - length (G .constants)) (key / 2 ^ (lay .rows)) (candidate .unused-zero) (lay .constants - suc place) (omega arith),
+        ap (λ (x : ℕ). x % 2 ^ (lay .index-bits))
+        (sym (shr-shr key (lay .rows) (lay .index-bits * (lay .constants - suc place))))
+        ∙ zero-fields lay (lay .constants - length (G .constants)) (key / 2 ^ (lay .rows))
+        (candidate .unused-zero) (lay .constants - suc place) (omega arith),
   )

@@ -1,4 +1,5 @@
--- Filling the new variables: each gets every atom as often as that atom's multiplicities say, and the rows whose new variable gets one are taken.
+-- Filling the new variables: each gets every atom as often as that atom's multiplicities say, and the rows
+-- whose new variable gets one are taken.
 use Prim.Native.Nat.{ℕ, zero, suc, _+_, _*_, _<_, _≤_}
 use mathlib.Core.Path.{_≡_, refl, sym, ap, ap₂, _∙_, subst}
 use mathlib.Core.Bool.{Bool, true, false, _||_, true≢false, and-eq-true-iff}
@@ -23,7 +24,8 @@ spread f k n = flatMap (λ b. replicate (f b) b) (from k n)
 module _ (f : ℕ → ℕ) (b : ℕ) where
   count-spread-cons : (k n : ℕ) → count b (spread f k (suc n)) ≡ same b k * f k + count b (spread f (suc k) n)
   count-spread-cons k n =
-      count-append b (replicate (f k) k) (spread f (suc k) n) ∙ ap (λ z. z + count b (spread f (suc k) n)) (count-replicate b (f k) k)
+      count-append b (replicate (f k) k) (spread f (suc k) n)
+      ∙ ap (λ z. z + count b (spread f (suc k) n)) (count-replicate b (f k) k)
 
   -- a number that is not among them does not occur
   pub count-spread-none : (k n : ℕ) → (List·Memᴰ b (from k n) → ⊥) → count b (spread f k n) ≡ 0
@@ -38,10 +40,16 @@ module _ (f : ℕ → ℕ) (b : ℕ) where
   count-spread k (suc n) (List·Memᴰ·head e) =
       count-spread-cons k n
       ∙ rw (same-self b k e)
-      (omega (arith, ap f e, count-spread-none (suc k) n (λ (m : List·Memᴰ b (from (suc k) n)). omega (arith, from-bounds (suc k) n b m))))
+      (omega (
+        arith,
+        ap f e,
+        count-spread-none (suc k) n
+            (λ (m : List·Memᴰ b (from (suc k) n)). omega (arith, from-bounds (suc k) n b m)),
+      ))
   count-spread k (suc n) (List·Memᴰ·tail m) =
       count-spread-cons k n
-      ∙ rw (same-other b k (λ (e : b ≡ k). omega (arith, from-bounds (suc k) n b m))) (omega (arith, count-spread (suc k) n m))
+      ∙ rw (same-other b k (λ (e : b ≡ k). omega (arith, from-bounds (suc k) n b m)))
+      (omega (arith, count-spread (suc k) n m))
 
 -- no member of a list of numbers is above their sum
 pub member-le-sum : (a : ℕ) (s : List ℕ) → List·Memᴰ a s → a ≤ sum s
@@ -67,7 +75,8 @@ module _ (empties : Bool) (fill : Replacement) where
   pub all-takesFrom : empties ≡ true → (n k : ℕ) → allTaken (takesFrom n k) ≡ true
   all-takesFrom e n zero = refl
   all-takesFrom e n (suc k) =
-      and-eq-true-iff (takes n) (allTaken (takesFrom (suc n) k)) .1 (ap (λ (t : Bool). t || ltb 0 (length (fill n))) e, all-takesFrom e (suc n) k)
+      and-eq-true-iff (takes n) (allTaken (takesFrom (suc n) k)) .1
+      (ap (λ (t : Bool). t || ltb 0 (length (fill n))) e, all-takesFrom e (suc n) k)
 
   -- a taken one is filled, one that is not taken is left empty
   takes-filled : (n : ℕ) → empties ≡ false → takes n ≡ true → 0 < length (fill n)
@@ -85,14 +94,18 @@ module _ (empties : Bool) (fill : Replacement) where
       none (a ∷ s) l = absurd (omega arith)
 
   -- the new variables of the taken rows are filled
-  pub takenBalanced-filled : empties ≡ false → (n : ℕ) (rows : List (List ℕ)) (t : Taken) → List·Memᴰ t (takenBalanced n rows (takesFrom n (length rows)))
+  pub takenBalanced-filled : empties ≡ false → (n : ℕ) (rows : List (List ℕ)) (t : Taken)
+      → List·Memᴰ t (takenBalanced n rows (takesFrom n (length rows)))
       → 0 < length (fill (t .atom))
   takenBalanced-filled e n [] t m = elim m [ ]
   takenBalanced-filled e n (r ∷ rows) t m = by-first (takes n) refl m (takenBalanced-filled e (suc n) rows t)
     where
-      by-first : (u : Bool) → takes n ≡ u → List·Memᴰ t (takenBalanced n (r ∷ rows) (u ∷ takesFrom (suc n) (length rows)))
-          → (List·Memᴰ t (takenBalanced (suc n) rows (takesFrom (suc n) (length rows))) → 0 < length (fill (t .atom))) → 0 < length (fill (t .atom))
-      by-first true h (List·Memᴰ·head q) rest = subst (λ (a : Taken). 0 < length (fill (a .atom))) (sym q) (takes-filled n e h)
+      by-first : (u : Bool) → takes n ≡ u
+          → List·Memᴰ t (takenBalanced n (r ∷ rows) (u ∷ takesFrom (suc n) (length rows)))
+          → (List·Memᴰ t (takenBalanced (suc n) rows (takesFrom (suc n) (length rows)))
+          → 0 < length (fill (t .atom))) → 0 < length (fill (t .atom))
+      by-first true h (List·Memᴰ·head q) rest =
+          subst (λ (a : Taken). 0 < length (fill (a .atom))) (sym q) (takes-filled n e h)
       by-first true h (List·Memᴰ·tail k) rest = rest k
       by-first false h k rest = rest k
 
@@ -100,15 +113,18 @@ module _ (empties : Bool) (fill : Replacement) where
     -- what row r of new variable n gives, taken or not
     with-row : (n : ℕ) → new ≤ n → (r : List ℕ) (rows : List (List ℕ))
         → total i (filledCount new fill b) (takenBalanced n (r ∷ rows) (takesFrom n (suc (length rows))))
-        ≡ count b (fill n) * getD r i 0 + total i (filledCount new fill b) (takenBalanced (suc n) rows (takesFrom (suc n) (length rows)))
+        ≡ count b (fill n) * getD r i 0 + total i (filledCount new fill b)
+        (takenBalanced (suc n) rows (takesFrom (suc n) (length rows)))
     with-row n h r rows = by-test (takes n) refl
       where
         by-test : (u : Bool) → takes n ≡ u
             → total i (filledCount new fill b) (takenBalanced n (r ∷ rows) (u ∷ takesFrom (suc n) (length rows)))
-            ≡ count b (fill n) * getD r i 0 + total i (filledCount new fill b) (takenBalanced (suc n) rows (takesFrom (suc n) (length rows)))
+            ≡ count b (fill n) * getD r i 0 + total i (filledCount new fill b)
+            (takenBalanced (suc n) rows (takesFrom (suc n) (length rows)))
         by-test true e =
             ap
-            (λ z. z * getD r i 0 + total i (filledCount new fill b) (takenBalanced (suc n) rows (takesFrom (suc n) (length rows))))
+            (λ z. z * getD r i 0 + total i (filledCount new fill b)
+            (takenBalanced (suc n) rows (takesFrom (suc n) (length rows))))
             (filledCount-new new fill b n h)
         by-test false e = rw (takes-none b n e) (omega arith)
 
@@ -121,7 +137,8 @@ module _ (empties : Bool) (fill : Replacement) where
     -- the balanced rows, with their new variables filled, add up as the atom's multiplicities say
     pub filled-combined : (n : ℕ) → new ≤ n → (rows : List (List ℕ)) (times : List ℕ)
         → ((j : ℕ) → j < length rows → count b (fill (n + j)) ≡ getD times j 0)
-        → total i (filledCount new fill b) (takenBalanced n rows (takesFrom n (length rows))) ≡ combined times rows i
+        → total i (filledCount new fill b) (takenBalanced n rows (takesFrom n (length rows)))
+        ≡ combined times rows i
     filled-combined n h [] [] counts = refl
     filled-combined n h [] (m ∷ times) counts = refl
     filled-combined n h (r ∷ rows) [] counts =

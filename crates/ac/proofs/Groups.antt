@@ -18,22 +18,26 @@ module _ (M : Mode) (L R : List ℕ) where
   constants-of (c ∷ cs) = ap (λ ds. c ∷ ds) (constants-of cs)
 
   group-rows : (c : ℕ) → Exactly (RowOf M L R c) (groupOf M L R c .rows)
-  group-rows c = exactly-same (λ v. Iff·symm (row-of-constant-is-minimal M L R c v)) (minimal-solutions-exact (equationOf M L R c))
+  group-rows c = exactly-same (λ v. Iff·symm (row-of-constant-is-minimal M L R c v))
+      (minimal-solutions-exact (equationOf M L R c))
 
   -- Every pair has its groups.
   pub groups-exist : GroupsOf M L R (groups M L R)
   groups-exist =
       record {
-        balanced-rows = exactly-same (λ v. Iff·symm (balanced-row-is-minimal M L R v)) (minimal-solutions-exact (balancedEquation M L R));
+        balanced-rows = exactly-same (λ v. Iff·symm (balanced-row-is-minimal M L R v))
+            (minimal-solutions-exact (balancedEquation M L R));
         the-constants = constants-of (unbalanced M L R);
         constant-rows = λ g m. by-origin g (Memᴰ·of-map (groupOf M L R) (unbalanced M L R) m);
       }
     where
-      by-origin : (g : Group) → (c : ℕ) × List·Memᴰ c (unbalanced M L R) × (groupOf M L R c ≡ g) → Exactly (RowOf M L R (g .constant)) (g .rows)
+      by-origin : (g : Group) → (c : ℕ) × List·Memᴰ c (unbalanced M L R) × (groupOf M L R c ≡ g)
+          → Exactly (RowOf M L R (g .constant)) (g .rows)
       by-origin g o = subst (λ h. Exactly (RowOf M L R (h .constant)) (h .rows)) (o .2) (group-rows (o .0))
 
   -- two lists of the same constants, each with exactly its rows, are equal
-  constants-unique : (gs hs : List Group) → map (λ (g : Group). g .constant) gs ≡ map (λ (g : Group). g .constant) hs
+  constants-unique : (gs hs : List Group)
+      → map (λ (g : Group). g .constant) gs ≡ map (λ (g : Group). g .constant) hs
       → ((g : Group) → List·Memᴰ g gs → Exactly (RowOf M L R (g .constant)) (g .rows))
       → ((g : Group) → List·Memᴰ g hs → Exactly (RowOf M L R (g .constant)) (g .rows)) → gs ≡ hs
   constants-unique [] [] same rows-g rows-h = refl
@@ -41,7 +45,8 @@ module _ (M : Mode) (L R : List ℕ) where
   constants-unique (g ∷ gs) [] same rows-g rows-h = absurd (nil≢cons (sym same))
   constants-unique (g ∷ gs) (h ∷ hs) same rows-g rows-h =
       ap₂ {C = List Group} (λ x xs. x ∷ xs) (λ i. record { constant = constant i; rows = rows i })
-      (constants-unique gs hs (tail-eq-of-cons-eq same) (λ x m. rows-g x (List·Memᴰ·tail m)) (λ x m. rows-h x (List·Memᴰ·tail m)))
+      (constants-unique gs hs (tail-eq-of-cons-eq same) (λ x m. rows-g x (List·Memᴰ·tail m))
+      (λ x m. rows-h x (List·Memᴰ·tail m)))
     where
       constant : g .constant ≡ h .constant
       constant = head-eq-of-cons-eq same
@@ -60,4 +65,5 @@ module _ (M : Mode) (L R : List ℕ) where
       balanced = exactly-unique (g .balanced-rows) (h .balanced-rows)
 
       constants : G .constants ≡ H .constants
-      constants = constants-unique (G .constants) (H .constants) (g .the-constants ∙ sym (h .the-constants)) (g .constant-rows) (h .constant-rows)
+      constants = constants-unique (G .constants) (H .constants) (g .the-constants ∙ sym (h .the-constants))
+          (g .constant-rows) (h .constant-rows)

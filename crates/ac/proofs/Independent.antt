@@ -29,8 +29,10 @@ module _ (M : Mode) (L R : List ℕ) where
       → total k (same c) (takenRows gs is) ≤ total k (same c) (takenRows gs js))
       → is ≡ js
   indexes-equal [] ascending rows none none lower = refl
-  indexes-equal (g ∷ gs) (next before ascending) rows (index {i} {is} h within) (index {i = j} {is = js} h′ within′) lower =
-      ap₂ {C = List ℕ} (λ x xs. x ∷ xs) first (indexes-equal gs ascending (λ g′ m. rows g′ (List·Memᴰ·tail m)) within within′ rest)
+  indexes-equal (g ∷ gs) (next before ascending) rows (index {i} {is} h within)
+      (index {i = j} {is = js} h′ within′) lower =
+      ap₂ {C = List ℕ} (λ x xs. x ∷ xs) first
+      (indexes-equal gs ascending (λ g′ m. rows g′ (List·Memᴰ·tail m)) within within′ rest)
     where
       absent : List·Memᴰ (g .constant) (constantsOf gs) → ⊥
       absent m = omega (arith, before (g .constant) m)
@@ -57,8 +59,12 @@ module _ (M : Mode) (L R : List ℕ) where
           → total k (same c) (takenRows gs is) ≤ total k (same c) (takenRows gs js)
       rest c m k l =
           let differs : (c ≡ g .constant → ⊥) = λ e. omega (arith, before c m) in
-          omega
-          (arith, lower c (List·Memᴰ·tail m) k l, takenRows-later g gs is i c differs k, takenRows-later g gs js j c differs k)
+          omega (
+            arith,
+            lower c (List·Memᴰ·tail m) k l,
+            takenRows-later g gs is i c differs k,
+            takenRows-later g gs js j c differs k,
+          )
 
 -- lists of truth values
 all-taken : (ts : List Bool) → allTaken ts ≡ true → (j : ℕ) → j < length ts → getD ts j false ≡ true
@@ -72,8 +78,9 @@ truth-equal false true to back = back refl
 truth-equal false false to back = refl
 
 -- Let the values of t come from those of s.
-module _ (M : Mode) (new : ℕ) (L R : List ℕ) (above : 128 ≤ new) {G : Groups} (groups : GroupsOf M L R G) (s t : Selection)
-    (of-s : SelectionOf G s) (of-t : SelectionOf G t) (comes : ComesFrom M new L R (value M new L R G s) (value M new L R G t)) where
+module _ (M : Mode) (new : ℕ) (L R : List ℕ) (above : 128 ≤ new) {G : Groups} (groups : GroupsOf M L R G)
+    (s t : Selection) (of-s : SelectionOf G s) (of-t : SelectionOf G t)
+    (comes : ComesFrom M new L R (value M new L R G s) (value M new L R G t)) where
   abbrev places : ℕ
   places = length (variables M L R)
 
@@ -108,25 +115,34 @@ module _ (M : Mode) (new : ℕ) (L R : List ℕ) (above : 128 ≤ new) {G : Grou
       x = getD (variables M L R) p 0
 
   by-kind : (b p : ℕ) → p < places
-      → total p (same b) (constantRows t) + total p (same b) (balancedRows t) ≡ total p (same b) (constantRows s) + total p (filledAs b) (balancedRows s)
+      → total p (same b) (constantRows t) + total p (same b) (balancedRows t)
+      ≡ total p (same b) (constantRows s) + total p (filledAs b) (balancedRows s)
   by-kind b p h =
       sym (total-append p (same b) (constantRows t) (balancedRows t))
       ∙ at-place b p h
       ∙ total-append p (filledAs b) (constantRows s) (balancedRows s)
-      ∙ ap (λ n. n + total p (filledAs b) (balancedRows s)) (takenRows-stay M L R groups new above (of-s .a-row-each) (comes .fill) b p)
+      ∙ ap (λ n. n + total p (filledAs b) (balancedRows s))
+      (takenRows-stay M L R groups new above (of-s .a-row-each) (comes .fill) b p)
 
   -- The indexes first: a constant is no new variable, so its row in s is at or below its row in t.
   same-indexes : s .indexes ≡ t .indexes
   same-indexes =
-      indexes-equal M L R (G .constants) (constants-ascending M L R groups) (groups .constant-rows) (of-s .a-row-each) (of-t .a-row-each) lower
+      indexes-equal M L R (G .constants) (constants-ascending M L R groups) (groups .constant-rows)
+      (of-s .a-row-each) (of-t .a-row-each) lower
     where
       lower : (c : ℕ) → List·Memᴰ c (constantsOf (G .constants)) → (p : ℕ) → p < places
           → total p (same c) (constantRows s) ≤ total p (same c) (constantRows t)
-      lower c m p h = omega (arith, by-kind c p h, takenBalanced-none p c new (G .balanced) (t .takes) (constant-old M L R groups new above c m))
+      lower c m p h = omega (
+        arith,
+        by-kind c p h,
+        takenBalanced-none p c new (G .balanced) (t .takes) (constant-old M L R groups new above c m),
+      )
 
   -- Then the constants' rows cancel.
-  balanced-agree : (b p : ℕ) → p < places → total p (same b) (balancedRows t) ≡ total p (filledAs b) (balancedRows s)
-  balanced-agree b p h = omega (arith, by-kind b p h, ap (λ is. total p (same b) (takenRows (G .constants) is)) same-indexes)
+  balanced-agree : (b p : ℕ) → p < places
+      → total p (same b) (balancedRows t) ≡ total p (filledAs b) (balancedRows s)
+  balanced-agree b p h =
+      omega (arith, by-kind b p h, ap (λ is. total p (same b) (takenRows (G .constants) is)) same-indexes)
 
   -- a balanced row is above 0 at some place
   balanced-place : (j : ℕ) → j < length (G .balanced) → (p : ℕ) × (p < places) × (0 < entry j p)
@@ -138,8 +154,10 @@ module _ (M : Mode) (new : ℕ) (L R : List ℕ) (above : 128 ≤ new) {G : Grou
       p : (q : ℕ) × (q < length (getD (G .balanced) j [])) × (0 < entry j q)
       p = positive-place (getD (G .balanced) j []) (row .least .has .0)
 
-  -- a row of s whose new variable is filled with the new variable of another row is at or below that row, and so is that row
-  fills-equal : (i j : ℕ) → i < length (G .balanced) → j < length (G .balanced) → Takes s i → 0 < filledAs (new + j) (new + i) → i ≡ j
+  -- a row of s whose new variable is filled with the new variable of another row is at or below that row, and
+  -- so is that row
+  fills-equal : (i j : ℕ) → i < length (G .balanced) → j < length (G .balanced) → Takes s i
+      → 0 < filledAs (new + j) (new + i) → i ≡ j
   fills-equal i j h h′ is-taken fills =
       row-equal
       places
@@ -153,8 +171,10 @@ module _ (M : Mode) (new : ℕ) (L R : List ℕ) (above : 128 ≤ new) {G : Grou
     where
       lower : (p : ℕ) → p < places → entry i p ≤ entry j p
       lower p l =
-          let once : 1 * entry i p ≤ filledAs (new + j) (new + i) * entry i p = mul-le-mul-right (entry i p) fills in
-          let each = takenBalanced-each p (filledAs (new + j)) new (G .balanced) (s .takes) (new + i) i refl h is-taken in
+          let once : 1 * entry i p ≤ filledAs (new + j) (new + i) * entry i p =
+          mul-le-mul-right (entry i p) fills in
+          let each = takenBalanced-each p (filledAs (new + j)) new (G .balanced) (s .takes) (new + i) i refl h
+          is-taken in
           let own = takenBalanced-own p (new + j) j new (G .balanced) (t .takes) refl in
           omega (arith, balanced-agree (new + j) p l)
 
@@ -163,7 +183,8 @@ module _ (M : Mode) (new : ℕ) (L R : List ℕ) (above : 128 ≤ new) {G : Grou
 
   -- a row taken in t is taken in s: its new variable can only come from its own
   taken-before : (j : ℕ) → j < length (G .balanced) → Takes t j → Takes s j
-  taken-before j h is-taken = same-row (takenBalanced-some (p .0) (filledAs (new + j)) new (G .balanced) (s .takes) weighs)
+  taken-before j h is-taken =
+      same-row (takenBalanced-some (p .0) (filledAs (new + j)) new (G .balanced) (s .takes) weighs)
     where
       p : (q : ℕ) × (q < places) × (0 < entry j q)
       p = balanced-place j h
@@ -171,14 +192,17 @@ module _ (M : Mode) (new : ℕ) (L R : List ℕ) (above : 128 ≤ new) {G : Grou
       weighs : 0 < total (p .0) (filledAs (new + j)) (balancedRows s)
       weighs =
           subst (λ n. 0 < n) (balanced-agree (new + j) (p .0) (p .1))
-          (takenBalanced-weighs (p .0) (same (new + j)) new (G .balanced) (t .takes) j h is-taken (same-itself (new + j)) (p .2))
+          (takenBalanced-weighs (p .0) (same (new + j)) new (G .balanced) (t .takes) j h is-taken
+          (same-itself (new + j)) (p .2))
 
       same-row : Weighing (filledAs (new + j)) new (G .balanced) (s .takes) → Takes s j
       same-row w = subst (Takes s) (fills-equal (w .at) j (w .within) h (w .is-taken) (w .weighs)) (w .is-taken)
 
   -- the new variable of a row taken in s stands in a value of s, so it is filled
-  new-filled : M .empties ≡ false → (i : ℕ) → i < length (G .balanced) → Takes s i → 0 < length (comes .fill (new + i))
-  new-filled e i h is-taken = comes .filled x (new + i) (getD-member (variables M L R) (p .0) 0 (p .1)) stands (omega arith) e
+  new-filled : M .empties ≡ false → (i : ℕ) → i < length (G .balanced) → Takes s i
+      → 0 < length (comes .fill (new + i))
+  new-filled e i h is-taken =
+      comes .filled x (new + i) (getD-member (variables M L R) (p .0) 0 (p .1)) stands (omega arith) e
     where
       p : (q : ℕ) × (q < places) × (0 < entry i q)
       p = balanced-place i h
@@ -188,7 +212,8 @@ module _ (M : Mode) (new : ℕ) (L R : List ℕ) (above : 128 ≤ new) {G : Grou
 
       occurs : 0 < count (new + i) (valueAt (taken new G s) (p .0))
       occurs =
-          let weighs = takenBalanced-weighs (p .0) (same (new + i)) new (G .balanced) (s .takes) i h is-taken (same-itself (new + i)) (p .2) in
+          let weighs = takenBalanced-weighs (p .0) (same (new + i)) new (G .balanced) (s .takes) i h is-taken
+          (same-itself (new + i)) (p .2) in
           let parts = total-append (p .0) (same (new + i)) (constantRows s) (balancedRows s) in
           omega (arith, count-valueAt (new + i) (p .0) (taken new G s))
 
@@ -199,7 +224,8 @@ module _ (M : Mode) (new : ℕ) (L R : List ℕ) (above : 128 ≤ new) {G : Grou
           (sym (placeOf-getD (variables-ascending M L R) (p .0) (p .1)))
           (count-member (new + i) (valueAt (taken new G s) (p .0)) occurs)
 
-  -- a row taken in s is taken in t: its new variable is filled with some atom, and that can only be the new variable of a row of t
+  -- a row taken in s is taken in t: its new variable is filled with some atom, and that can only be the new
+  -- variable of a row of t
   taken-after : M .empties ≡ false → (i : ℕ) → i < length (G .balanced) → Takes s i → Takes t i
   taken-after e i h is-taken = same-row (takenBalanced-some (p .0) (same b) new (G .balanced) (t .takes) weighs)
     where
@@ -212,7 +238,11 @@ module _ (M : Mode) (new : ℕ) (L R : List ℕ) (above : 128 ≤ new) {G : Grou
       fills : 0 < filledAs b (new + i)
       fills =
           let member = getD-member (comes .fill (new + i)) 0 0 (new-filled e i h is-taken) in
-          omega (arith, filledCount-new new (comes .fill) b (new + i) (omega arith), count-some b (comes .fill (new + i)) member)
+          omega (
+            arith,
+            filledCount-new new (comes .fill) b (new + i) (omega arith),
+            count-some b (comes .fill (new + i)) member,
+          )
 
       weighs : 0 < total (p .0) (same b) (balancedRows t)
       weighs =
@@ -221,14 +251,17 @@ module _ (M : Mode) (new : ℕ) (L R : List ℕ) (above : 128 ≤ new) {G : Grou
 
       same-row : Weighing (same b) new (G .balanced) (t .takes) → Takes t i
       same-row w =
-          let own : 0 < filledAs (new + w .at) (new + i) = subst (λ c. 0 < filledAs c (new + i)) (same-positive b (new + w .at) (w .weighs)) fills in
+          let own : 0 < filledAs (new + w .at) (new + i) =
+          subst (λ c. 0 < filledAs c (new + i)) (same-positive b (new + w .at) (w .weighs)) fills in
           subst (Takes t) (sym (fills-equal i (w .at) h (w .within) is-taken own)) (w .is-taken)
 
   same-takes : admissible M new L R G s ≡ true → admissible M new L R G t ≡ true → s .takes ≡ t .takes
   same-takes ok-s ok-t =
-      ext-getD false (s .takes) (t .takes) (of-s .a-truth-each ∙ sym (of-t .a-truth-each)) (λ j h. by-mode (M .empties) refl j h)
+      ext-getD false (s .takes) (t .takes) (of-s .a-truth-each ∙ sym (of-t .a-truth-each))
+      (λ j h. by-mode (M .empties) refl j h)
     where
-      by-mode : (u : Bool) → M .empties ≡ u → (j : ℕ) → j < length (s .takes) → getD (s .takes) j false ≡ getD (t .takes) j false
+      by-mode : (u : Bool) → M .empties ≡ u → (j : ℕ) → j < length (s .takes)
+          → getD (s .takes) j false ≡ getD (t .takes) j false
       by-mode true e j h =
           let h′ : j < length (t .takes) = omega (arith, of-s .a-truth-each, of-t .a-truth-each) in
           all-taken (s .takes) (sym (admissible-takes M new L R G s e) ∙ ok-s) j h

@@ -21,7 +21,8 @@ use Rattle.ac.specs.Keys.{Layout, fields, mask, keyOf, bit, bits, fields
 -- bit i + 1 of a number is bit i of its half
 bit-of-half : (m i : ℕ) → bit m (suc i) ≡ bit (m / 2) i
 bit-of-half m i =
-    ap (λ (n : ℕ). eqb (n % 2) 1) (ap (λ (p : ℕ). m / p) (pow-suc 2 i ∙ mul-comm (2 ^ i) 2) ∙ sym (div-div-eq-div-mul m 2 (2 ^ i)))
+    ap (λ (n : ℕ). eqb (n % 2) 1) (ap (λ (p : ℕ). m / p) (pow-suc 2 i ∙ mul-comm (2 ^ i) 2)
+    ∙ sym (div-div-eq-div-mul m 2 (2 ^ i)))
 
 -- so for all bits from a place on
 bits-of-half : (m a n : ℕ) → map (bit m) (from (suc a) n) ≡ map (bit (m / 2)) (from a n)
@@ -76,7 +77,8 @@ mask-bits (suc n) (t ∷ ts) e =
 -- a mask of n truth values is below 2 ^ n
 pub mask-below : (n : ℕ) (ts : List Bool) → length ts ≡ n → mask ts < 2 ^ n
 mask-below n ts e =
-    subst (λ (m : ℕ). m < 2 ^ n) (sym (bits-mask n (mask ts)) ∙ ap mask (mask-bits n ts e)) (mod-lt (mask ts) (pow-pos n))
+    subst (λ (m : ℕ). m < 2 ^ n) (sym (bits-mask n (mask ts)) ∙ ap mask (mask-bits n ts e))
+    (mod-lt (mask ts) (pow-pos n))
 
 -- the lowest n bits are those of the number modulo 2 ^ n
 bits-modulo : (n m : ℕ) → bits n m ≡ bits n (m % 2 ^ n)
@@ -89,7 +91,8 @@ bits-above n {r} q m le = bits-modulo n (q * 2 ^ r + m) ∙ ap (bits n) same ∙
     two-factors : q * 2 ^ r ≡ q * 2 ^ (r - n) * 2 ^ n
     two-factors =
         let e : r ≡ (r - n) + n = omega arith in
-        ap (λ (p : ℕ). q * p) (ap (λ (x : ℕ). 2 ^ x) e ∙ pow-add 2 (r - n) n) ∙ sym (mul-assoc q (2 ^ (r - n)) (2 ^ n))
+        ap (λ (p : ℕ). q * p) (ap (λ (x : ℕ). 2 ^ x) e ∙ pow-add 2 (r - n) n)
+        ∙ sym (mul-assoc q (2 ^ (r - n)) (2 ^ n))
 
     same : (q * 2 ^ r + m) % 2 ^ n ≡ m % 2 ^ n
     same = ap (λ (x : ℕ). (x + m) % 2 ^ n) two-factors ∙ mul-add-mod-self-right (q * 2 ^ (r - n)) (2 ^ n) m
@@ -99,7 +102,8 @@ bits-above n {r} q m le = bits-modulo n (q * 2 ^ r + m) ∙ ap (bits n) same ∙
 -- what stands above a field does not change it
 field-above : (w p q m : ℕ) → (q * 2 ^ (w + p) + m) / 2 ^ p % 2 ^ w ≡ m / 2 ^ p % 2 ^ w
 field-above w p q m =
-    ap (λ (x : ℕ). (x + m) / 2 ^ p % 2 ^ w) (ap (λ (x : ℕ). q * x) (pow-add 2 w p) ∙ sym (mul-assoc q (2 ^ w) (2 ^ p)))
+    ap (λ (x : ℕ). (x + m) / 2 ^ p % 2 ^ w)
+    (ap (λ (x : ℕ). q * x) (pow-add 2 w p) ∙ sym (mul-assoc q (2 ^ w) (2 ^ p)))
     ∙ ap (λ (x : ℕ). x / 2 ^ p % 2 ^ w) (add-comm (q * 2 ^ w * 2 ^ p) m)
     ∙ ap (λ (x : ℕ). x % 2 ^ w) (add-mul-div-right m (q * 2 ^ w) (pow-pos p) ∙ add-comm (m / 2 ^ p) (q * 2 ^ w))
     ∙ mul-add-mod-self-right q (2 ^ w) (m / 2 ^ p)
@@ -107,7 +111,8 @@ field-above w p q m =
 module _ (lay : Layout) where
   -- one field more
   pub next-field : (k : ℕ) → 2 ^ (lay .index-bits * suc k) ≡ 2 ^ (lay .index-bits + lay .index-bits * k)
-  next-field k = ap (λ (x : ℕ). 2 ^ x) (mul-suc (lay .index-bits) k ∙ add-comm (lay .index-bits * k) (lay .index-bits))
+  next-field k =
+      ap (λ (x : ℕ). 2 ^ x) (mul-suc (lay .index-bits) k ∙ add-comm (lay .index-bits * k) (lay .index-bits))
 
   -- each group has at most as many rows as a field tells apart
   abbrev pub Few : List Group → Type 0
@@ -117,7 +122,8 @@ module _ (lay : Layout) where
   few-others few h m = few h (List·Memᴰ·tail m)
 
   -- what stands above the fields changes none of them
-  fields-above : (k : ℕ) (gs : List Group) (q m : ℕ) → fieldsOf lay k gs (q * 2 ^ (lay .index-bits * k) + m) ≡ fieldsOf lay k gs m
+  fields-above : (k : ℕ) (gs : List Group) (q m : ℕ)
+      → fieldsOf lay k gs (q * 2 ^ (lay .index-bits * k) + m) ≡ fieldsOf lay k gs m
   fields-above k [] q m = refl
   fields-above zero (g ∷ gs) q m = refl
   fields-above (suc k) (g ∷ gs) q m =
@@ -129,30 +135,37 @@ module _ (lay : Layout) where
       w = lay .index-bits
 
       two-factors : q * 2 ^ (w * suc k) ≡ q * 2 ^ w * 2 ^ (w * k)
-      two-factors = ap (λ (x : ℕ). q * x) (next-field k ∙ pow-add 2 w (w * k)) ∙ sym (mul-assoc q (2 ^ w) (2 ^ (w * k)))
+      two-factors =
+          ap (λ (x : ℕ). q * x) (next-field k ∙ pow-add 2 w (w * k)) ∙ sym (mul-assoc q (2 ^ w) (2 ^ (w * k)))
 
   -- the fields of k constants' indexes make a number below 2 ^ (bits of a field * k)
-  pub fields-below : (k : ℕ) {gs : List Group} {is : List ℕ} → length gs ≤ k → Few gs → Within gs is → fields lay k is < 2 ^ (lay .index-bits * k)
+  pub fields-below : (k : ℕ) {gs : List Group} {is : List ℕ} → length gs ≤ k → Few gs → Within gs is
+      → fields lay k is < 2 ^ (lay .index-bits * k)
   fields-below zero fit few none = pow-pos (lay .index-bits * 0)
   fields-below (suc k) fit few none = pow-pos (lay .index-bits * suc k)
   fields-below zero fit few (index h within) = absurd (omega arith)
   fields-below (suc k) fit few (index {g = g} {i = i} {is = is} h within) =
-      subst (λ (x : ℕ). fields lay (suc k) (i ∷ is) < x) (sym (next-field k ∙ pow-add 2 (lay .index-bits) (lay .index-bits * k)))
-      (digits-lt (lt-of-lt-of-le h (few g (List·Memᴰ·head refl))) (fields-below k (omega arith) (few-others few) within))
+      subst (λ (x : ℕ). fields lay (suc k) (i ∷ is) < x)
+      (sym (next-field k ∙ pow-add 2 (lay .index-bits) (lay .index-bits * k)))
+      (digits-lt (lt-of-lt-of-le h (few g (List·Memᴰ·head refl)))
+      (fields-below k (omega arith) (few-others few) within))
 
   -- the fields of a tuple of indexes, taken apart, are its indexes
-  fields-apart : (k : ℕ) {gs : List Group} {is : List ℕ} → length gs ≤ k → Few gs → Within gs is → fieldsOf lay k gs (fields lay k is) ≡ is
+  fields-apart : (k : ℕ) {gs : List Group} {is : List ℕ} → length gs ≤ k → Few gs → Within gs is
+      → fieldsOf lay k gs (fields lay k is) ≡ is
   fields-apart k fit few none = refl
   fields-apart zero fit few (index h within) = absurd (omega arith)
   fields-apart (suc k) fit few (index {g = g} {gs = gs} {i = i} {is = is} h within) =
       ap₂ {C = List ℕ} (λ j js. j ∷ js)
-      (ap (λ (x : ℕ). x % 2 ^ (lay .index-bits)) (high i (lay .index-bits * k) (fields-below k (omega arith) (few-others few) within))
+      (ap (λ (x : ℕ). x % 2 ^ (lay .index-bits))
+      (high i (lay .index-bits * k) (fields-below k (omega arith) (few-others few) within))
       ∙ mod-eq-of-lt (lt-of-lt-of-le h (few g (List·Memᴰ·head refl))))
       (fields-above k gs i (fields lay k is) ∙ fields-apart k (omega arith) (few-others few) within)
 
   -- taken apart and packed again, a number lacks what stood in the unused fields and above the fields
   fields-packed : (k : ℕ) (gs : List Group) (m : ℕ) → length gs ≤ k
-      → fields lay k (fieldsOf lay k gs m) + m % 2 ^ (lay .index-bits * (k - length gs)) ≡ m % 2 ^ (lay .index-bits * k)
+      → fields lay k (fieldsOf lay k gs m) + m % 2 ^ (lay .index-bits * (k - length gs))
+      ≡ m % 2 ^ (lay .index-bits * k)
   fields-packed zero [] m fit = omega arith
   fields-packed (suc k) [] m fit = omega (arith, ap (λ (x : ℕ). m % 2 ^ (lay .index-bits * x)) (sub-zero (suc k)))
   fields-packed zero (g ∷ gs) m fit = absurd (omega arith)
@@ -171,14 +184,16 @@ module _ {lay : Layout} {G : Groups} (fits : Fits lay G) where
   module _ {s : Selection} (of : SelectionOf G s) where
     mask-fits : mask (s .takes) < 2 ^ (lay .rows)
     mask-fits =
-        lt-of-lt-of-le (mask-below (length (G .balanced)) (s .takes) (of .a-truth-each)) (pow-mono (fits .few-balanced))
+        lt-of-lt-of-le (mask-below (length (G .balanced)) (s .takes) (of .a-truth-each))
+        (pow-mono (fits .few-balanced))
 
     indexes-fit : fields lay (lay .constants) (s .indexes) < 2 ^ (lay .index-bits * lay .constants)
     indexes-fit = fields-below lay (lay .constants) (fits .few-constants) (fits .few-rows) (of .a-row-each)
 
     -- a key is a number of as many bits as the layout has
     key-below : keyOf lay s < 2 ^ (lay .index-bits * lay .constants + lay .rows)
-    key-below = subst (λ (x : ℕ). keyOf lay s < x) (sym (pow-add 2 (lay .index-bits * lay .constants) (lay .rows))) (digits-lt indexes-fit mask-fits)
+    key-below = subst (λ (x : ℕ). keyOf lay s < x)
+        (sym (pow-add 2 (lay .index-bits * lay .constants) (lay .rows))) (digits-lt indexes-fit mask-fits)
 
     -- above the mask stand the fields
     key-high : keyOf lay s / 2 ^ (lay .rows) ≡ fields lay (lay .constants) (s .indexes)
@@ -198,15 +213,19 @@ module _ {lay : Layout} {G : Groups} (fits : Fits lay G) where
 
         same-takes : bits (length (G .balanced)) (keyOf lay s) ≡ s .takes
         same-takes =
-            bits-above (length (G .balanced)) (fields lay (lay .constants) (s .indexes)) (mask (s .takes)) (fits .few-balanced)
+            bits-above (length (G .balanced)) (fields lay (lay .constants) (s .indexes)) (mask (s .takes))
+            (fits .few-balanced)
             ∙ mask-bits (length (G .balanced)) (s .takes) (of .a-truth-each)
 
-    unused-fields : fields lay (lay .constants) (s .indexes) % 2 ^ (lay .index-bits * (lay .constants - length (G .constants))) ≡ 0
+    unused-fields : fields lay (lay .constants) (s .indexes) % 2 ^
+        (lay .index-bits * (lay .constants - length (G .constants))) ≡ 0
     unused-fields =
         omega (
           arith,
-          fields-packed lay (lay .constants) (G .constants) (fields lay (lay .constants) (s .indexes)) (fits .few-constants),
-          ap (fields lay (lay .constants)) (fields-apart lay (lay .constants) (fits .few-constants) (fits .few-rows) (of .a-row-each)),
+          fields-packed lay (lay .constants) (G .constants) (fields lay (lay .constants) (s .indexes))
+              (fits .few-constants),
+          ap (fields lay (lay .constants)) (fields-apart lay (lay .constants) (fits .few-constants)
+              (fits .few-rows) (of .a-row-each)),
           mod-eq-of-lt indexes-fit,
         )
 
@@ -214,10 +233,13 @@ module _ {lay : Layout} {G : Groups} (fits : Fits lay G) where
     pub selection-candidate : Candidate lay G (keyOf lay s)
     selection-candidate =
         record {
-          indexes-within = subst (λ (t : Selection). Within (G .constants) (t .indexes)) (sym taken-apart) (of .a-row-each);
-          unused-zero = ap (λ (m : ℕ). m % 2 ^ (lay .index-bits * (lay .constants - length (G .constants)))) key-high ∙ unused-fields;
+          indexes-within =
+              subst (λ (t : Selection). Within (G .constants) (t .indexes)) (sym taken-apart) (of .a-row-each);
+          unused-zero = ap (λ (m : ℕ). m % 2 ^ (lay .index-bits * (lay .constants - length (G .constants))))
+              key-high ∙ unused-fields;
           no-bit-beyond =
-              subst (λ (m : ℕ). m < 2 ^ length (G .balanced)) (sym key-low) (mask-below (length (G .balanced)) (s .takes) (of .a-truth-each));
+              subst (λ (m : ℕ). m < 2 ^ length (G .balanced)) (sym key-low)
+              (mask-below (length (G .balanced)) (s .takes) (of .a-truth-each));
           no-bit-above = key-below;
         }
 
@@ -228,7 +250,8 @@ module _ {lay : Layout} {G : Groups} (fits : Fits lay G) where
   module _ {key : ℕ} (candidate : Candidate lay G key) where
     -- a candidate taken apart is a selection of the groups
     pub candidate-selection : SelectionOf G (selectionAt lay G key)
-    candidate-selection = record { a-row-each = candidate .indexes-within; a-truth-each = length-bits (length (G .balanced)) key }
+    candidate-selection =
+        record { a-row-each = candidate .indexes-within; a-truth-each = length-bits (length (G .balanced)) key }
 
     -- and packed again it is the same key
     pub packed : keyOf lay (selectionAt lay G key) ≡ key
@@ -247,5 +270,6 @@ module _ {lay : Layout} {G : Groups} (fits : Fits lay G) where
         same-mask =
             let few = fits .few-balanced in
             let e : (lay .rows - length (G .balanced)) + length (G .balanced) ≡ lay .rows = omega arith in
-            bits-mask (length (G .balanced)) key ∙ sym (mod-mod-pow key (lay .rows - length (G .balanced)) (length (G .balanced)))
+            bits-mask (length (G .balanced)) key
+            ∙ sym (mod-mod-pow key (lay .rows - length (G .balanced)) (length (G .balanced)))
             ∙ ap (λ (r : ℕ). key % 2 ^ r % 2 ^ length (G .balanced)) e ∙ mod-eq-of-lt (candidate .no-bit-beyond)

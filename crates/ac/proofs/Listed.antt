@@ -27,13 +27,15 @@ tuples-within [] (List·Memᴰ·tail m) = elim m [ ]
 tuples-within (g ∷ gs) m =
     let one = flatMap-members (λ i. map (λ is. i ∷ is) (tuples gs)) (below (length (g .rows))) m in
     let rest = map-members (λ is. one .0 ∷ is) (tuples gs) (one .2) in
-    subst (Within (g ∷ gs)) (sym (rest .2)) (index (below-members (length (g .rows)) (one .1)) (tuples-within gs (rest .1)))
+    subst (Within (g ∷ gs)) (sym (rest .2))
+    (index (below-members (length (g .rows)) (one .1)) (tuples-within gs (rest .1)))
 
 -- and every such list is one of the tuples
 within-tuples : {gs : List Group} {is : List ℕ} → Within gs is → List·Memᴰ is (tuples gs)
 within-tuples none = List·Memᴰ·head refl
 within-tuples (index {gs = gs} {i = i} h within) =
-    members-flatMap (λ j. map (λ js. j ∷ js) (tuples gs)) (members-below h) (members-map (λ js. i ∷ js) (within-tuples within))
+    members-flatMap (λ j. map (λ js. j ∷ js) (tuples gs)) (members-below h)
+    (members-map (λ js. i ∷ js) (within-tuples within))
 
 -- the selection of a tuple and a mask
 abbrev masked : Groups → List ℕ → ℕ → Selection
@@ -42,7 +44,8 @@ masked G is m = record { indexes = is; takes = bits (length (G .balanced)) m }
 abbrev allMasked : Groups → List ℕ → List Selection
 allMasked G is = map (masked G is) (below (2 ^ length (G .balanced)))
 
--- A selection stands among the selections exactly if it takes a row for each constant and has a truth value for each balanced row.
+-- A selection stands among the selections exactly if it takes a row for each constant and has a truth value
+-- for each balanced row.
 pub selections-are : (G : Groups) {s : Selection} → List·Memᴰ s (selections G) ↔ SelectionOf G s
 selections-are G {s} = (only, all)
   where
@@ -51,13 +54,19 @@ selections-are G {s} = (only, all)
         let tuple = flatMap-members (allMasked G) (tuples (G .constants)) m in
         let one = map-members (masked G (tuple .0)) (below (2 ^ length (G .balanced))) (tuple .2) in
         subst (SelectionOf G) (sym (one .2))
-        (record { a-row-each = tuples-within (G .constants) (tuple .1); a-truth-each = length-bits (length (G .balanced)) (one .0) })
+        (record {
+          a-row-each = tuples-within (G .constants) (tuple .1);
+          a-truth-each = length-bits (length (G .balanced)) (one .0);
+        })
 
     all : SelectionOf G s → List·Memᴰ s (selections G)
     all of =
         members-flatMap (allMasked G) (within-tuples (of .a-row-each))
-        (Memᴰ·cast (λ i. record { indexes = s .indexes; takes = sym (mask-bits (length (G .balanced)) (s .takes) (of .a-truth-each)) i })
-        (members-map (masked G (s .indexes)) (members-below (mask-below (length (G .balanced)) (s .takes) (of .a-truth-each)))))
+        (Memᴰ·cast (λ i. record {
+          indexes = s .indexes;
+          takes = sym (mask-bits (length (G .balanced)) (s .takes) (of .a-truth-each)) i;
+        }) (members-map (masked G (s .indexes))
+        (members-below (mask-below (length (G .balanced)) (s .takes) (of .a-truth-each)))))
 
 -- the tuples ascend by their fields
 tuples-ascending : (lay : Layout) (k : ℕ) (gs : List Group) → length gs ≤ k → Few lay gs
@@ -66,7 +75,8 @@ tuples-ascending lay k [] fit few = next (λ b m. absurd (List·Memᴰ·not-nil 
 tuples-ascending lay zero (g ∷ gs) fit few = absurd (omega arith)
 tuples-ascending lay (suc k) (g ∷ gs) fit few =
     ascending-flatMap (λ i. map (λ is. i ∷ is) (tuples gs))
-    (λ i m. ascending-map (λ is. i ∷ is) (ascending-in (λ is js m₁ m₂ less. omega arith) (tuples-ascending lay k gs (omega arith) others)))
+    (λ i m. ascending-map (λ is. i ∷ is)
+    (ascending-in (λ is js m₁ m₂ less. omega arith) (tuples-ascending lay k gs (omega arith) others)))
     (ascending-in (λ i j m₁ m₂ less. first-decides i j less) (from-ascending 0 (length (g .rows))))
   where
     others : Few lay gs
@@ -85,30 +95,40 @@ module _ {lay : Layout} {G : Groups} (fits : Fits lay G) where
   selections-ascending : Ascending (λ s t. keyOf lay s < keyOf lay t) (selections G)
   selections-ascending =
       ascending-flatMap (allMasked G)
-      (λ is m. ascending-map (masked G is) (ascending-in (mask-decides is) (from-ascending 0 (2 ^ length (G .balanced)))))
+      (λ is m. ascending-map (masked G is)
+      (ascending-in (mask-decides is) (from-ascending 0 (2 ^ length (G .balanced)))))
       (ascending-in (λ is js m₁ m₂ less. tuple-decides is js less)
       (tuples-ascending lay (lay .constants) (G .constants) (fits .few-constants) (fits .few-rows)))
     where
       its-mask : (m : ℕ) → List·Memᴰ m (below (2 ^ length (G .balanced))) → mask (bits (length (G .balanced)) m) ≡ m
       its-mask m at = bits-mask-below (length (G .balanced)) m (below-members (2 ^ length (G .balanced)) at)
 
-      mask-decides : (is : List ℕ) (a b : ℕ) → List·Memᴰ a (below (2 ^ length (G .balanced))) → List·Memᴰ b (below (2 ^ length (G .balanced))) → a < b
+      mask-decides : (is : List ℕ) (a b : ℕ) → List·Memᴰ a (below (2 ^ length (G .balanced)))
+          → List·Memᴰ b (below (2 ^ length (G .balanced))) → a < b
           → keyOf lay (masked G is a) < keyOf lay (masked G is b)
       mask-decides is a b m₁ m₂ less = omega (arith, its-mask a m₁, its-mask b m₂)
 
-      tuple-decides : (is js : List ℕ) → fields lay (lay .constants) is < fields lay (lay .constants) js → (s t : Selection) → List·Memᴰ s (allMasked G is)
+      tuple-decides : (is js : List ℕ) → fields lay (lay .constants) is < fields lay (lay .constants) js
+          → (s t : Selection) → List·Memᴰ s (allMasked G is)
           → List·Memᴰ t (allMasked G js) → keyOf lay s < keyOf lay t
       tuple-decides is js less s t m₁ m₂ =
           let a = map-members (masked G is) (below (2 ^ length (G .balanced))) m₁ in
           let b = map-members (masked G js) (below (2 ^ length (G .balanced))) m₂ in
           let fit : mask (bits (length (G .balanced)) (a .0)) < 2 ^ (lay .rows) =
-          omega (arith, its-mask (a .0) (a .1), below-members (2 ^ length (G .balanced)) (a .1), pow-mono (fits .few-balanced)) in
-          subst₂ (λ (x y : Selection). keyOf lay x < keyOf lay y) (sym (a .2)) (sym (b .2)) (omega (arith, digits-lt less fit))
+          omega (
+            arith,
+            its-mask (a .0) (a .1),
+            below-members (2 ^ length (G .balanced)) (a .1),
+            pow-mono (fits .few-balanced),
+          ) in
+          subst₂ (λ (x y : Selection). keyOf lay x < keyOf lay y) (sym (a .2)) (sym (b .2))
+          (omega (arith, digits-lt less fit))
 
   module _ (M : Mode) (L R : List ℕ) where
     -- The list is ascending by key.
     pub keys-ascending : Ascending _<_ (keys M lay L R G)
-    keys-ascending = ascending-map (keyOf lay) (filter-ascending (admissible M (lay .new) L R G) selections-ascending)
+    keys-ascending =
+        ascending-map (keyOf lay) (filter-ascending (admissible M (lay .new) L R G) selections-ascending)
 
     -- A number is on the list exactly if it is the key of an admissible selection.
     pub listed-exactly : {key : ℕ} → List·Memᴰ key (keys M lay L R G) ↔ Listed M lay L R G key
@@ -118,27 +138,39 @@ module _ {lay : Layout} {G : Groups} (fits : Fits lay G) where
         only m =
             let one = map-members (keyOf lay) (listed M lay L R G) m in
             let admitted = filter-member (admissible M (lay .new) L R G) (selections G) (one .1) in
-            record { selection = one .0; of-the-groups = selections-are G .0 (admitted .0); is-admissible = admitted .1; its-key = one .2 }
+            record {
+              selection = one .0;
+              of-the-groups = selections-are G .0 (admitted .0);
+              is-admissible =
+                  admitted .1;
+              its-key = one .2;
+            }
 
         all : Listed M lay L R G key → List·Memᴰ key (keys M lay L R G)
         all names =
             Memᴰ·cast (names .its-key)
             (members-map (keyOf lay)
-            (member-filter (admissible M (lay .new) L R G) (selections-are G .1 (names .of-the-groups)) (names .is-admissible)))
+            (member-filter (admissible M (lay .new) L R G) (selections-are G .1 (names .of-the-groups))
+            (names .is-admissible)))
 
     -- A number is on the list exactly if it is a candidate whose selection is admissible.
     pub listed-candidates : {key : ℕ}
-        → List·Memᴰ key (keys M lay L R G) ↔ (Candidate lay G key × (admissible M (lay .new) L R G (selectionAt lay G key) ≡ true))
+        → List·Memᴰ key (keys M lay L R G)
+        ↔ (Candidate lay G key × (admissible M (lay .new) L R G (selectionAt lay G key) ≡ true))
     listed-candidates {key} = (only, all)
       where
-        only : List·Memᴰ key (keys M lay L R G) → Candidate lay G key × (admissible M (lay .new) L R G (selectionAt lay G key) ≡ true)
+        only : List·Memᴰ key (keys M lay L R G)
+            → Candidate lay G key × (admissible M (lay .new) L R G (selectionAt lay G key) ≡ true)
         only m =
             let names = listed-exactly .0 m in (
               subst (Candidate lay G) (sym (names .its-key)) (selection-candidate fits (names .of-the-groups)),
-              ap (admissible M (lay .new) L R G) (ap (selectionAt lay G) (names .its-key) ∙ taken-apart fits (names .of-the-groups)) ∙ names .is-admissible,
+              ap (admissible M (lay .new) L R G)
+                  (ap (selectionAt lay G) (names .its-key) ∙ taken-apart fits (names .of-the-groups))
+                  ∙ names .is-admissible,
             )
 
-        all : Candidate lay G key × (admissible M (lay .new) L R G (selectionAt lay G key) ≡ true) → List·Memᴰ key (keys M lay L R G)
+        all : Candidate lay G key × (admissible M (lay .new) L R G (selectionAt lay G key) ≡ true)
+            → List·Memᴰ key (keys M lay L R G)
         all h =
             listed-exactly .1
             (record {
@@ -149,5 +181,6 @@ module _ {lay : Layout} {G : Groups} (fits : Fits lay G) where
             })
 
     -- keys have no bit above those of the layout
-    pub keys-below : {key : ℕ} → List·Memᴰ key (keys M lay L R G) → key < 2 ^ (lay .index-bits * lay .constants + lay .rows)
+    pub keys-below : {key : ℕ} → List·Memᴰ key (keys M lay L R G)
+        → key < 2 ^ (lay .index-bits * lay .constants + lay .rows)
     keys-below m = listed-candidates .0 m .0 .no-bit-above

@@ -20,7 +20,8 @@ members-below {i} {n} h = from-member 0 n i (omega arith) (omega arith)
 
 module _ {ℓ κ} {A : Type ℓ} {B : Type κ} where
   -- a member of a mapped list is the image of a member
-  pub map-members : (f : A → B) (xs : List A) {b : B} → List·Memᴰ b (map f xs) → (a : A) × List·Memᴰ a xs × (b ≡ f a)
+  pub map-members : (f : A → B) (xs : List A) {b : B} → List·Memᴰ b (map f xs)
+      → (a : A) × List·Memᴰ a xs × (b ≡ f a)
   map-members f [] m = absurd (List·Memᴰ·not-nil m)
   map-members f (a ∷ xs) (List·Memᴰ·head e) = (a, List·Memᴰ·head refl, e)
   map-members f (a ∷ xs) (List·Memᴰ·tail m) = let t = map-members f xs m in (t .0, List·Memᴰ·tail (t .1), t .2)
@@ -31,15 +32,19 @@ module _ {ℓ κ} {A : Type ℓ} {B : Type κ} where
   members-map f (List·Memᴰ·tail m) = List·Memᴰ·tail (members-map f m)
 
   -- a member of lists one after the other is a member of one of them
-  pub flatMap-members : (f : A → List B) (xs : List A) {b : B} → List·Memᴰ b (flatMap f xs) → (a : A) × List·Memᴰ a xs × List·Memᴰ b (f a)
+  pub flatMap-members : (f : A → List B) (xs : List A) {b : B} → List·Memᴰ b (flatMap f xs)
+      → (a : A) × List·Memᴰ a xs × List·Memᴰ b (f a)
   flatMap-members f [] m = absurd (List·Memᴰ·not-nil m)
   flatMap-members f (a ∷ xs) m =
-      ⊎-elim (λ here. (a, List·Memᴰ·head refl, here)) (λ later. let t = flatMap-members f xs later in (t .0, List·Memᴰ·tail (t .1), t .2))
+      ⊎-elim (λ here. (a, List·Memᴰ·head refl, here))
+      (λ later. let t = flatMap-members f xs later in (t .0, List·Memᴰ·tail (t .1), t .2))
       (List·Memᴰ·append-cases (f a) m)
 
   -- and a member of one of them is a member
-  pub members-flatMap : (f : A → List B) {a : A} {xs : List A} {b : B} → List·Memᴰ a xs → List·Memᴰ b (f a) → List·Memᴰ b (flatMap f xs)
-  members-flatMap f {b = b} (List·Memᴰ·head {xs = rest} e) m = Memᴰ·append-left (flatMap f rest) (subst (λ (c : A). List·Memᴰ b (f c)) e m)
+  pub members-flatMap : (f : A → List B) {a : A} {xs : List A} {b : B} → List·Memᴰ a xs → List·Memᴰ b (f a)
+      → List·Memᴰ b (flatMap f xs)
+  members-flatMap f {b = b} (List·Memᴰ·head {xs = rest} e) m =
+      Memᴰ·append-left (flatMap f rest) (subst (λ (c : A). List·Memᴰ b (f c)) e m)
   members-flatMap f (List·Memᴰ·tail {x = a} at) m = Memᴰ·append-right (f a) (members-flatMap f at m)
 
 module _ {ℓ} {A : Type ℓ} (passes : A → Bool) where
@@ -47,10 +52,12 @@ module _ {ℓ} {A : Type ℓ} (passes : A → Bool) where
   pub filter-all : (xs : List A) → ((a : A) → List·Memᴰ a xs → passes a ≡ true) → filter passes xs ≡ xs
   filter-all [] all = refl
   filter-all (a ∷ xs) all =
-      ap₂ {C = List A} (λ p rest. keep p a rest) (all a (List·Memᴰ·head refl)) (filter-all xs (λ b m. all b (List·Memᴰ·tail m)))
+      ap₂ {C = List A} (λ p rest. keep p a rest) (all a (List·Memᴰ·head refl))
+      (filter-all xs (λ b m. all b (List·Memᴰ·tail m)))
 
 -- a member stands somewhere in its list, with what is before and after it
-pub member-splits {ℓ} : {A : Type ℓ} {a : A} {xs : List A} → List·Memᴰ a xs → (before : List A) × (after : List A) × (xs ≡ before ++ a ∷ after)
+pub member-splits {ℓ} : {A : Type ℓ} {a : A} {xs : List A} → List·Memᴰ a xs
+    → (before : List A) × (after : List A) × (xs ≡ before ++ a ∷ after)
 member-splits {A = A} (List·Memᴰ·head {x = b} {xs = rest} e) = ([], rest, ap {B = List A} (λ c. c ∷ rest) (sym e))
 member-splits {A = A} (List·Memᴰ·tail {x = b} m) =
     let t = member-splits m in
@@ -58,7 +65,8 @@ member-splits {A = A} (List·Memᴰ·tail {x = b} m) =
 
 -- a list that ascends in one order ascends in any other that follows from it on the members
 pub ascending-in : {A : Type 0} {_before_ _earlier_ : A → A → Type 0} {xs : List A}
-    → ((a b : A) → List·Memᴰ a xs → List·Memᴰ b xs → _before_ a b → _earlier_ a b) → Ascending _before_ xs → Ascending _earlier_ xs
+    → ((a b : A) → List·Memᴰ a xs → List·Memᴰ b xs → _before_ a b → _earlier_ a b) → Ascending _before_ xs
+    → Ascending _earlier_ xs
 ascending-in implies none = none
 ascending-in implies (next {a = a} first later) =
     next (λ b m. implies a b (List·Memᴰ·head refl) (List·Memᴰ·tail m) (first b m))
@@ -66,14 +74,17 @@ ascending-in implies (next {a = a} first later) =
 
 module _ {A B : Type 0} {_before_ : B → B → Type 0} where
   -- a mapped list ascends where the images do
-  pub ascending-map : (f : A → B) {xs : List A} → Ascending (λ a b. _before_ (f a) (f b)) xs → Ascending _before_ (map f xs)
+  pub ascending-map : (f : A → B) {xs : List A} → Ascending (λ a b. _before_ (f a) (f b)) xs
+      → Ascending _before_ (map f xs)
   ascending-map f none = none
   ascending-map f (next {a = a} {rest = rest} first later) =
-      next (λ b m. let t = map-members f rest m in subst (λ (c : B). _before_ (f a) c) (sym (t .2)) (first (t .0) (t .1))) (ascending-map f later)
+      next (λ b m. let t = map-members f rest m in subst (λ (c : B). _before_ (f a) c) (sym (t .2))
+      (first (t .0) (t .1))) (ascending-map f later)
 
   -- lists one after the other, each ascending and each before the next ones
   pub ascending-flatMap : (f : A → List B) {xs : List A} → ((a : A) → List·Memᴰ a xs → Ascending _before_ (f a))
-      → Ascending (λ a a′. (b b′ : B) → List·Memᴰ b (f a) → List·Memᴰ b′ (f a′) → _before_ b b′) xs → Ascending _before_ (flatMap f xs)
+      → Ascending (λ a a′. (b b′ : B) → List·Memᴰ b (f a) → List·Memᴰ b′ (f a′) → _before_ b b′) xs
+      → Ascending _before_ (flatMap f xs)
   ascending-flatMap f each none = none
   ascending-flatMap f each (next {a = a} {rest = rest} first later) =
       ascending-append (each a (List·Memᴰ·head refl)) (ascending-flatMap f (λ c m. each c (List·Memᴰ·tail m)) later)

@@ -1,4 +1,5 @@
--- The list in the words of source document 000: the substitutions of the listed selections are a complete set of minimal unifiers.
+-- The list in the words of source document 000: the substitutions of the listed selections are a complete set
+-- of minimal unifiers.
 use Prim.Native.Nat.{ℕ, _≤_}
 use native.Mathlib.Omega.{arith}
 use mathlib.Core.Path.{_≡_, refl, sym, ap, subst, subst₂, _∙_}
@@ -23,8 +24,10 @@ use Rattle.ac.proofs.Replaced.{unbalanced-cases}
 use Rattle.ac.proofs.Theorems.{sound, complete, independent}
 use Rattle.ac.proofs.Fages.{Agree, flattened, flatten-tree, unifies-alike, comes-alike, unifier-unifies, more-general, every-variable}
 
-module _ (M : Mode) (lay : Layout) (s t : Term) (left : IsSide (flatten s)) (right : IsSide (flatten t)) (some : M .empties ≡ false)
-    (above : 128 ≤ lay .new) (stay : (a : ℕ) → lay .new ≤ a → M .moves a ≡ false) {G : Groups} (groups : GroupsOf M (flatten s) (flatten t) G) where
+module _ (M : Mode) (lay : Layout) (s t : Term) (left : IsSide (flatten s)) (right : IsSide (flatten t))
+    (some : M .empties ≡ false)
+    (above : 128 ≤ lay .new) (stay : (a : ℕ) → lay .new ≤ a → M .moves a ≡ false) {G : Groups}
+    (groups : GroupsOf M (flatten s) (flatten t) G) where
   -- what a selection gives, as a replacement and as a substitution
   abbrev values : Selection → Replacement
   values k = value M (lay .new) (flatten s) (flatten t) G k
@@ -41,17 +44,20 @@ module _ (M : Mode) (lay : Layout) (s t : Term) (left : IsSide (flatten s)) (rig
   -- on the pair's variables the substitution is that of the values, and elsewhere it moves nothing
   its-values : {k : Selection} → Admitted k → Agree (variablesOf M s t) (flattened (substitution k)) (values k)
   its-values {k} ok x m =
-      ap (λ b. flatten (cond b (tree (values k x)) (atom x))) (lt-ltb 0 (count x (variablesOf M s t)) (count-some x (variablesOf M s t) m))
+      ap (λ b. flatten (cond b (tree (values k x)) (atom x)))
+      (lt-ltb 0 (count x (variablesOf M s t)) (count-some x (variablesOf M s t) m))
       ∙ flatten-tree (values k x) (unifies ok .non-empty x m some)
 
   elsewhere : (k : Selection) (x : ℕ) → (List·Memᴰ x (variablesOf M s t) → ⊥) → substitution k x ≡ atom x
   elsewhere k x absent =
-      ap (λ b. cond b (tree (values k x)) (atom x)) (le-ltb 0 (count x (variablesOf M s t)) (omega (arith, count-none x (variablesOf M s t) absent)))
+      ap (λ b. cond b (tree (values k x)) (atom x))
+      (le-ltb 0 (count x (variablesOf M s t)) (omega (arith, count-none x (variablesOf M s t) absent)))
 
   pure : {k : Selection} → Admitted k → Pure (M .moves) (variablesOf M s t) (substitution k)
   pure {k} ok x a m at =
       ⊎-elim (λ constant. unbalanced-cases M (flatten s) (flatten t) a constant .1) (λ fresh. stay a (fresh .0))
-      (value-atoms M (lay .new) (flatten s) (flatten t) groups (ok .0) x (subst (List·Memᴰ a) (its-values ok x m) at))
+      (value-atoms M (lay .new) (flatten s) (flatten t) groups (ok .0) x
+      (subst (List·Memᴰ a) (its-values ok x m) at))
 
   -- "more general" among them and above them is "comes from"
   general : {k : Selection} → Admitted k → (ρ : Substitution)
@@ -60,7 +66,8 @@ module _ (M : Mode) (lay : Layout) (s t : Term) (left : IsSide (flatten s)) (rig
   general {k} ok ρ = (
     λ more.
         comes-alike M (lay .new) (flatten s) (flatten t) (its-values ok) (λ x m. refl)
-        (more-general M (lay .new) s t some (substitution k) ρ .0 (every-variable M (lay .new) (variablesOf M s t) (substitution k) ρ (pure ok) .0 more)),
+        (more-general M (lay .new) s t some (substitution k) ρ .0
+        (every-variable M (lay .new) (variablesOf M s t) (substitution k) ρ (pure ok) .0 more)),
     λ comes.
         every-variable M (lay .new) (variablesOf M s t) (substitution k) ρ (pure ok) .1
         (more-general M (lay .new) s t some (substitution k) ρ .1
@@ -73,7 +80,8 @@ module _ (M : Mode) (lay : Layout) (s t : Term) (left : IsSide (flatten s)) (rig
       (selections-are G .0 (both .0), both .1)
 
   admitted-listed : {k : Selection} → Admitted k → List·Memᴰ k (listed M lay (flatten s) (flatten t) G)
-  admitted-listed {k} ok = member-filter (admissible M (lay .new) (flatten s) (flatten t) G) (selections-are G .1 (ok .0)) (ok .1)
+  admitted-listed {k} ok =
+      member-filter (admissible M (lay .new) (flatten s) (flatten t) G) (selections-are G .1 (ok .0)) (ok .1)
 
   correct : {k : Selection} → Admitted k → ACUnifier M s t (substitution k)
   correct {k} ok =
@@ -84,21 +92,26 @@ module _ (M : Mode) (lay : Layout) (s t : Term) (left : IsSide (flatten s)) (rig
       → MoreGeneral (anyVariable M (lay .new)) (variablesOf M s t) (substitution k) (substitution l) → k ≡ l
   minimal {k} {l} ok ok′ more =
       independent M (lay .new) (flatten s) (flatten t) above groups (ok .0) (ok′ .0) (ok .1) (ok′ .1)
-      (comes-alike M (lay .new) (flatten s) (flatten t) (λ x m. refl) (its-values ok′) (general ok (substitution l) .0 more))
+      (comes-alike M (lay .new) (flatten s) (flatten t) (λ x m. refl) (its-values ok′)
+      (general ok (substitution l) .0 more))
 
   covered : (ρ : Substitution) → ACUnifier M s t ρ
       → (k : Selection) × Admitted k × MoreGeneral (anyVariable M (lay .new)) (variablesOf M s t) (substitution k) ρ
   covered ρ unifier =
-      let found = complete M (lay .new) (flatten s) (flatten t) left right above groups (unifier-unifies M s t ρ .0 unifier) in
+      let found = complete M (lay .new) (flatten s) (flatten t) left right above groups
+      (unifier-unifies M s t ρ .0 unifier) in
       (found .0, (found .1, found .2), general (found .1, found .2) ρ .1 (found .3))
 
   -- The substitutions of the listed selections are a complete set of minimal unifiers of the two terms.
   pub minimal-set : MinimalSet M (lay .new) s t (map substitution (listed M lay (flatten s) (flatten t) G))
   minimal-set =
       record {
-        domain = λ σ m x absent. let k = of-selection m in ap (λ (σ : Substitution). σ x) (k .2) ∙ elsewhere (k .0) x absent;
-        purity = λ σ m. let k = of-selection m in subst (Pure (M .moves) (variablesOf M s t)) (sym (k .2)) (pure (listed-admitted (k .1)));
-        correctness = λ σ m. let k = of-selection m in subst (ACUnifier M s t) (sym (k .2)) (correct (listed-admitted (k .1)));
+        domain = λ σ m x absent. let k =
+            of-selection m in ap (λ (σ : Substitution). σ x) (k .2) ∙ elsewhere (k .0) x absent;
+        purity = λ σ m. let k = of-selection m in subst (Pure (M .moves) (variablesOf M s t)) (sym (k .2))
+            (pure (listed-admitted (k .1)));
+        correctness = λ σ m. let k =
+            of-selection m in subst (ACUnifier M s t) (sym (k .2)) (correct (listed-admitted (k .1)));
         completeness =
             λ ρ unifier.
             let found = covered ρ unifier in
@@ -119,7 +132,9 @@ module _ (M : Mode) (lay : Layout) (s t : Term) (left : IsSide (flatten s)) (rig
       of-selection m = map-members substitution (listed M lay (flatten s) (flatten t) G) m
 
 -- For document 01's atoms and keys.
-pub unifying-minimal-set : (s t : Term) → IsSide (flatten s) → IsSide (flatten t) → {G : Groups} → GroupsOf unifying (flatten s) (flatten t) G
-    → MinimalSet unifying 192 s t (map (substitutionOf unifying 192 (flatten s) (flatten t) G) (listed unifying layout (flatten s) (flatten t) G))
+pub unifying-minimal-set : (s t : Term) → IsSide (flatten s) → IsSide (flatten t) → {G : Groups}
+    → GroupsOf unifying (flatten s) (flatten t) G
+    → MinimalSet unifying 192 s t (map (substitutionOf unifying 192 (flatten s) (flatten t) G)
+    (listed unifying layout (flatten s) (flatten t) G))
 unifying-minimal-set s t left right groups =
     minimal-set unifying layout s t left right refl (lit≤ tt) (λ a new. le-ltb a 64 (omega arith)) groups

@@ -1,4 +1,5 @@
--- Only the differences of the coefficients count: two equations whose differences agree, place by place and in the offsets, have the same minimal solutions.
+-- Only the differences of the coefficients count: two equations whose differences agree, place by place and
+-- in the offsets, have the same minimal solutions.
 use Prim.Native.Nat.{ℕ, zero, suc, _+_, _*_, _-_, _<_}
 use native.Mathlib.Omega.{arith}
 use mathlib.Core.Path.{_≡_, refl, sym, ap, _∙_}
@@ -12,7 +13,8 @@ use Rattle.ac.proofs.Vectors.{same-length, least-same, dot-weighted}
 pub record SameNets (E F : Equation) : Type 0 where
   pub homogeneous : E .homogeneous ≡ F .homogeneous
   pub lengths : length (E .left) ≡ length (F .left)
-  pub places : (i : ℕ) → i < length (E .left) → getD (E .left) i 0 + getD (F .right) i 0 ≡ getD (F .left) i 0 + getD (E .right) i 0
+  pub places : (i : ℕ) → i < length (E .left)
+      → getD (E .left) i 0 + getD (F .right) i 0 ≡ getD (F .left) i 0 + getD (E .right) i 0
   pub offsets : E .left-offset + F .right-offset ≡ F .left-offset + E .right-offset
 
 -- where the differences of p and q and of r and s agree, so do those of the sums
@@ -23,7 +25,8 @@ weighted-differences p q r s (x ∷ v) same =
     omega (
       arith,
       ap (λ z. z * x) (same 0 (omega arith)),
-      weighted-differences (λ i. p (suc i)) (λ i. q (suc i)) (λ i. r (suc i)) (λ i. s (suc i)) v (λ i h. same (suc i) (omega arith)),
+      weighted-differences (λ i. p (suc i)) (λ i. q (suc i)) (λ i. r (suc i)) (λ i. s (suc i)) v
+          (λ i h. same (suc i) (omega arith)),
     )
 
 module _ {E F : Equation} (same : SameNets E F) where
@@ -44,7 +47,9 @@ module _ {E F : Equation} (same : SameNets E F) where
               arith,
               s .equal,
               same .offsets,
-              weighted-differences (coefficient (E .left)) (coefficient (E .right)) (coefficient (F .left)) (coefficient (F .right)) v (λ i h. same .places i (let k : i < length (E .left) = omega arith in k)),
+              weighted-differences (coefficient (E .left)) (coefficient (E .right)) (coefficient (F .left))
+                  (coefficient (F .right)) v (λ i h. same .places i
+                  (let k : i < length (E .left) = omega arith in k)),
               dot-weighted (E .left) v,
               dot-weighted (E .right) v,
               dot-weighted (F .left) v,

@@ -17,14 +17,17 @@ pub ≺-asymmetric : {u v : List ℕ} → u ≺ v → v ≺ u → ⊥
 
 module _ {A : Type 0} {_before_ : A → A → Type 0} (asymmetric : (a b : A) → _before_ a b → _before_ b a → ⊥) where
   -- the first members of two ascending lists with the same members are equal
-  first-same : {a b : A} {xs ys : List A} → ((c : A) → List·Memᴰ c xs → _before_ a c) → ((c : A) → List·Memᴰ c ys → _before_ b c)
+  first-same : {a b : A} {xs ys : List A} → ((c : A) → List·Memᴰ c xs → _before_ a c)
+      → ((c : A) → List·Memᴰ c ys → _before_ b c)
       → List·Memᴰ a (b ∷ ys) → List·Memᴰ b (a ∷ xs) → a ≡ b
   first-same after-a after-b (List·Memᴰ·head e) member = e
   first-same after-a after-b (List·Memᴰ·tail m) (List·Memᴰ·head e) = sym e
-  first-same {a} {b} after-a after-b (List·Memᴰ·tail m) (List·Memᴰ·tail m′) = absurd (asymmetric a b (after-a b m′) (after-b a m))
+  first-same {a} {b} after-a after-b (List·Memᴰ·tail m) (List·Memᴰ·tail m′) =
+      absurd (asymmetric a b (after-a b m′) (after-b a m))
 
   -- a member of the one tail is a member of the other
-  later-same : {a b c : A} {xs ys : List A} → a ≡ b → ((c : A) → List·Memᴰ c xs → _before_ a c) → List·Memᴰ c xs → List·Memᴰ c (b ∷ ys) → List·Memᴰ c ys
+  later-same : {a b c : A} {xs ys : List A} → a ≡ b → ((c : A) → List·Memᴰ c xs → _before_ a c)
+      → List·Memᴰ c xs → List·Memᴰ c (b ∷ ys) → List·Memᴰ c ys
   later-same {a} {b} {c} same after-a member (List·Memᴰ·head e) = absurd (asymmetric c c itself itself)
     where
       itself : _before_ c c
@@ -32,7 +35,8 @@ module _ {A : Type 0} {_before_ : A → A → Type 0} (asymmetric : (a b : A) �
   later-same same after-a member (List·Memᴰ·tail m) = m
 
   -- Two strictly ascending lists with the same members are equal.
-  pub ascending-unique : {xs ys : List A} → Ascending _before_ xs → Ascending _before_ ys → ((c : A) → List·Memᴰ c xs ↔ List·Memᴰ c ys) → xs ≡ ys
+  pub ascending-unique : {xs ys : List A} → Ascending _before_ xs → Ascending _before_ ys
+      → ((c : A) → List·Memᴰ c xs ↔ List·Memᴰ c ys) → xs ≡ ys
   ascending-unique none none same = refl
   ascending-unique none (next {a = b} after ys) same = absurd (List·Memᴰ·not-nil (same b .1 (List·Memᴰ·head refl)))
   ascending-unique (next {a = a} after xs) none same = absurd (List·Memᴰ·not-nil (same a .0 (List·Memᴰ·head refl)))
@@ -49,9 +53,11 @@ module _ {A : Type 0} {_before_ : A → A → Type 0} (asymmetric : (a b : A) �
       )
 
 -- The rows of a group are one list.
-pub exactly-unique : {Row : List ℕ → Type 0} {rows rows′ : List (List ℕ)} → Exactly Row rows → Exactly Row rows′ → rows ≡ rows′
+pub exactly-unique : {Row : List ℕ → Type 0} {rows rows′ : List (List ℕ)} → Exactly Row rows
+    → Exactly Row rows′ → rows ≡ rows′
 exactly-unique e e′ =
-    ascending-unique (λ u v. ≺-asymmetric) (e .ascending) (e′ .ascending) (λ v. (λ m. e′ .all v (e .only v m), λ m. e .all v (e′ .only v m)))
+    ascending-unique (λ u v. ≺-asymmetric) (e .ascending) (e′ .ascending)
+    (λ v. (λ m. e′ .all v (e .only v m), λ m. e .all v (e′ .only v m)))
 
 -- Ascending lists put together.
 module _ {A : Type 0} {_before_ : A → A → Type 0} where
@@ -64,7 +70,8 @@ module _ {A : Type 0} {_before_ : A → A → Type 0} where
       → ((a b : A) → List·Memᴰ a xs → List·Memᴰ b ys → _before_ a b) → Ascending _before_ (xs ++ ys)
   ascending-append none ascending-ys apart = ascending-ys
   ascending-append {ys = ys} (next {a = a} {rest = xs} others ascending) ascending-ys apart =
-      next (λ b m. by-part b (List·Memᴰ·append-cases xs m)) (ascending-append ascending ascending-ys (λ c d m m′. apart c d (List·Memᴰ·tail m) m′))
+      next (λ b m. by-part b (List·Memᴰ·append-cases xs m))
+      (ascending-append ascending ascending-ys (λ c d m m′. apart c d (List·Memᴰ·tail m) m′))
     where
       by-part : (b : A) → List·Memᴰ b xs ⊎ List·Memᴰ b ys → _before_ a b
       by-part b (inl m) = others b m
@@ -77,7 +84,8 @@ module _ {A : Type 0} (test : A → Bool) where
   filter-member [] m = absurd (List·Memᴰ·not-nil m)
   filter-member (x ∷ xs) {a} m = by-test (test x) refl m (λ m′. filter-member xs m′)
     where
-      by-test : (b : Bool) → test x ≡ b → List·Memᴰ a (keep b x (filter test xs)) → (List·Memᴰ a (filter test xs) → List·Memᴰ a xs × (test a ≡ true))
+      by-test : (b : Bool) → test x ≡ b → List·Memᴰ a (keep b x (filter test xs))
+          → (List·Memᴰ a (filter test xs) → List·Memᴰ a xs × (test a ≡ true))
           → List·Memᴰ a (x ∷ xs) × (test a ≡ true)
       by-test true t (List·Memᴰ·head e) rest = (List·Memᴰ·head e, ap test e ∙ t)
       by-test true t (List·Memᴰ·tail m) rest = (List·Memᴰ·tail (rest m .0), rest m .1)
@@ -94,9 +102,11 @@ module _ {A : Type 0} (test : A → Bool) where
   member-filter (List·Memᴰ·tail {x = x} m) t = keep-tail (test x) x (member-filter m t)
 
   -- in an ascending list those that pass ascend
-  pub filter-ascending : {_before_ : A → A → Type 0} {xs : List A} → Ascending _before_ xs → Ascending _before_ (filter test xs)
+  pub filter-ascending : {_before_ : A → A → Type 0} {xs : List A} → Ascending _before_ xs
+      → Ascending _before_ (filter test xs)
   filter-ascending none = none
-  filter-ascending {_before_} (next {a = x} {rest = xs} others ascending) = by-test (test x) (filter-ascending ascending)
+  filter-ascending {_before_} (next {a = x} {rest = xs} others ascending) =
+      by-test (test x) (filter-ascending ascending)
     where
       by-test : (b : Bool) → Ascending _before_ (filter test xs) → Ascending _before_ (keep b x (filter test xs))
       by-test true kept-ones = next (λ a m. others a (filter-member xs m .0)) kept-ones

@@ -22,12 +22,15 @@ one-way a b less more = omega arith
 
 module _ {keys : List ℕ} where
   -- what remains after the beginning are the keys from its bound on
-  pub remaining-members : (begin : Begin) {key : ℕ} → List·Memᴰ key (remaining begin keys) → List·Memᴰ key keys × (boundOf begin ≤ key)
+  pub remaining-members : (begin : Begin) {key : ℕ} → List·Memᴰ key (remaining begin keys)
+      → List·Memᴰ key keys × (boundOf begin ≤ key)
   remaining-members start m = (m, omega arith)
-  remaining-members (after k) {key} m = let t = filter-member (ltb k) keys m in (t .0, omega (arith, ltb-true k key (t .1)))
+  remaining-members (after k) {key} m = let t =
+      filter-member (ltb k) keys m in (t .0, omega (arith, ltb-true k key (t .1)))
 
   -- and every such key remains
-  members-remaining : (begin : Begin) {key : ℕ} → List·Memᴰ key keys → boundOf begin ≤ key → List·Memᴰ key (remaining begin keys)
+  members-remaining : (begin : Begin) {key : ℕ} → List·Memᴰ key keys → boundOf begin ≤ key
+      → List·Memᴰ key (remaining begin keys)
   members-remaining start m h = m
   members-remaining (after k) {key} m h = member-filter (ltb k) m (lt-ltb k key (omega arith))
 
@@ -40,9 +43,11 @@ module _ {keys : List ℕ} where
 remaining-behind : (before : List ℕ) (key : ℕ) {behind : List ℕ} → Ascending _<_ (before ++ key ∷ behind)
     → remaining (after key) (before ++ key ∷ behind) ≡ behind
 remaining-behind [] key {behind} (next first later) =
-    ap (λ t. keep t key (filter (ltb key) behind)) (le-ltb key key (le-refl key)) ∙ filter-all (ltb key) behind (λ c m. lt-ltb key c (first c m))
+    ap (λ t. keep t key (filter (ltb key) behind)) (le-ltb key key (le-refl key))
+    ∙ filter-all (ltb key) behind (λ c m. lt-ltb key c (first c m))
 remaining-behind (b ∷ before) key {behind} (next first later) =
-    ap (λ t. keep t b (filter (ltb key) (before ++ key ∷ behind))) (le-ltb key b (omega (arith, first key (Memᴰ·append-right before (List·Memᴰ·head refl)))))
+    ap (λ t. keep t b (filter (ltb key) (before ++ key ∷ behind)))
+    (le-ltb key b (omega (arith, first key (Memᴰ·append-right before (List·Memᴰ·head refl)))))
     ∙ remaining-behind before key later
 
 empty-without-members : (xs : List ℕ) → ((x : ℕ) → List·Memᴰ x xs → ⊥) → xs ≡ []
@@ -52,7 +57,8 @@ empty-without-members (x ∷ xs) nothing = absurd (nothing x (List·Memᴰ·head
 module _ {keys : List ℕ} {bound : ℕ} where
   -- A number is not on the list where the least key from it on is another, or where there is none.
   pub passed-over : {key : ℕ} → LeastFrom keys bound key → (key ≡ bound → ⊥) → List·Memᴰ bound keys → ⊥
-  passed-over {key} found differs m = differs (omega (arith, found .least bound m (le-refl bound), found .at-or-above))
+  passed-over {key} found differs m =
+      differs (omega (arith, found .least bound m (le-refl bound), found .at-or-above))
 
   -- where the list has no key from the number on
   pub not-reached : NoneFrom keys bound → List·Memᴰ bound keys → ⊥
@@ -62,18 +68,22 @@ module _ {keys : List ℕ} (ascending : Ascending _<_ keys) where
   -- nothing remains if the list has no key from the bound on
   pub none-remains : (begin : Begin) → NoneFrom keys (boundOf begin) → remaining begin keys ≡ []
   none-remains begin nothing =
-      empty-without-members (remaining begin keys) (λ x m. let t = remaining-members begin m in omega (arith, nothing x (t .0)))
+      empty-without-members (remaining begin keys)
+      (λ x m. let t = remaining-members begin m in omega (arith, nothing x (t .0)))
 
   -- the least key from the bound on is the first that remains, and after it come those that remain after it
-  pub least-first : (begin : Begin) {key : ℕ} → LeastFrom keys (boundOf begin) key → remaining begin keys ≡ key ∷ remaining (after key) keys
+  pub least-first : (begin : Begin) {key : ℕ} → LeastFrom keys (boundOf begin) key
+      → remaining begin keys ≡ key ∷ remaining (after key) keys
   least-first begin {key} found =
       ascending-unique one-way (remaining-ascending begin ascending)
-      (next (λ c m. let t = remaining-members {keys = keys} (after key) m in omega arith) (remaining-ascending (after key) ascending)) (λ c. (there c, back c))
+      (next (λ c m. let t = remaining-members {keys = keys} (after key) m in omega arith)
+      (remaining-ascending (after key) ascending)) (λ c. (there c, back c))
     where
       there : (c : ℕ) → List·Memᴰ c (remaining begin keys) → List·Memᴰ c (key ∷ remaining (after key) keys)
       there c m =
           let t = remaining-members begin m in
-          ⊎-elim (λ e. List·Memᴰ·head (sym e)) (λ above. List·Memᴰ·tail (members-remaining (after key) (t .0) (omega arith)))
+          ⊎-elim (λ e. List·Memᴰ·head (sym e))
+          (λ above. List·Memᴰ·tail (members-remaining (after key) (t .0) (omega arith)))
           (eq-or-lt-of-le (found .least c (t .0) (t .1)))
 
       back : (c : ℕ) → List·Memᴰ c (key ∷ remaining (after key) keys) → List·Memᴰ c (remaining begin keys)
@@ -83,18 +93,22 @@ module _ {keys : List ℕ} (ascending : Ascending _<_ keys) where
           members-remaining begin (t .0) (omega (arith, found .at-or-above))
 
   -- What remains after a later key remains of what remains after a beginning.
-  remaining-later : (begin : Begin) {key : ℕ} → boundOf begin ≤ key → remaining (after key) (remaining begin keys) ≡ remaining (after key) keys
+  remaining-later : (begin : Begin) {key : ℕ} → boundOf begin ≤ key
+      → remaining (after key) (remaining begin keys) ≡ remaining (after key) keys
   remaining-later begin {key} bound =
-      ascending-unique one-way (remaining-ascending (after key) (remaining-ascending begin ascending)) (remaining-ascending (after key) ascending)
+      ascending-unique one-way (remaining-ascending (after key) (remaining-ascending begin ascending))
+      (remaining-ascending (after key) ascending)
       (λ c. (
-        λ m. let t = remaining-members (after key) m in members-remaining (after key) (remaining-members begin (t .0) .0) (t .1),
+        λ m. let t = remaining-members (after key) m in members-remaining (after key)
+            (remaining-members begin (t .0) .0) (t .1),
         λ m.
             let t = remaining-members (after key) m in
             members-remaining (after key) (members-remaining begin (t .0) (omega arith)) (t .1),
       ))
 
   -- What remains after a page's last key is what the page left.
-  pub remaining-after-page : (begin : Begin) (wanted : ℕ) (before : List ℕ) (last : ℕ) → page begin wanted keys ≡ before ++ last ∷ []
+  pub remaining-after-page : (begin : Begin) (wanted : ℕ) (before : List ℕ) (last : ℕ)
+      → page begin wanted keys ≡ before ++ last ∷ []
       → remaining (after last) keys ≡ drop wanted (remaining begin keys)
   remaining-after-page begin wanted before last e =
       sym (remaining-later begin (remaining-members begin last-stands .1)) ∙ ap (filter (ltb last)) whole
@@ -104,7 +118,8 @@ module _ {keys : List ℕ} (ascending : Ascending _<_ keys) where
       left = drop wanted (remaining begin keys)
 
       whole : remaining begin keys ≡ before ++ last ∷ left
-      whole = sym (take-append-drop wanted (remaining begin keys)) ∙ ap (λ (l : List ℕ). l ++ left) e ∙ append-snoc before last left
+      whole = sym (take-append-drop wanted (remaining begin keys)) ∙ ap (λ (l : List ℕ). l ++ left) e
+          ∙ append-snoc before last left
 
       last-stands : List·Memᴰ last (remaining begin keys)
       last-stands = subst (List·Memᴰ last) (sym whole) (Memᴰ·append-right before (List·Memᴰ·head refl))

@@ -20,12 +20,25 @@ record Without (b : ℕ) (xs : List ℕ) : Type 0 where
   gone : List·Memᴰ b rest → ⊥
 
 without : (b : ℕ) {xs : List ℕ} → Distinct xs → Without b xs
-without b none = record { rest = []; shorter = omega arith; distinct = none; members = λ y m. m; gone = λ m. List·Memᴰ·not-nil m }
+without b none = record {
+  rest = [];
+  shorter = omega arith;
+  distinct = none;
+  members = λ y m. m;
+  gone = λ m.
+      List·Memᴰ·not-nil m;
+}
 without b (also {x = x} {xs = xs} new distinct) = by-head (ℕ-discrete x b) (without b distinct)
   where
     by-head : Dec (x ≡ b) → Without b xs → Without b (x ∷ xs)
     by-head (yes e) w =
-        record { rest = xs; shorter = omega arith; distinct = distinct; members = λ y m. List·Memᴰ·tail m; gone = λ m. new (Memᴰ·cast e m) }
+        record {
+          rest = xs;
+          shorter = omega arith;
+          distinct = distinct;
+          members = λ y m. List·Memᴰ·tail m;
+          gone = λ m. new (Memᴰ·cast e m);
+        }
     by-head (no other) w =
         record {
           rest = x ∷ w .rest;
@@ -44,9 +57,11 @@ without b (also {x = x} {xs = xs} new distinct) = by-head (ℕ-discrete x b) (wi
         still-gone (List·Memᴰ·tail m) = w .gone m
 
 -- By induction on the bound: without its largest number the list is at most one shorter.
-pub pigeonhole : (bound : ℕ) {xs : List ℕ} → Distinct xs → ((x : ℕ) → List·Memᴰ x xs → x < bound) → length xs ≤ bound
+pub pigeonhole : (bound : ℕ) {xs : List ℕ} → Distinct xs → ((x : ℕ) → List·Memᴰ x xs → x < bound)
+    → length xs ≤ bound
 pigeonhole zero none small = omega arith
-pigeonhole zero (also {x = x} new distinct) small = absurd (let h : x < 0 = small x (List·Memᴰ·head refl) in omega arith)
+pigeonhole zero (also {x = x} new distinct) small =
+    absurd (let h : x < 0 = small x (List·Memᴰ·head refl) in omega arith)
 pigeonhole (suc b) {xs} distinct small =
     let w : Without b xs = without b distinct in omega (arith, w .shorter, pigeonhole b (w .distinct) (smaller w))
   where

@@ -18,7 +18,8 @@ getD-member (x ∷ xs) zero d h = List·Memᴰ·head refl
 getD-member (x ∷ xs) (suc i) d h = List·Memᴰ·tail (getD-member xs i d (omega arith))
 
 -- what stands at a place of a list that is made member by member
-pub getD-map {ℓ κ} : {A : Type ℓ} {B : Type κ} (f : A → B) (xs : List A) (i : ℕ) (d : A) (e : B) → i < length xs → getD (map f xs) i e ≡ f (getD xs i d)
+pub getD-map {ℓ κ} : {A : Type ℓ} {B : Type κ} (f : A → B) (xs : List A) (i : ℕ) (d : A) (e : B)
+    → i < length xs → getD (map f xs) i e ≡ f (getD xs i d)
 getD-map f [] i d e h = absurd (omega arith)
 getD-map f (x ∷ xs) zero d e h = refl
 getD-map f (x ∷ xs) (suc i) d e h = getD-map f xs i d e (omega arith)
@@ -32,7 +33,8 @@ from-bounds k (suc n) a (List·Memᴰ·tail m) = omega (arith, from-bounds (suc 
 pub from-member : (k n : ℕ) (a : ℕ) → k ≤ a → a < k + n → List·Memᴰ a (from k n)
 from-member k zero a low high = absurd (omega arith)
 from-member k (suc n) a low high =
-    ⊎-elim (λ (e : k ≡ a). List·Memᴰ·head (sym e)) (λ (l : k < a). List·Memᴰ·tail (from-member (suc k) n a l (omega arith))) (eq-or-lt-of-le low)
+    ⊎-elim (λ (e : k ≡ a). List·Memᴰ·head (sym e))
+    (λ (l : k < a). List·Memᴰ·tail (from-member (suc k) n a l (omega arith))) (eq-or-lt-of-le low)
 
 -- they stand in ascending order
 pub from-ascending : (k n : ℕ) → Ascending _<_ (from k n)
@@ -61,7 +63,8 @@ pub getD-placeOf : (f : ℕ → ℕ) (xs : List ℕ) (x : ℕ) → List·Memᴰ 
 getD-placeOf f (y ∷ ys) x (List·Memᴰ·head e) = rw (placeOf-here x y ys e) (ap f (sym e))
 getD-placeOf f (y ∷ ys) x (List·Memᴰ·tail m) = by-first (ℕ-discrete x y) (getD-placeOf f ys x m)
   where
-    by-first : Dec (x ≡ y) → getD (map f ys) (placeOf x ys) 0 ≡ f x → getD (map f (y ∷ ys)) (placeOf x (y ∷ ys)) 0 ≡ f x
+    by-first : Dec (x ≡ y) → getD (map f ys) (placeOf x ys) 0 ≡ f x
+        → getD (map f (y ∷ ys)) (placeOf x (y ∷ ys)) 0 ≡ f x
     by-first (yes e) h = rw (placeOf-here x y ys e) (ap f (sym e))
     by-first (no n) h = rw (placeOf-later x y ys n) h
 

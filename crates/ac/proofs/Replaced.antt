@@ -1,4 +1,5 @@
--- What stands on a side after a replacement: each atom as often as the variables that stand there hold it, and where it stays.
+-- What stands on a side after a replacement: each atom as often as the variables that stand there hold it,
+-- and where it stays.
 use Prim.Native.Nat.{ℕ, _+_, _<_}
 use mathlib.Core.Path.{_≡_, refl, sym, ap, _∙_}
 use mathlib.Core.Bool.{Bool, true, false, not, cond, _&&_, true≢false, and-eq-true-iff}
@@ -17,7 +18,8 @@ use Rattle.ac.proofs.Counts.{count-some, count-member, staying, count-p
 
 -- Each atom is an unbalanced constant, all of which stay, or as many of it stay on the left as on the right.
 pub data Kind (M : Mode) (L R : List ℕ) (b : ℕ) : Type 0 where
-  constant : List·Memᴰ b (unbalanced M L R) → staying (M .moves) b L ≡ count b L → staying (M .moves) b R ≡ count b R → Kind M L R b
+  constant : List·Memᴰ b (unbalanced M L R) → staying (M .moves) b L ≡ count b L
+      → staying (M .moves) b R ≡ count b R → Kind M L R b
   other : (List·Memᴰ b (unbalanced M L R) → ⊥) → staying (M .moves) b L ≡ staying (M .moves) b R → Kind M L R b
 
 module _ (M : Mode) (L R : List ℕ) where
@@ -41,19 +43,23 @@ module _ (M : Mode) (L R : List ℕ) where
   variables-move x m = and-eq-true-iff (M .moves x) (occurs L R x) .0 (filter-member isVariable atoms m .1) .0
 
   -- an atom of a side that moves is a variable
-  pub moving-variable : (a : ℕ) → a < 128 → 0 < count a L + count a R → M .moves a ≡ true → List·Memᴰ a (variables M L R)
+  pub moving-variable : (a : ℕ) → a < 128 → 0 < count a L + count a R → M .moves a ≡ true
+      → List·Memᴰ a (variables M L R)
   moving-variable a small stands moves =
       member-filter isVariable (from-member 0 128 a (omega arith) (omega arith))
       (and-eq-true-iff (M .moves a) (occurs L R a) .1 (moves, lt-ltb 0 (count a L + count a R) stands))
 
   -- an atom that does not move and whose counts differ is an unbalanced constant
-  unbalanced-member : (c : ℕ) → c < 128 → M .moves c ≡ false → (count c L ≡ count c R → ⊥) → List·Memᴰ c (unbalanced M L R)
+  unbalanced-member : (c : ℕ) → c < 128 → M .moves c ≡ false → (count c L ≡ count c R → ⊥)
+      → List·Memᴰ c (unbalanced M L R)
   unbalanced-member c small moves differ =
       member-filter isUnbalanced (from-member 0 128 c (omega arith) (omega arith))
-      (and-eq-true-iff (not (M .moves c)) (not (eqb (count c L) (count c R))) .1 (ap not moves, ap not (ne-eqb (count c L) (count c R) differ)))
+      (and-eq-true-iff (not (M .moves c)) (not (eqb (count c L) (count c R))) .1
+      (ap not moves, ap not (ne-eqb (count c L) (count c R) differ)))
 
   -- and every unbalanced constant is such an atom
-  pub unbalanced-cases : (c : ℕ) → List·Memᴰ c (unbalanced M L R) → (c < 128) × (M .moves c ≡ false) × (count c L ≡ count c R → ⊥)
+  pub unbalanced-cases : (c : ℕ) → List·Memᴰ c (unbalanced M L R)
+      → (c < 128) × (M .moves c ≡ false) × (count c L ≡ count c R → ⊥)
   unbalanced-cases c m =
       let both = filter-member isUnbalanced atoms m in
       let tests = and-eq-true-iff (not (M .moves c)) (not (eqb (count c L) (count c R))) .0 (both .1) in
@@ -86,17 +92,20 @@ module _ (M : Mode) (L R : List ℕ) where
             other
             (λ (m : List·Memᴰ b (unbalanced M L R)). unbalanced-cases b m .2 q)
             (stay false e L ∙ q ∙ sym (stay false e R))
-        by-counts false e (no differ) = constant (unbalanced-member b (differ-small b differ) e differ) (stay false e L) (stay false e R)
+        by-counts false e (no differ) =
+            constant (unbalanced-member b (differ-small b differ) e differ) (stay false e L) (stay false e R)
 
     module _ (θ : Replacement) (b : ℕ) where
       -- how often b stands on the left
-      pub count-left : count b (put (M .moves) θ L) ≡ dot (onLeft M L R) (occurrences θ (variables M L R) b) + staying (M .moves) b L
+      pub count-left : count b (put (M .moves) θ L)
+          ≡ dot (onLeft M L R) (occurrences θ (variables M L R) b) + staying (M .moves) b L
       count-left =
           count-put (M .moves) θ b variables-ascending variables-move L
           (λ a m moves. moving-variable a (left a m) (omega (arith, count-some a L m)) moves)
 
       -- and on the right
-      pub count-right : count b (put (M .moves) θ R) ≡ dot (onRight M L R) (occurrences θ (variables M L R) b) + staying (M .moves) b R
+      pub count-right : count b (put (M .moves) θ R)
+          ≡ dot (onRight M L R) (occurrences θ (variables M L R) b) + staying (M .moves) b R
       count-right =
           count-put (M .moves) θ b variables-ascending variables-move R
           (λ a m moves. moving-variable a (right a m) (omega (arith, count-some a R m)) moves)

@@ -1,4 +1,5 @@
--- Below every solution stands a row: a solution that has no row below it has no smaller solution below it, so it is a row itself.
+-- Below every solution stands a row: a solution that has no row below it has no smaller solution below it, so
+-- it is a row itself.
 use Prim.Native.Nat.{ℕ, zero, suc, _<_}
 use native.Mathlib.Omega.{arith}
 use mathlib.Core.Path.{_≡_, subst, _∙_}
@@ -41,15 +42,17 @@ decide-row-below (r ∷ rows) v = either (decide-≼ r v) (decide-row-below rows
     either (no not) (yes b) = yes (later-below b)
     either (no not) (no none) = no (λ b. neither not none (b .index) (b .within) (b .below))
 
--- Below a vector with the property there is a row, where the rows hold every vector of that length that is least with the property:
--- by induction on the sum, since a vector with no row below is itself least.
-module _ {Has : List ℕ → Type 0} {k : ℕ} (rows : List (List ℕ)) (all : (v : List ℕ) → length v ≡ k → Least Has v → List·Memᴰ v rows) where
+-- Below a vector with the property there is a row, where the rows hold every vector of that length that is
+-- least with the property: by induction on the sum, since a vector with no row below is itself least.
+module _ {Has : List ℕ → Type 0} {k : ℕ} (rows : List (List ℕ))
+    (all : (v : List ℕ) → length v ≡ k → Least Has v → List·Memᴰ v rows) where
   row-below-sum : (n : ℕ) (v : List ℕ) → sum v < n → length v ≡ k → Has v → RowBelow rows v
   row-below-sum zero v small vector has = absurd (omega arith)
   row-below-sum (suc n) v small vector has =
       decided (decide-row-below rows v) (λ u less. row-below-sum n u (let h : sum u < n = omega arith in h))
     where
-      decided : Dec (RowBelow rows v) → ((u : List ℕ) → sum u < sum v → length u ≡ k → Has u → RowBelow rows u) → RowBelow rows v
+      decided : Dec (RowBelow rows v)
+          → ((u : List ℕ) → sum u < sum v → length u ≡ k → Has u → RowBelow rows u) → RowBelow rows v
       decided (yes b) smaller = b
       decided (no none) smaller = absurd (none (member-below (all v vector (least-unless has reach)) (≼-refl v)))
         where
@@ -63,5 +66,7 @@ module _ {Has : List ℕ → Type 0} {k : ℕ} (rows : List (List ℕ)) (all : (
   row-below v = row-below-sum (suc (sum v)) v (omega arith)
 
 -- below a solution there is a minimal one
-pub minimal-below : (E : Equation) {rows : List (List ℕ)} → Exactly (Minimal E) rows → (v : List ℕ) → length v ≡ length (E .left) → Solves E v → RowBelow rows v
-minimal-below E {rows} exact = row-below rows (λ v vector least. exact .all v (record { vector = vector; least = least }))
+pub minimal-below : (E : Equation) {rows : List (List ℕ)} → Exactly (Minimal E) rows → (v : List ℕ)
+    → length v ≡ length (E .left) → Solves E v → RowBelow rows v
+minimal-below E {rows} exact =
+    row-below rows (λ v vector least. exact .all v (record { vector = vector; least = least }))

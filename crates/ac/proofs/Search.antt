@@ -1,5 +1,6 @@
--- The search finds exactly the minimal solutions. They are up to Huet's bound, so they are candidates; and so is every solution at or below a
--- candidate, so that a candidate is minimal if no other one is at or below it.
+-- The search finds exactly the minimal solutions. They are up to Huet's bound, so they are candidates; and so
+-- is every solution at or below a candidate, so that a candidate is minimal if no other one is at or below
+-- it.
 use Prim.Native.Nat.{ℕ, zero, suc, _+_, _≤_, _<_}
 use native.Mathlib.Omega.{arith}
 use mathlib.Core.Path.{_≡_, refl, sym, ap, ap₂, subst, subst₂, _∙_}
@@ -28,7 +29,8 @@ lower-true : (u v : List ℕ) → lower u v ≡ true → u ≼ v
 lower-true [] [] e = _≼_.none
 lower-true [] (n ∷ v) e = absurd (false≢true e)
 lower-true (m ∷ u) [] e = absurd (false≢true e)
-lower-true (m ∷ u) (n ∷ v) e = let b = and-eq-true-iff (leb m n) (lower u v) .0 e in _≼_.place (leb-true m n (b .0)) (lower-true u v (b .1))
+lower-true (m ∷ u) (n ∷ v) e = let b =
+    and-eq-true-iff (leb m n) (lower u v) .0 e in _≼_.place (leb-true m n (b .0)) (lower-true u v (b .1))
 
 true-lower : {u v : List ℕ} → u ≼ v → lower u v ≡ true
 true-lower _≼_.none = refl
@@ -57,19 +59,24 @@ solves-true E v = (to, back)
         record { equal = eqb-true left-side right-side (b .0); not-all-zero = positive (E .homogeneous) (b .1) }
 
     back : Solves E v → solves E v ≡ true
-    back s = ap₂ (λ b c. b && c) (eq-eqb left-side right-side (s .equal)) (tested (E .homogeneous) (s .not-all-zero))
+    back s =
+        ap₂ (λ b c. b && c) (eq-eqb left-side right-side (s .equal)) (tested (E .homogeneous) (s .not-all-zero))
 
 -- where no other vector is at or below v, one that is at or below it is v
-least-among : {vectors : List (List ℕ)} {u v : List ℕ} → leastAmong vectors v ≡ true → List·Memᴰ u vectors → u ≼ v → u ≡ v
+least-among : {vectors : List (List ℕ)} {u v : List ℕ} → leastAmong vectors v ≡ true → List·Memᴰ u vectors
+    → u ≼ v → u ≡ v
 least-among {vectors} {u} {v} least m below =
-    ≼-equal below (sum-mono (lower-true v u (above (lower u v) (true-lower below) (every-member (λ w. not (lower w v) || lower v w) least m))))
+    ≼-equal below (sum-mono (lower-true v u
+    (above (lower u v) (true-lower below) (every-member (λ w. not (lower w v) || lower v w) least m))))
   where
     above : (b : Bool) → b ≡ true → (not b || lower v u) ≡ true → lower v u ≡ true
     above true e t = t
     above false e t = absurd (false≢true e)
 
-among-least : {vectors : List (List ℕ)} {v : List ℕ} → ((u : List ℕ) → List·Memᴰ u vectors → u ≼ v → u ≡ v) → leastAmong vectors v ≡ true
-among-least {vectors} {v} only = member-every (λ u. not (lower u v) || lower v u) vectors (λ u m. tested u m (lower u v) refl)
+among-least : {vectors : List (List ℕ)} {v : List ℕ} → ((u : List ℕ) → List·Memᴰ u vectors → u ≼ v → u ≡ v)
+    → leastAmong vectors v ≡ true
+among-least {vectors} {v} only =
+    member-every (λ u. not (lower u v) || lower v u) vectors (λ u m. tested u m (lower u v) refl)
   where
     tested : (u : List ℕ) → List·Memᴰ u vectors → (b : Bool) → lower u v ≡ b → (not b || lower v u) ≡ true
     tested u m true e = true-lower (subst (λ w. v ≼ w) (sym (only u m (lower-true u v e))) (≼-refl v))
@@ -78,7 +85,8 @@ among-least {vectors} {v} only = member-every (λ u. not (lower u v) || lower v 
 -- The box holds exactly the vectors of its length whose entries are up to the bound, in ascending order.
 
 box-entries : (k b : ℕ) {v : List ℕ} → List·Memᴰ v (box k b) → (length v ≡ k) × ((i : ℕ) → getD v i 0 ≤ b)
-box-entries zero b (List·Memᴰ·head e) = (ap length e, λ i. subst (λ v. getD v i 0 ≤ b) (sym e) (let h : 0 ≤ b = omega arith in h))
+box-entries zero b (List·Memᴰ·head e) =
+    (ap length e, λ i. subst (λ v. getD v i 0 ≤ b) (sym e) (let h : 0 ≤ b = omega arith in h))
 box-entries zero b (List·Memᴰ·tail m) = absurd (List·Memᴰ·not-nil m)
 box-entries (suc k) b m =
     let first = flatMap-members (λ x. map (λ w. x ∷ w) (box k b)) (below (suc b)) m in
@@ -99,7 +107,8 @@ box-member zero b [] e small = List·Memᴰ·head refl
 box-member zero b (x ∷ v) e small = absurd (omega arith)
 box-member (suc k) b [] e small = absurd (omega arith)
 box-member (suc k) b (x ∷ v) e small =
-    members-flatMap (λ y. map (λ w. y ∷ w) (box k b)) (members-below (let h : x < suc b = omega (arith, small 0) in h))
+    members-flatMap (λ y. map (λ w. y ∷ w) (box k b))
+    (members-below (let h : x < suc b = omega (arith, small 0) in h))
     (members-map (λ w. x ∷ w) (box-member k b v (omega arith) (λ i. small (suc i))))
 
 box-ascending : (k b : ℕ) → Ascending _≺_ (box k b)
@@ -109,7 +118,8 @@ box-ascending (suc k) b =
     (λ x m. ascending-map (λ w. x ∷ w) (ascending-in (λ u w m₁ m₂ before. later before) (box-ascending k b)))
     (ascending-in (λ x y m₁ m₂ less. first-decides x y less) (from-ascending 0 (suc b)))
   where
-    first-decides : (x y : ℕ) → x < y → (u w : List ℕ) → List·Memᴰ u (map (λ v. x ∷ v) (box k b)) → List·Memᴰ w (map (λ v. y ∷ v) (box k b)) → u ≺ w
+    first-decides : (x y : ℕ) → x < y → (u w : List ℕ) → List·Memᴰ u (map (λ v. x ∷ v) (box k b))
+        → List·Memᴰ w (map (λ v. y ∷ v) (box k b)) → u ≺ w
     first-decides x y less u w m₁ m₂ =
         let a = map-members (λ v. x ∷ v) (box k b) m₁ in
         let c = map-members (λ v. y ∷ v) (box k b) m₂ in
@@ -135,25 +145,36 @@ module _ (E : Equation) where
   candidate-solves : {v : List ℕ} → List·Memᴰ v (candidates E) → Solves E v
   candidate-solves {v} m = solves-true E v .0 (filter-member (solves E) (box (length (E .left)) (bound E)) m .1)
 
-  candidate-entries : {v : List ℕ} → List·Memᴰ v (candidates E) → (length v ≡ length (E .left)) × ((i : ℕ) → getD v i 0 ≤ bound E)
-  candidate-entries m = box-entries (length (E .left)) (bound E) (filter-member (solves E) (box (length (E .left)) (bound E)) m .0)
+  candidate-entries : {v : List ℕ} → List·Memᴰ v (candidates E)
+      → (length v ≡ length (E .left)) × ((i : ℕ) → getD v i 0 ≤ bound E)
+  candidate-entries m = box-entries (length (E .left)) (bound E)
+      (filter-member (solves E) (box (length (E .left)) (bound E)) m .0)
 
-  is-candidate : {v : List ℕ} → length v ≡ length (E .left) → ((i : ℕ) → getD v i 0 ≤ bound E) → Solves E v → List·Memᴰ v (candidates E)
-  is-candidate {v} vector small s = member-filter (solves E) (box-member (length (E .left)) (bound E) v vector small) (solves-true E v .1 s)
+  is-candidate : {v : List ℕ} → length v ≡ length (E .left) → ((i : ℕ) → getD v i 0 ≤ bound E) → Solves E v
+      → List·Memᴰ v (candidates E)
+  is-candidate {v} vector small s =
+      member-filter (solves E) (box-member (length (E .left)) (bound E) v vector small) (solves-true E v .1 s)
 
   -- The search finds exactly the minimal solutions, in ascending order.
   pub minimal-solutions-exact : Exactly (Minimal E) (minimalSolutions E)
   minimal-solutions-exact =
       record {
-        ascending = filter-ascending (leastAmong (candidates E)) (filter-ascending (solves E) (box-ascending (length (E .left)) (bound E)));
-        only = λ v m. let both = filter-member (leastAmong (candidates E)) (candidates E) m in only v (both .0) (both .1);
+        ascending = filter-ascending (leastAmong (candidates E))
+            (filter-ascending (solves E) (box-ascending (length (E .left)) (bound E)));
+        only = λ v m. let both =
+            filter-member (leastAmong (candidates E)) (candidates E) m in only v (both .0) (both .1);
         all = λ v m.
-            member-filter (leastAmong (candidates E)) (is-candidate (m .vector) (huet-bound E m (bound-enough E)) (m .least .has))
+            member-filter (leastAmong (candidates E))
+            (is-candidate (m .vector) (huet-bound E m (bound-enough E)) (m .least .has))
             (among-least (λ u candidate below. m .least .no-other u below (candidate-solves candidate)));
       }
     where
       only : (v : List ℕ) → List·Memᴰ v (candidates E) → leastAmong (candidates E) v ≡ true → Minimal E v
-      only v m least = record { vector = candidate-entries m .0; least = record { has = candidate-solves m; no-other = no-other } }
+      only v m least = record {
+        vector = candidate-entries m .0;
+        least = record
+            { has = candidate-solves m; no-other = no-other };
+      }
         where
           no-other : (u : List ℕ) → u ≼ v → Solves E u → u ≡ v
           no-other u below s =

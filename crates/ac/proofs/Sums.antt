@@ -1,4 +1,5 @@
--- Every solution is a sum of rows: a balanced vector is a sum of balanced rows, a constant's vector is one of its rows and a sum of balanced rows.
+-- Every solution is a sum of rows: a balanced vector is a sum of balanced rows, a constant's vector is one of
+-- its rows and a sum of balanced rows.
 use Prim.Native.Nat.{ℕ, zero, suc, _+_, _≤_, _<_}
 use native.Mathlib.Omega.{arith}
 use native.Mathlib.Decide.{decLe}
@@ -28,13 +29,15 @@ length-one-more i [] = refl
 length-one-more zero (t ∷ ts) = refl
 length-one-more (suc i) (t ∷ ts) = ap suc (length-one-more i ts)
 
-combined-one-more : (j : ℕ) (ts : List ℕ) (rows : List (List ℕ)) → j < length rows → length ts ≡ length rows → (i : ℕ)
+combined-one-more : (j : ℕ) (ts : List ℕ) (rows : List (List ℕ)) → j < length rows → length ts ≡ length rows
+    → (i : ℕ)
     → combined (oneMore j ts) rows i ≡ getD (getD rows j []) i 0 + combined ts rows i
 combined-one-more j [] [] h e i = absurd (omega arith)
 combined-one-more j [] (r ∷ rows) h e i = absurd (omega arith)
 combined-one-more j (t ∷ ts) [] h e i = absurd (omega arith)
 combined-one-more zero (t ∷ ts) (r ∷ rows) h e i = omega arith
-combined-one-more (suc j) (t ∷ ts) (r ∷ rows) h e i = omega (arith, combined-one-more j ts rows (omega arith) (omega arith) i)
+combined-one-more (suc j) (t ∷ ts) (r ∷ rows) h e i =
+    omega (arith, combined-one-more j ts rows (omega arith) (omega arith) i)
 
 combined-none : (k : ℕ) (rows : List (List ℕ)) (i : ℕ) → combined (replicate k 0) rows i ≡ 0
 combined-none zero rows i = refl
@@ -46,9 +49,11 @@ entry-within-sum [] i = omega arith
 entry-within-sum (n ∷ v) zero = omega arith
 entry-within-sum (n ∷ v) (suc i) = omega (arith, entry-within-sum v i)
 
-module _ (left right : List ℕ) {balanced : List (List ℕ)} (exact : Exactly (Minimal (equation left right 0 0 true)) balanced) where
+module _ (left right : List ℕ) {balanced : List (List ℕ)}
+    (exact : Exactly (Minimal (equation left right 0 0 true)) balanced) where
   dot-rest : (l : List ℕ) {u v : List ℕ} (r : Rest u v) → dot l v ≡ dot l u + dot l (r .rest)
-  dot-rest l {u} {v} r = omega (arith, dot-weighted l v, dot-weighted l u, dot-weighted l (r .rest), r .products (coefficient l))
+  dot-rest l {u} {v} r =
+      omega (arith, dot-weighted l v, dot-weighted l u, dot-weighted l (r .rest), r .products (coefficient l))
 
   -- no balanced row is all zero, and both sums of a row agree
   row-positive : (b : ℕ) → b < length balanced → 0 < sum (getD balanced b [])
@@ -65,25 +70,37 @@ module _ (left right : List ℕ) {balanced : List (List ℕ)} (exact : Exactly (
         adds-up = λ i. omega (arith, entry-within-sum v i, combined-none (length balanced) balanced i);
       }
 
-  one-row-more : {v : List ℕ} (b : RowBelow balanced v) (r : Rest (getD balanced (b .index) []) v) → SumOf balanced (r .rest) → SumOf balanced v
+  one-row-more : {v : List ℕ} (b : RowBelow balanced v) (r : Rest (getD balanced (b .index) []) v)
+      → SumOf balanced (r .rest) → SumOf balanced v
   one-row-more b r s =
       record {
         times = oneMore (b .index) (s .times);
         a-number-each = length-one-more (b .index) (s .times) ∙ s .a-number-each;
-        adds-up = λ i. omega (arith, r .entries i, s .adds-up i, combined-one-more (b .index) (s .times) balanced (b .within) (s .a-number-each) i);
+        adds-up = λ i. omega (
+          arith,
+          r .entries i,
+          s .adds-up i,
+          combined-one-more (b .index) (s .times) balanced (b .within) (s .a-number-each) i,
+        );
       }
 
-  sum-of-rows : (n : ℕ) (v : List ℕ) → sum v < n → length v ≡ length left → dot left v ≡ dot right v → SumOf balanced v
+  sum-of-rows : (n : ℕ) (v : List ℕ) → sum v < n → length v ≡ length left → dot left v ≡ dot right v
+      → SumOf balanced v
   sum-of-rows zero v small vector equal = absurd (omega arith)
   sum-of-rows (suc n) v small vector equal =
       by-size (decLe (sum v) 0) (λ u less. sum-of-rows n u (let h : sum u < n = omega arith in h))
     where
-      by-size : Dec (sum v ≤ 0) → ((u : List ℕ) → sum u < sum v → length u ≡ length left → dot left u ≡ dot right u → SumOf balanced u) → SumOf balanced v
+      by-size : Dec (sum v ≤ 0)
+          → ((u : List ℕ) → sum u < sum v → length u ≡ length left → dot left u ≡ dot right u
+          → SumOf balanced u) → SumOf balanced v
       by-size (yes none) smaller = no-rows none
       by-size (no some) smaller = with-row (minimal-below (equation left right 0 0 true) exact v vector solves)
         where
           solves : Solves (equation left right 0 0 true) v
-          solves = record { equal = let e : dot left v + 0 ≡ dot right v + 0 = omega arith in e; not-all-zero = λ t. omega arith }
+          solves = record {
+            equal = let e : dot left v + 0 ≡ dot right v + 0 = omega arith in e;
+            not-all-zero = λ t. omega arith;
+          }
 
           with-row : RowBelow balanced v → SumOf balanced v
           with-row b = let r : Rest (getD balanced (b .index) []) v = rest-of (b .below) in
@@ -91,25 +108,31 @@ module _ (left right : List ℕ) {balanced : List (List ℕ)} (exact : Exactly (
               (smaller (r .rest)
               (let h : sum (r .rest) < sum v = omega (arith, r .sums, row-positive (b .index) (b .within)) in h)
               (same-length (r .below) ∙ vector)
-              (let h : dot left (r .rest) ≡ dot right (r .rest) = omega (arith, dot-rest left r, dot-rest right r, row-equal (b .index) (b .within)) in h))
+              (let h : dot left (r .rest) ≡ dot right (r .rest) = omega
+              (arith, dot-rest left r, dot-rest right r, row-equal (b .index) (b .within)) in h))
 
   -- A balanced vector is a sum of the balanced rows.
   pub homogeneous-sum : (v : List ℕ) → length v ≡ length left → dot left v ≡ dot right v → SumOf balanced v
   homogeneous-sum v = sum-of-rows (suc (sum v)) v (omega arith)
 
-  -- A solution of an equation with the same coefficients is one of its minimal solutions and a sum of balanced rows.
-  pub constant-sum : (a b : ℕ) (h : Bool) {rows : List (List ℕ)} → Exactly (Minimal (equation left right a b h)) rows
+  -- A solution of an equation with the same coefficients is one of its minimal solutions and a sum of
+  -- balanced rows.
+  pub constant-sum : (a b : ℕ) (h : Bool) {rows : List (List ℕ)}
+      → Exactly (Minimal (equation left right a b h)) rows
       → (v : List ℕ) → length v ≡ length left → Solves (equation left right a b h) v → RowAndSum rows balanced v
-  constant-sum a b h {rows} exact-rows v vector solves = with-row (minimal-below (equation left right a b h) exact-rows v vector solves)
+  constant-sum a b h {rows} exact-rows v vector solves =
+      with-row (minimal-below (equation left right a b h) exact-rows v vector solves)
     where
       with-row : RowBelow rows v → RowAndSum rows balanced v
       with-row row =
           let r : Rest (getD rows (row .index) []) v = rest-of (row .below) in
           let equal : dot left (getD rows (row .index) []) + a ≡ dot right (getD rows (row .index) []) + b =
-          exact-rows .only (getD rows (row .index) []) (getD-member rows (row .index) [] (row .within)) .least .has .equal in
+          exact-rows .only (getD rows (row .index) []) (getD-member rows (row .index) [] (row .within)) .least
+          .has .equal in
           let s : SumOf balanced (r .rest) =
           homogeneous-sum (r .rest) (same-length (r .below) ∙ vector)
-          (let e : dot left (r .rest) ≡ dot right (r .rest) = omega (arith, dot-rest left r, dot-rest right r, equal, solves .equal) in e) in
+          (let e : dot left (r .rest) ≡ dot right (r .rest) = omega
+          (arith, dot-rest left r, dot-rest right r, equal, solves .equal) in e) in
           record {
             index = row .index;
             within = row .within;
@@ -150,4 +173,7 @@ module _ (M : Mode) (L R : List ℕ) {G : Groups} (groups : GroupsOf M L R G) wh
       (exactly-same (row-of-constant-is-minimal M L R (g .constant)) (groups .constant-rows g member))
       v
       (vector-of-coefficients v vector)
-      (record { equal = weight-of-constant M L R (g .constant) v .0 its-weight; not-all-zero = λ t. absurd (false≢true t) })
+      (record {
+        equal = weight-of-constant M L R (g .constant) v .0 its-weight;
+        not-all-zero = λ t. absurd (false≢true t);
+      })

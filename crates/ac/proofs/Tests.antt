@@ -9,15 +9,19 @@ pub both : (s t : Bool) → s && t ≡ true → (s ≡ true) × (t ≡ true)
 both s t e = and-eq-true-iff s t .0 e
 
 -- where every member passes, each one does, and the other way round
-pub every-member : {A : Type 0} (passes : A → Bool) {a : A} {xs : List A} → every passes xs ≡ true → List·Memᴰ a xs → passes a ≡ true
+pub every-member : {A : Type 0} (passes : A → Bool) {a : A} {xs : List A} → every passes xs ≡ true
+    → List·Memᴰ a xs → passes a ≡ true
 every-member passes {xs = x ∷ xs} e (List·Memᴰ·head q) = ap passes q ∙ both (passes x) (every passes xs) e .0
-every-member passes {xs = x ∷ xs} e (List·Memᴰ·tail m) = every-member passes (both (passes x) (every passes xs) e .1) m
+every-member passes {xs = x ∷ xs} e (List·Memᴰ·tail m) =
+    every-member passes (both (passes x) (every passes xs) e .1) m
 
 -- where each member passes, every one does
-pub member-every : {A : Type 0} (passes : A → Bool) (xs : List A) → ((a : A) → List·Memᴰ a xs → passes a ≡ true) → every passes xs ≡ true
+pub member-every : {A : Type 0} (passes : A → Bool) (xs : List A)
+    → ((a : A) → List·Memᴰ a xs → passes a ≡ true) → every passes xs ≡ true
 member-every passes [] each = refl
 member-every passes (a ∷ xs) each =
-    and-eq-true-iff (passes a) (every passes xs) .1 (each a (List·Memᴰ·head refl), member-every passes xs (λ b m. each b (List·Memᴰ·tail m)))
+    and-eq-true-iff (passes a) (every passes xs) .1
+    (each a (List·Memᴰ·head refl), member-every passes xs (λ b m. each b (List·Memᴰ·tail m)))
 
 -- a test of equality for members, and what it is for lists
 abbrev pub Tests : {A : Type 0} → (A → A → Bool) → Type 0

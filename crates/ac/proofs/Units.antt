@@ -1,5 +1,5 @@
--- One unit more on the way from a vector up to another: a unit at a place that is wanted is left, or none is, and then the two differ at other places
--- only.
+-- One unit more on the way from a vector up to another: a unit at a place that is wanted is left, or none is,
+-- and then the two differ at other places only.
 use Prim.Native.Nat.{ℕ, suc, _+_, _*_, _-_, _≤_, _<_}
 use native.Mathlib.Omega.{arith}
 use native.Mathlib.Nat.{le-refl, mul-le-mul-right}
@@ -15,7 +15,8 @@ use Rattle.ac.proofs.Vectors.{≼-refl}
 
 -- Sums over the entries.
 
--- the sum is that with the coefficient 1 at each place; with one more at each place it is added; of an all-zero vector every sum is 0
+-- the sum is that with the coefficient 1 at each place; with one more at each place it is added; of an
+-- all-zero vector every sum is 0
 sum-weighted : (v : List ℕ) → sum v ≡ weighted (λ i. 1) v
 sum-weighted [] = refl
 sum-weighted (x ∷ v) = omega (arith, sum-weighted v)
@@ -29,7 +30,8 @@ weighted-suc p (x ∷ v) = omega (arith, weighted-suc (λ i. p (suc i)) v)
 pub weighted-zero : (p : ℕ → ℕ) (v : List ℕ) → sum v ≤ 0 → weighted p v ≡ 0
 weighted-zero p [] small = refl
 weighted-zero p (x ∷ v) small =
-    let e : x ≡ 0 = omega arith in omega (arith, ap (λ z. p 0 * z) e, weighted-zero (λ i. p (suc i)) v (let h : sum v ≤ 0 = omega arith in h))
+    let e : x ≡ 0 = omega arith in omega
+    (arith, ap (λ z. p 0 * z) e, weighted-zero (λ i. p (suc i)) v (let h : sum v ≤ 0 = omega arith in h))
 
 -- below every vector stands the one that is all zero
 pub record Zero (v : List ℕ) : Type 0 where
@@ -41,7 +43,11 @@ pub record Zero (v : List ℕ) : Type 0 where
 pub zero-below : (v : List ℕ) → Zero v
 zero-below [] = record { zeros = []; below = none; empty = refl }
 zero-below (x ∷ v) = let z : Zero v = zero-below v in
-    record { zeros = 0 ∷ z .zeros; below = place (let h : 0 ≤ x = omega arith in h) (z .below); empty = omega (arith, z .empty) }
+    record {
+      zeros = 0 ∷ z .zeros;
+      below = place (let h : 0 ≤ x = omega arith in h) (z .below);
+      empty = omega (arith, z .empty);
+    }
 
 -- One unit more, at a place that is wanted.
 pub record UnitLeft (wanted : ℕ → Bool) (u v : List ℕ) : Type 0 where
@@ -58,7 +64,8 @@ longer {u = u} unit = omega (arith, sum-weighted (unit .next), sum-weighted u, u
 
 -- no such unit is left: where f is at most g at the other places, v − u weighs no more by f than by g
 abbrev pub NoneLeft : (ℕ → Bool) → List ℕ → List ℕ → Type 0
-NoneLeft wanted u v = (f g : ℕ → ℕ) → ((i : ℕ) → wanted i ≡ false → f i ≤ g i) → weighted g u + weighted f v ≤ weighted f u + weighted g v
+NoneLeft wanted u v = (f g : ℕ → ℕ) → ((i : ℕ) → wanted i ≡ false → f i ≤ g i)
+    → weighted g u + weighted f v ≤ weighted f u + weighted g v
 
 -- the larger product goes with the larger factor
 rearranged : (a b m n : ℕ) → a ≤ b → m ≤ n → b * m + a * n ≤ a * m + b * n
@@ -91,20 +98,33 @@ module _ (wanted : ℕ → Bool) {m n : ℕ} {u v : List ℕ} (le : m ≤ n) (be
 
   none-here : (m ≡ n) ⊎ (wanted 0 ≡ false) → NoneLeft (λ i. wanted (suc i)) u v → NoneLeft wanted (m ∷ u) (n ∷ v)
   none-here (inl e) nothing f g h =
-      omega (arith, nothing (λ i. f (suc i)) (λ i. g (suc i)) (λ i. h (suc i)), ap (λ z. f 0 * z) e, ap (λ z. g 0 * z) e)
+      omega (
+        arith,
+        nothing (λ i. f (suc i)) (λ i. g (suc i)) (λ i. h (suc i)),
+        ap (λ z. f 0 * z) e,
+        ap (λ z. g 0 * z) e,
+      )
   none-here (inr other) nothing f g h =
-      omega (arith, nothing (λ i. f (suc i)) (λ i. g (suc i)) (λ i. h (suc i)), rearranged (f 0) (g 0) m n (h 0 other) le)
+      omega (
+        arith,
+        nothing (λ i. f (suc i)) (λ i. g (suc i)) (λ i. h (suc i)),
+        rearranged (f 0) (g 0) m n (h 0 other) le,
+      )
 
 -- a wanted unit is left, or none is
 pub unit-or-none : (wanted : ℕ → Bool) {u v : List ℕ} → u ≼ v → UnitLeft wanted u v ⊎ NoneLeft wanted u v
 unit-or-none wanted none = inr (λ f g h. le-refl 0)
-unit-or-none wanted (place {m = m} {n = n} {u = u} {v = v} le below) = by-rest (unit-or-none (λ i. wanted (suc i)) below)
+unit-or-none wanted (place {m = m} {n = n} {u = u} {v = v} le below) =
+    by-rest (unit-or-none (λ i. wanted (suc i)) below)
   where
-    by-first : (b : Bool) → wanted 0 ≡ b → Dec (m < n) → NoneLeft (λ i. wanted (suc i)) u v → UnitLeft wanted (m ∷ u) (n ∷ v) ⊎ NoneLeft wanted (m ∷ u) (n ∷ v)
+    by-first : (b : Bool) → wanted 0 ≡ b → Dec (m < n) → NoneLeft (λ i. wanted (suc i)) u v
+        → UnitLeft wanted (m ∷ u) (n ∷ v) ⊎ NoneLeft wanted (m ∷ u) (n ∷ v)
     by-first false e d nothing = inr (none-here wanted le below (inr e) nothing)
     by-first true e (yes less) nothing = inl (unit-here wanted le below less e)
-    by-first true e (no not-less) nothing = inr (none-here wanted le below (inl (let h : m ≡ n = omega arith in h)) nothing)
+    by-first true e (no not-less) nothing =
+        inr (none-here wanted le below (inl (let h : m ≡ n = omega arith in h)) nothing)
 
-    by-rest : UnitLeft (λ i. wanted (suc i)) u v ⊎ NoneLeft (λ i. wanted (suc i)) u v → UnitLeft wanted (m ∷ u) (n ∷ v) ⊎ NoneLeft wanted (m ∷ u) (n ∷ v)
+    by-rest : UnitLeft (λ i. wanted (suc i)) u v ⊎ NoneLeft (λ i. wanted (suc i)) u v
+        → UnitLeft wanted (m ∷ u) (n ∷ v) ⊎ NoneLeft wanted (m ∷ u) (n ∷ v)
     by-rest (inl unit) = inl (unit-later wanted le below unit)
     by-rest (inr nothing) = by-first (wanted 0) refl (decLt m n) nothing

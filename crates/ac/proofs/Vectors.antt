@@ -35,7 +35,8 @@ sum-mono (place h below) = omega (arith, sum-mono below)
 pub ≼-equal : {u v : List ℕ} → u ≼ v → sum v ≤ sum u → u ≡ v
 ≼-equal none le = refl
 ≼-equal (place {m = m} {n = n} {u = u} {v = v} h below) le =
-    ap₂ {C = List ℕ} (λ a w. a ∷ w) (let e : m ≡ n = omega (arith, sum-mono below) in e) (≼-equal below (let h′ : sum v ≤ sum u = omega arith in h′))
+    ap₂ {C = List ℕ} (λ a w. a ∷ w) (let e : m ≡ n = omega (arith, sum-mono below) in e)
+    (≼-equal below (let h′ : sum v ≤ sum u = omega arith in h′))
 
 -- at or below, entry by entry
 pub ≼-entry : {u v : List ℕ} → u ≼ v → (i : ℕ) → getD u i 0 ≤ getD v i 0
@@ -48,7 +49,8 @@ pub ≼-entries : (u v : List ℕ) → length u ≡ length v → ((i : ℕ) → 
 ≼-entries [] [] same each = none
 ≼-entries [] (n ∷ v) same each = absurd (omega arith)
 ≼-entries (m ∷ u) [] same each = absurd (omega arith)
-≼-entries (m ∷ u) (n ∷ v) same each = place (each 0 (omega arith)) (≼-entries u v (omega arith) (λ i h. each (suc i) (omega arith)))
+≼-entries (m ∷ u) (n ∷ v) same each =
+    place (each 0 (omega arith)) (≼-entries u v (omega arith) (λ i h. each (suc i) (omega arith)))
 
 -- what is least for one property is least for another that holds of the same vectors
 pub least-same : {Has Has′ : List ℕ → Type 0} {v : List ℕ}
@@ -72,8 +74,10 @@ decide-≼ (m ∷ u) (n ∷ v) = both (decLe m n) (decide-≼ u v)
     both (no not) d = no (λ p. not (≼-place p .0))
 
 -- A vector with the property, below which no smaller one has it, is least.
-pub least-unless : {Has : List ℕ → Type 0} {v : List ℕ} → Has v → ((u : List ℕ) → u ≼ v → sum u < sum v → Has u → ⊥) → Least Has v
-least-unless {Has} {v} has smaller = record { has = has; no-other = λ u below h. by-sum u below h (decLe (sum v) (sum u)) }
+pub least-unless : {Has : List ℕ → Type 0} {v : List ℕ} → Has v
+    → ((u : List ℕ) → u ≼ v → sum u < sum v → Has u → ⊥) → Least Has v
+least-unless {Has} {v} has smaller =
+    record { has = has; no-other = λ u below h. by-sum u below h (decLe (sum v) (sum u)) }
   where
     by-sum : (u : List ℕ) → u ≼ v → Has u → Dec (sum v ≤ sum u) → u ≡ v
     by-sum u below h (yes le) = ≼-equal below le
@@ -121,6 +125,7 @@ rest-of (place {m = m} {n = n} {u = u} {v = v} h below) = with-rest (rest-of bel
         entry (suc i) = r .entries i
 
 -- a list that is exactly the rows of one kind is exactly those of another kind that has the same members
-pub exactly-same : {Row Row′ : List ℕ → Type 0} {rows : List (List ℕ)} → ((v : List ℕ) → Row v ↔ Row′ v) → Exactly Row rows → Exactly Row′ rows
+pub exactly-same : {Row Row′ : List ℕ → Type 0} {rows : List (List ℕ)} → ((v : List ℕ) → Row v ↔ Row′ v)
+    → Exactly Row rows → Exactly Row′ rows
 exactly-same same e =
     record { ascending = e .ascending; only = λ v m. same v .0 (e .only v m); all = λ v r. e .all v (same v .1 r) }

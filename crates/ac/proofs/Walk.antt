@@ -1,8 +1,10 @@
 -- A walk up to a smallest solution that meets no difference twice: the reason for Huet's and Lambert's bounds.
 --
--- p and n are the coefficients of the two sides. A unit at a place is up if n ≤ p there, else down. A smallest solution v of weighted p v = weighted n v
--- is built up from 0, one unit at a time: an up unit while the difference of the two sums is at most 0, a down unit while it is above. The difference
--- then stays within the largest coefficients, and no difference is met twice: between two meetings a smaller solution would have been taken.
+-- p and n are the coefficients of the two sides. A unit at a place is up if n ≤ p there, else down. A
+-- smallest solution v of weighted p v = weighted n v is built up from 0, one unit at a time: an up unit while
+-- the difference of the two sums is at most 0, a down unit while it is above. The difference then stays
+-- within the largest coefficients, and no difference is met twice: between two meetings a smaller solution
+-- would have been taken.
 use Prim.Native.Nat.{ℕ, zero, suc, _+_, _-_, _≤_, _<_}
 use native.Mathlib.Omega.{arith}
 use native.Mathlib.Nat.{le-refl}
@@ -21,7 +23,8 @@ use Rattle.ac.proofs.Vectors.{≼-trans, ≼-equal, sum-mono, Rest, res
 use Rattle.ac.proofs.Units.{weighted-suc, weighted-zero, Zero, zero-below, UnitLeft, longer, NoneLeft, unit-or-none}
 use Rattle.ac.proofs.Pigeonhole.{Distinct, Distinct.none, Distinct.also, pigeonhole}
 
--- The starts of the steps of one kind: the differences, from `first` on, of q over r at vectors passed on the way to u, no two equal.
+-- The starts of the steps of one kind: the differences, from `first` on, of q over r at vectors passed on the
+-- way to u, no two equal.
 module _ (q r : ℕ → ℕ) (first limit : ℕ) where
   record Met (u : List ℕ) (s : ℕ) : Type 0 where
     vector : List ℕ
@@ -48,12 +51,23 @@ module _ (q r : ℕ → ℕ) (first limit : ℕ) where
 
   met-later : {u u′ : List ℕ} {s : ℕ} → u ≼ u′ → Met u s → Met u′ s
   met-later le m =
-      record { vector = m .vector; below = ≼-trans (m .below) le; earlier = omega (arith, m .earlier, sum-mono le); there = m .there }
+      record {
+        vector = m .vector;
+        below = ≼-trans (m .below) le;
+        earlier = omega (arith, m .earlier, sum-mono le);
+        there = m .there;
+      }
 
   starts-later : {u u′ : List ℕ} {many : ℕ} → u ≼ u′ → Starts u many → Starts u′ many
   starts-later le st =
-      record
-      { starts = st .starts; as-many = st .as-many; distinct = st .distinct; within = st .within; met = λ s m. met-later le (st .met s m) }
+      record {
+        starts = st .starts;
+        as-many = st .as-many;
+        distinct = st .distinct;
+        within = st .within;
+        met = λ s m.
+            met-later le (st .met s m);
+      }
 
   -- the same starts, with their number told another way
   recounted : {u : List ℕ} {many many′ : ℕ} → many ≡ many′ → Starts u many → Starts u many′
@@ -62,23 +76,28 @@ module _ (q r : ℕ → ℕ) (first limit : ℕ) where
   at-most : {u : List ℕ} {many : ℕ} → Starts u many → many ≤ limit
   at-most st = omega (arith, st .as-many, pigeonhole limit (st .distinct) (st .within))
 
-  module _ {v : List ℕ} (no-smaller : (d : List ℕ) → d ≼ v → weighted q d ≡ weighted r d → 0 < sum d → sum v ≤ sum d) where
+  module _ {v : List ℕ} (no-smaller : (d : List ℕ) → d ≼ v → weighted q d ≡ weighted r d → 0 < sum d
+      → sum v ≤ sum d) where
     -- a difference that was met is not met again before the end
-    not-again : {u : List ℕ} {s : ℕ} → u ≼ v → sum u < sum v → weighted q u ≡ weighted r u + (first + s) → Met u s → ⊥
+    not-again : {u : List ℕ} {s : ℕ} → u ≼ v → sum u < sum v → weighted q u ≡ weighted r u + (first + s)
+        → Met u s → ⊥
     not-again {u} below unfinished here m =
         let d : Rest (m .vector) u = rest-of (m .below) in
-        let equal : weighted q (d .rest) ≡ weighted r (d .rest) = omega (arith, here, m .there, d .products q, d .products r) in
+        let equal : weighted q (d .rest) ≡ weighted r (d .rest) =
+        omega (arith, here, m .there, d .products q, d .products r) in
         let positive : 0 < sum (d .rest) = omega (arith, d .sums, m .earlier) in
         omega (arith, no-smaller (d .rest) (≼-trans (d .below) below) equal positive, sum-mono (d .below))
 
     -- a unit is taken at a difference that is within the limits, and not met before
     one-start-more : {wanted : ℕ → Bool} {u : List ℕ} {many : ℕ} (unit : UnitLeft wanted u v) → u ≼ v
-        → weighted r u + first ≤ weighted q u → weighted q u < weighted r u + (first + limit) → Starts u many → Starts (unit .next) (suc many)
+        → weighted r u + first ≤ weighted q u → weighted q u < weighted r u + (first + limit) → Starts u many
+        → Starts (unit .next) (suc many)
     one-start-more {wanted} {u} {many} unit below low high st =
         record {
           starts = s ∷ st .starts;
           as-many = omega (arith, st .as-many);
-          distinct = also (λ m. not-again below (omega (arith, longer unit, sum-mono (unit .below))) there (st .met s m)) (st .distinct);
+          distinct = also (λ m. not-again below (omega (arith, longer unit, sum-mono (unit .below))) there
+              (st .met s m)) (st .distinct);
           within = within-more;
           met = met-more;
         }
@@ -94,7 +113,8 @@ module _ (q r : ℕ → ℕ) (first limit : ℕ) where
         within-more t (List·Memᴰ·tail m) = st .within t m
 
         met-more : (t : ℕ) → List·Memᴰ t (s ∷ st .starts) → Met (unit .next) t
-        met-more t (List·Memᴰ·head e) = record { vector = u; below = unit .above; earlier = omega (arith, longer unit); there = omega (arith, there) }
+        met-more t (List·Memᴰ·head e) = record
+            { vector = u; below = unit .above; earlier = omega (arith, longer unit); there = omega (arith, there) }
         met-more t (List·Memᴰ·tail m) = met-later (unit .above) (st .met t m)
 
 -- v solves weighted p v = weighted n v, and nothing that does, below it and not all zero, is smaller
@@ -117,7 +137,8 @@ module _ (p n : ℕ → ℕ) (v : List ℕ) (smallest : Smallest p n v) (B C : �
   begin : Walked 0
   begin =
       let z : Zero v = zero-below v in
-      let zero-by : (f : ℕ → ℕ) → 0 ≡ weighted f (z .zeros) = λ f. sym (weighted-zero f (z .zeros) (let h : sum (z .zeros) ≤ 0 = omega (arith, z .empty) in h)) in
+      let zero-by : (f : ℕ → ℕ) → 0 ≡ weighted f (z .zeros) =
+      λ f. sym (weighted-zero f (z .zeros) (let h : sum (z .zeros) ≤ 0 = omega (arith, z .empty) in h)) in
       record {
         vector = z .zeros;
         below = z .below;
@@ -138,9 +159,16 @@ module _ (p n : ℕ → ℕ) (v : List ℕ) (smallest : Smallest p n v) (B C : �
           vector = unit .next;
           below = unit .below;
           size = omega (arith, longer unit, w .size);
-          low = omega (arith, unit .adds p, unit .adds n, leb-true (n (unit .at)) (p (unit .at)) (unit .is-wanted), w .low);
+          low = omega (
+            arith,
+            unit .adds p,
+            unit .adds n,
+            leb-true (n (unit .at)) (p (unit .at)) (unit .is-wanted),
+            w .low,
+          );
           high = omega (arith, unit .adds p, unit .adds n, bounded (unit .at) .0);
-          ups = recounted n p 0 C one-more (one-start-more n p 0 C reversed unit (w .below) (omega arith) (omega (arith, w .low)) (w .ups));
+          ups = recounted n p 0 C one-more (one-start-more n p 0 C reversed unit (w .below) (omega arith)
+              (omega (arith, w .low)) (w .ups));
           downs = recounted p n 1 B as-many (starts-later p n 1 B (unit .above) (w .downs));
         }
       where
@@ -160,11 +188,18 @@ module _ (p n : ℕ → ℕ) (v : List ℕ) (smallest : Smallest p n v) (B C : �
           below = unit .below;
           size = omega (arith, longer unit, w .size);
           low = omega (arith, unit .adds p, unit .adds n, bounded (unit .at) .1);
-          high = omega (arith, unit .adds p, unit .adds n, leb-false (n (unit .at)) (p (unit .at)) is-down, w .high);
+          high = omega (
+            arith,
+            unit .adds p,
+            unit .adds n,
+            leb-false (n (unit .at)) (p (unit .at)) is-down,
+            w .high,
+          );
           ups = recounted n p 0 C as-many (starts-later n p 0 C (unit .above) (w .ups));
           downs =
               recounted p n 1 B one-more
-              (one-start-more p n 1 B (smallest .no-smaller) unit (w .below) (omega arith) (omega (arith, w .high)) (w .downs));
+              (one-start-more p n 1 B (smallest .no-smaller) unit (w .below) (omega arith)
+              (omega (arith, w .high)) (w .downs));
         }
       where
         is-down : isUp p n (unit .at) ≡ false
@@ -177,7 +212,8 @@ module _ (p n : ℕ → ℕ) (v : List ℕ) (smallest : Smallest p n v) (B C : �
         as-many = omega (arith, unit .adds (up p n), ap (λ b. cond {A = ℕ} b 1 0) is-down)
 
     -- while the difference is at most 0, an up unit is left: otherwise nothing is
-    take-up : weighted p here ≤ weighted n here → UnitLeft (isUp p n) here v ⊎ NoneLeft (isUp p n) here v → Walked (suc k)
+    take-up : weighted p here ≤ weighted n here → UnitLeft (isUp p n) here v ⊎ NoneLeft (isUp p n) here v
+        → Walked (suc k)
     take-up low (inl unit) = step-up low unit
     take-up low (inr nothing) =
         absurd
@@ -186,7 +222,8 @@ module _ (p n : ℕ → ℕ) (v : List ℕ) (smallest : Smallest p n v) (B C : �
         omega (arith, weighted-suc p here, weighted-suc p v, smallest .equal, w .size))
 
     -- while it is above 0, a down unit is left: otherwise it would stay above
-    take-down : weighted n here < weighted p here → UnitLeft (λ i. not (isUp p n i)) here v ⊎ NoneLeft (λ i. not (isUp p n i)) here v → Walked (suc k)
+    take-down : weighted n here < weighted p here
+        → UnitLeft (λ i. not (isUp p n i)) here v ⊎ NoneLeft (λ i. not (isUp p n i)) here v → Walked (suc k)
     take-down high (inl unit) = step-down high unit
     take-down high (inr nothing) =
         absurd
@@ -209,5 +246,7 @@ module _ (p n : ℕ → ℕ) (v : List ℕ) (smallest : Smallest p n v) (B C : �
   pub lambert : (weighted (up p n) v ≤ C) × (weighted (down p n) v ≤ B)
   lambert =
       let w : Walked (sum v) = walk (sum v) (le-refl (sum v)) in
-      let all : w .vector ≡ v = ≼-equal (w .below) (let h : sum v ≤ sum (w .vector) = omega (arith, w .size) in h) in
-      subst (λ x. (weighted (up p n) x ≤ C) × (weighted (down p n) x ≤ B)) all (at-most n p 0 C (w .ups), at-most p n 1 B (w .downs))
+      let all : w .vector ≡ v =
+      ≼-equal (w .below) (let h : sum v ≤ sum (w .vector) = omega (arith, w .size) in h) in
+      subst (λ x. (weighted (up p n) x ≤ C) × (weighted (down p n) x ≤ B)) all
+      (at-most n p 0 C (w .ups), at-most p n 1 B (w .downs))

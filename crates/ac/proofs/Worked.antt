@@ -1,4 +1,5 @@
--- Pairs 1 to 12 of document 01: one test, computed over the table, and the law that turns it into what the document prints of each pair.
+-- Pairs 1 to 12 of document 01: one test, computed over the table, and the law that turns it into what the
+-- document prints of each pair.
 use Prim.Native.Nat.{ℕ}
 use mathlib.Core.Path.{_≡_, refl, subst}
 use mathlib.Core.Bool.{Bool, true, false, _&&_, _||_, false≢true}
@@ -20,7 +21,11 @@ abbrev equalBindings : Binding → Binding → Bool
 equalBindings a b = eqb (a .variable) (b .variable) && equalLists eqb (a .value) (b .value)
 
 bindings-equal : Tests equalBindings
-bindings-equal a b e = λ i. record { variable = eqb-true (a .variable) (b .variable) (t .0) i; value = lists-equal eqb-true (a .value) (b .value) (t .1) i }
+bindings-equal a b e = λ i. record {
+  variable = eqb-true (a .variable) (b .variable) (t .0) i;
+  value =
+      lists-equal eqb-true (a .value) (b .value) (t .1) i;
+}
   where
     t : (eqb (a .variable) (b .variable) ≡ true) × (equalLists eqb (a .value) (b .value) ≡ true)
     t = both (eqb (a .variable) (b .variable)) (equalLists eqb (a .value) (b .value)) e
@@ -45,11 +50,14 @@ testPair pair = every (test (pair .left) (pair .right) (groups unifying (pair .l
 all-pass : every testPair pairs ≡ true
 all-pass = refl
 
-has-rows : (a k : ℕ) (gs : List Group) → hasRows a k gs ≡ true → (g : Group) × List·Memᴰ g gs × (g .constant ≡ a) × (length (g .rows) ≡ k)
+has-rows : (a k : ℕ) (gs : List Group) → hasRows a k gs ≡ true
+    → (g : Group) × List·Memᴰ g gs × (g .constant ≡ a) × (length (g .rows) ≡ k)
 has-rows a k [] e = absurd (false≢true e)
-has-rows a k (g ∷ gs) e = by-first (eqb (g .constant) a && eqb (length (g .rows)) k) refl e (λ later. has-rows a k gs later)
+has-rows a k (g ∷ gs) e =
+    by-first (eqb (g .constant) a && eqb (length (g .rows)) k) refl e (λ later. has-rows a k gs later)
   where
-    by-first : (here : Bool) → eqb (g .constant) a && eqb (length (g .rows)) k ≡ here → here || hasRows a k gs ≡ true
+    by-first : (here : Bool) → eqb (g .constant) a && eqb (length (g .rows)) k ≡ here
+        → here || hasRows a k gs ≡ true
         → (hasRows a k gs ≡ true → (h : Group) × List·Memᴰ h gs × (h .constant ≡ a) × (length (h .rows) ≡ k))
         → (h : Group) × List·Memᴰ h (g ∷ gs) × (h .constant ≡ a) × (length (h .rows) ≡ k)
     by-first true e e′ later =
@@ -71,4 +79,5 @@ worked-pairs pair member G groups-of what printed =
     subst (λ (H : Groups). Holds (pair .left) (pair .right) H what)
     (groups-unique unifying (pair .left) (pair .right) (groups-exist unifying (pair .left) (pair .right)) groups-of)
     (test-holds (pair .left) (pair .right) (groups unifying (pair .left) (pair .right)) what
-    (every-member (test (pair .left) (pair .right) (groups unifying (pair .left) (pair .right))) (every-member testPair all-pass member) printed))
+    (every-member (test (pair .left) (pair .right) (groups unifying (pair .left) (pair .right)))
+    (every-member testPair all-pass member) printed))

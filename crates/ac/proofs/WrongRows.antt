@@ -1,4 +1,5 @@
--- Document 01's plausible errors on rows, each as a wrong definition whose rows differ in number from the right ones at a small pair.
+-- Document 01's plausible errors on rows, each as a wrong definition whose rows differ in number from the
+-- right ones at a small pair.
 use Prim.Native.Nat.{ℕ, _+_, max}
 use native.Mathlib.Omega.{arith}
 use mathlib.Core.Path.{ap}
@@ -15,13 +16,15 @@ use Rattle.ac.specs.Search.{lower, leastOf, candidates, minimalSolutions
 -- "Bounding a variable by the counts on its own side. The other side sets it: see pair 6."
 abbrev withinOwnSide : List ℕ → List ℕ → List ℕ → Bool
 withinOwnSide left right [] = true
-withinOwnSide left right (n ∷ v) = leb n (max (getD left 0 0) (getD right 0 0)) && withinOwnSide (drop 1 left) (drop 1 right) v
+withinOwnSide left right (n ∷ v) =
+    leb n (max (getD left 0 0) (getD right 0 0)) && withinOwnSide (drop 1 left) (drop 1 right) v
 
 abbrev boundedByOwnSide : Equation → List (List ℕ)
 boundedByOwnSide E = leastOf (filter (withinOwnSide (E .left) (E .right)) (candidates E))
 
 -- pair 6, v0+v0+v0 and v1+v1: the row 23 is missed
-pub own-side-differs : boundedByOwnSide (balancedEquation unifying (0 ∷ 0 ∷ 0 ∷ []) (1 ∷ 1 ∷ [])) ≢ groups unifying (0 ∷ 0 ∷ 0 ∷ []) (1 ∷ 1 ∷ []) .balanced
+pub own-side-differs : boundedByOwnSide (balancedEquation unifying (0 ∷ 0 ∷ 0 ∷ []) (1 ∷ 1 ∷ [])) ≢ groups
+    unifying (0 ∷ 0 ∷ 0 ∷ []) (1 ∷ 1 ∷ []) .balanced
 own-side-differs e = omega (arith, ap length e)
 
 -- "Dropping a variable whose net count is 0; it needs its own new variable."
@@ -33,16 +36,19 @@ droppingEquation M L R =
     equation (map (λ x. count x L) (unevenVariables M L R)) (map (λ x. count x R) (unevenVariables M L R)) 0 0 true
 
 -- pair 7, v0 and v0: the row 1 is missed
-pub dropping-differs : minimalSolutions (droppingEquation unifying (0 ∷ []) (0 ∷ [])) ≢ groups unifying (0 ∷ []) (0 ∷ []) .balanced
+pub dropping-differs : minimalSolutions (droppingEquation unifying (0 ∷ []) (0 ∷ [])) ≢ groups unifying
+    (0 ∷ []) (0 ∷ []) .balanced
 dropping-differs e = omega (arith, ap length e)
 
 -- "Mixing two constants in one row": one equation for all unbalanced constants together.
 abbrev mixedEquation : Mode → List ℕ → List ℕ → Equation
 mixedEquation M L R =
-    equation (onLeft M L R) (onRight M L R) (sum (map (λ c. count c L) (unbalanced M L R))) (sum (map (λ c. count c R) (unbalanced M L R))) false
+    equation (onLeft M L R) (onRight M L R) (sum (map (λ c. count c L) (unbalanced M L R)))
+    (sum (map (λ c. count c R) (unbalanced M L R))) false
 
 -- pair 12, v0+v1 and c0+c1: the rows 02, 11, 20, where each constant has 01 and 10
-pub mixing-differs : minimalSolutions (mixedEquation unifying (0 ∷ 1 ∷ []) (64 ∷ 65 ∷ [])) ≢ minimalSolutions (equationOf unifying (0 ∷ 1 ∷ []) (64 ∷ 65 ∷ []) 64)
+pub mixing-differs : minimalSolutions (mixedEquation unifying (0 ∷ 1 ∷ []) (64 ∷ 65 ∷ [])) ≢ minimalSolutions
+    (equationOf unifying (0 ∷ 1 ∷ []) (64 ∷ 65 ∷ []) 64)
 mixing-differs e = omega (arith, ap length e)
 
 -- "leaving out rows that are the half sum of two others, as 111 in pair 3"
@@ -58,7 +64,8 @@ abbrev withoutHalfSums : List (List ℕ) → List (List ℕ)
 withoutHalfSums rows = filter (λ v. not (some (λ u. not (lower u v) && some (λ w. isHalfSum v u w) rows) rows)) rows
 
 -- pair 3, v0+v0 and v1+v2: the row 111 is left out
-pub half-sums-differ : withoutHalfSums (groups unifying (0 ∷ 0 ∷ []) (1 ∷ 2 ∷ []) .balanced) ≢ groups unifying (0 ∷ 0 ∷ []) (1 ∷ 2 ∷ []) .balanced
+pub half-sums-differ : withoutHalfSums (groups unifying (0 ∷ 0 ∷ []) (1 ∷ 2 ∷ []) .balanced) ≢ groups unifying
+    (0 ∷ 0 ∷ []) (1 ∷ 2 ∷ []) .balanced
 half-sums-differ e = omega (arith, ap length e)
 
 -- "Comparing a new vector only with the row found last. Any row found before may be the lower one."
@@ -75,5 +82,6 @@ abbrev comparedWithLast : Equation → List (List ℕ)
 comparedWithLast E = keptByLast [] (candidates E)
 
 -- v0+v0 and v1+v2+v2: 202 is kept after 101 and 120, since only 120 is looked at
-pub last-only-differs : comparedWithLast (balancedEquation unifying (0 ∷ 0 ∷ []) (1 ∷ 2 ∷ 2 ∷ [])) ≢ groups unifying (0 ∷ 0 ∷ []) (1 ∷ 2 ∷ 2 ∷ []) .balanced
+pub last-only-differs : comparedWithLast (balancedEquation unifying (0 ∷ 0 ∷ []) (1 ∷ 2 ∷ 2 ∷ [])) ≢ groups
+    unifying (0 ∷ 0 ∷ []) (1 ∷ 2 ∷ 2 ∷ []) .balanced
 last-only-differs e = omega (arith, ap length e)

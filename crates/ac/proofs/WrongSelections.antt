@@ -1,4 +1,5 @@
--- Document 01's plausible errors on selections, each as a wrong definition that lists other keys than the right one at a pair worked by hand.
+-- Document 01's plausible errors on selections, each as a wrong definition that lists other keys than the
+-- right one at a pair worked by hand.
 use Prim.Native.Nat.{ℕ}
 use mathlib.Core.Path.{_≡_, refl}
 use mathlib.Core.Bool.{Bool, true, false, _&&_, _||_}
@@ -38,28 +39,35 @@ abbrev anySelection : Selection → Bool
 anySelection s = true
 
 -- pair 9, v0 and v0+v1: nothing is listed, though there is a balanced row
-pub any-selection-differs : (listedKeys (0 ∷ []) (0 ∷ 1 ∷ []) ≡ []) × (keysThat (0 ∷ []) (0 ∷ 1 ∷ []) anySelection ≡ 0 ∷ 1 ∷ [])
+pub any-selection-differs : (listedKeys (0 ∷ []) (0 ∷ 1 ∷ []) ≡ [])
+    × (keysThat (0 ∷ []) (0 ∷ 1 ∷ []) anySelection ≡ 0 ∷ 1 ∷ [])
 any-selection-differs = (refl, refl)
 
 -- with that row taken v1 is empty, so the values do not unify
-pub any-selection-unsound : Unifies unifying (0 ∷ []) (0 ∷ 1 ∷ []) (valuesWith (0 ∷ []) (0 ∷ 1 ∷ []) (true ∷ [])) → ⊥
-any-selection-unsound unifies = let h = unifies .non-empty 1 (List·Memᴰ·tail (List·Memᴰ·head refl)) refl in omega arith
+pub any-selection-unsound : Unifies unifying (0 ∷ []) (0 ∷ 1 ∷ [])
+    (valuesWith (0 ∷ []) (0 ∷ 1 ∷ []) (true ∷ [])) → ⊥
+any-selection-unsound unifies = let h =
+    unifies .non-empty 1 (List·Memᴰ·tail (List·Memᴰ·head refl)) refl in omega arith
 
--- "Dropping a variable whose net count is 0; it needs its own new variable": only the variables of another net count have to be reached.
+-- "Dropping a variable whose net count is 0; it needs its own new variable": only the variables of another
+-- net count have to be reached.
 module _ (L R : List ℕ) (s : Selection) where
   abbrev unevenReached : List ℕ → Bool
   unevenReached [] = true
   unevenReached (x ∷ xs) =
-      (eqb (count x L) (count x R) || reached (taken (layout .new) (groups unifying L R) s) (placeOf x (variables unifying L R))) && unevenReached xs
+      (eqb (count x L) (count x R) || reached (taken (layout .new) (groups unifying L R) s)
+      (placeOf x (variables unifying L R))) && unevenReached xs
 
   abbrev droppingEven : Bool
   droppingEven = unevenReached (variables unifying L R)
 
 -- pair 7, v0 and v0: one, key 1
-pub dropping-even-differs : (listedKeys (0 ∷ []) (0 ∷ []) ≡ 1 ∷ []) × (keysThat (0 ∷ []) (0 ∷ []) (droppingEven (0 ∷ []) (0 ∷ [])) ≡ 0 ∷ 1 ∷ [])
+pub dropping-even-differs : (listedKeys (0 ∷ []) (0 ∷ []) ≡ 1 ∷ [])
+    × (keysThat (0 ∷ []) (0 ∷ []) (droppingEven (0 ∷ []) (0 ∷ [])) ≡ 0 ∷ 1 ∷ [])
 dropping-even-differs = (refl, refl)
 
--- with no row taken v0 has no new variable and stays without a value, so the values do not unify; with its row it is n0
+-- with no row taken v0 has no new variable and stays without a value, so the values do not unify; with its
+-- row it is n0
 pub dropping-even-unsound : (Unifies unifying (0 ∷ []) (0 ∷ []) (valuesWith (0 ∷ []) (0 ∷ []) (false ∷ [])) → ⊥)
     × (valuesWith (0 ∷ []) (0 ∷ []) (true ∷ []) 0 ≡ 192 ∷ [])
 dropping-even-unsound = (λ unifies. let h = unifies .non-empty 0 (List·Memᴰ·head refl) refl in omega arith, refl)

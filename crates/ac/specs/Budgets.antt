@@ -1,5 +1,6 @@
--- The two budgets of a row. Document 01, "From sides to equations": "How far the search must go is the team's to prove; Huet's bound of 1978 on minimal
--- solutions is the public starting point." Lambert's bound of 1987 is on the two sums that stand here; `proofs/Bound.antt` proves it.
+-- The two budgets of a row. Document 01, "From sides to equations": "How far the search must go is the team's
+-- to prove; Huet's bound of 1978 on minimal solutions is the public starting point." Lambert's bound of 1987
+-- is on the two sums that stand here; `proofs/Bound.antt` proves it.
 use Prim.Native.Nat.{ℕ, _+_, _≤_}
 use mathlib.Core.Bool.{Bool, cond}
 use mathlib.Core.List.{List}
@@ -27,9 +28,11 @@ module _ (left right v : List ℕ) where
   abbrev pub downSum : ℕ
   downSum = weighted (down (coefficient left) (coefficient right)) v
 
--- Budgets that are enough: up is at least 1 and at least each right beyond left, down at least each left beyond right, the offsets among them.
+-- Budgets that are enough: up is at least 1 and at least each right beyond left, down at least each left
+-- beyond right, the offsets among them.
 pub record Enough (E : Equation) (up down : ℕ) : Type 0 where
   pub some : 1 ≤ up
   pub places : (i : ℕ)
-      → (coefficient (E .left) i ≤ coefficient (E .right) i + down) × (coefficient (E .right) i ≤ coefficient (E .left) i + up)
+      → (coefficient (E .left) i ≤ coefficient (E .right) i + down)
+      × (coefficient (E .right) i ≤ coefficient (E .left) i + up)
   pub offsets : (E .left-offset ≤ E .right-offset + down) × (E .right-offset ≤ E .left-offset + up)

@@ -1,5 +1,5 @@
--- The working form in ℕ of the weights of document 01, "From sides to equations": a weight is 0, or minus a constant's net count, exactly when two sums
--- of naturals agree. `proofs/Bridge.antt` proves it.
+-- The working form in ℕ of the weights of document 01, "From sides to equations": a weight is 0, or minus a
+-- constant's net count, exactly when two sums of naturals agree. `proofs/Bridge.antt` proves it.
 use Prim.Native.Nat.{ℕ, suc, _+_, _*_, _-_, _<_}
 use mathlib.Core.Path.{_≡_}
 use mathlib.Core.Bool.{Bool, true, false}
@@ -15,7 +15,8 @@ dot [] v = 0
 dot (c ∷ cs) [] = 0
 dot (c ∷ cs) (n ∷ v) = c * n + dot cs v
 
--- the same with the coefficients as a function of the place: the sum of the entries, each times the coefficient of its place
+-- the same with the coefficients as a function of the place: the sum of the entries, each times the
+-- coefficient of its place
 abbrev pub weighted : (ℕ → ℕ) → List ℕ → ℕ
 weighted p [] = 0
 weighted p (x ∷ v) = p 0 * x + weighted (λ i. p (suc i)) v
@@ -35,7 +36,14 @@ pub record Equation : Type 0 where
 -- the equation of these coefficients and offsets
 abbrev pub equation : List ℕ → List ℕ → ℕ → ℕ → Bool → Equation
 equation left right left-offset right-offset homogeneous =
-    record { left = left; right = right; left-offset = left-offset; right-offset = right-offset; homogeneous = homogeneous }
+    record {
+      left = left;
+      right = right;
+      left-offset = left-offset;
+      right-offset = right-offset;
+      homogeneous =
+          homogeneous;
+    }
 
 -- the vector solves the equation
 pub record Solves (E : Equation) (v : List ℕ) : Type 0 where

@@ -1,5 +1,5 @@
--- Unifiers in the words of source document 000 (Fages, RR-0287, sections 1.1, 1.2 and 3.1), where terms are trees. proofs/Fages.antt shows that
--- they are the replacements of flattened sides.
+-- Unifiers in the words of source document 000 (Fages, RR-0287, sections 1.1, 1.2 and 3.1), where terms are
+-- trees. proofs/Fages.antt shows that they are the replacements of flattened sides.
 use Prim.Native.Nat.{ℕ}
 use mathlib.Core.Path.{_≡_}
 use mathlib.Core.Bool.{Bool, false, cond, _||_}
@@ -20,7 +20,8 @@ abbrev pub apply : (ℕ → Bool) → Substitution → Term → Term
 apply variable σ (atom a) = cond (variable a) (σ a) (atom a)
 apply variable σ (plus s t) = plus (apply variable σ s) (apply variable σ t)
 
--- The equational theory of x + y = y + x and (x + y) + z = x + (y + z): the finest congruence that holds all their instances.
+-- The equational theory of x + y = y + x and (x + y) + z = x + (y + z): the finest congruence that holds all
+-- their instances.
 infix 4 _=AC_
 pub data _=AC_ : Term → Term → Type 0 where
   commutative : (s t : Term) → plus s t =AC plus t s
@@ -39,9 +40,11 @@ pub record MoreGeneral (variable : ℕ → Bool) (over : List ℕ) (σ σ′ : S
   pub η : Substitution
   pub instances : (x : ℕ) → List·Memᴰ x over → apply variable η (σ x) =AC σ′ x
 
--- The variables that η may move are those of terms and the new ones of answers. A unifier of a complete set is pure: its values hold no variable of
--- terms, but only new ones ("it is necessary to separate the variables introduced by unification from the variables of the context"). On such
--- values η does what it does to the new variables, so "comes from" fills those alone; `every-variable` of proofs/Fages.antt is the proof.
+-- The variables that η may move are those of terms and the new ones of answers. A unifier of a complete set
+-- is pure: its values hold no variable of terms, but only new ones ("it is necessary to separate the
+-- variables introduced by unification from the variables of the context"). On such values η does what it does
+-- to the new variables, so "comes from" fills those alone; `every-variable` of proofs/Fages.antt is the
+-- proof.
 abbrev pub anyVariable : Mode → ℕ → ℕ → Bool
 anyVariable M new a = M .moves a || isNew new a
 
@@ -53,16 +56,19 @@ Pure moves over σ = (x a : ℕ) → List·Memᴰ x over → List·Memᴰ a (fla
 abbrev pub variablesOf : Mode → Term → Term → List ℕ
 variablesOf M s t = variables M (flatten s) (flatten t)
 
--- A complete set of minimal unifiers of s and t away from W (section 1.2.2), where W is every variable of terms:
--- a) D(σ) ⊆ V and R(σ) ∩ W = ∅ (purity), b) each is a unifier (correctness), c) each unifier ρ has one that is more general over V
--- (completeness), d) none is more general over V than another (minimality), V being the variables of s and t.
+-- A complete set of minimal unifiers of s and t away from W (section 1.2.2), where W is every variable of
+-- terms: a) D(σ) ⊆ V and R(σ) ∩ W = ∅ (purity), b) each is a unifier (correctness), c) each unifier ρ has one
+-- that is more general over V (completeness), d) none is more general over V than another (minimality), V
+-- being the variables of s and t.
 pub record MinimalSet (M : Mode) (new : ℕ) (s t : Term) (unifiers : List Substitution) : Type 0 where
-  pub domain : (σ : Substitution) → List·Memᴰ σ unifiers → (x : ℕ) → (List·Memᴰ x (variablesOf M s t) → ⊥) → σ x ≡ atom x
+  pub domain : (σ : Substitution) → List·Memᴰ σ unifiers → (x : ℕ) → (List·Memᴰ x (variablesOf M s t) → ⊥)
+      → σ x ≡ atom x
   pub purity : (σ : Substitution) → List·Memᴰ σ unifiers → Pure (M .moves) (variablesOf M s t) σ
   pub correctness : (σ : Substitution) → List·Memᴰ σ unifiers → ACUnifier M s t σ
   pub completeness : (ρ : Substitution) → ACUnifier M s t ρ
       → (σ : Substitution) × List·Memᴰ σ unifiers × MoreGeneral (anyVariable M new) (variablesOf M s t) σ ρ
-  pub minimality : (σ σ′ : Substitution) → List·Memᴰ σ unifiers → List·Memᴰ σ′ unifiers → MoreGeneral (anyVariable M new) (variablesOf M s t) σ σ′
+  pub minimality : (σ σ′ : Substitution) → List·Memᴰ σ unifiers → List·Memᴰ σ′ unifiers
+      → MoreGeneral (anyVariable M new) (variablesOf M s t) σ σ′
       → σ ≡ σ′
 
 -- the term of an atom and others after it, leaning to the right

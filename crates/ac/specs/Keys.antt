@@ -10,7 +10,8 @@ use Rattle.ac.specs.Pair.{Mode}
 use Rattle.ac.specs.Rows.{Group, Groups}
 use Rattle.ac.specs.Selection.{Selection, SelectionOf, Within, admissible}
 
--- How a key is laid out, and which byte is the first new variable. `rows` is how many balanced rows the low part of a key holds.
+-- How a key is laid out, and which byte is the first new variable. `rows` is how many balanced rows the low
+-- part of a key holds.
 pub record Layout : Type 0 where
   pub constants : ℕ
   pub index-bits : ℕ
@@ -53,14 +54,18 @@ fieldsOf lay (suc k) (g ∷ gs) m = m / 2 ^ (lay .index-bits * k) % 2 ^ (lay .in
 -- a key taken apart
 abbrev pub selectionAt : Layout → Groups → ℕ → Selection
 selectionAt lay G key =
-    record { indexes = fieldsOf lay (lay .constants) (G .constants) (key / 2 ^ (lay .rows)); takes = bits (length (G .balanced)) key }
+    record {
+      indexes = fieldsOf lay (lay .constants) (G .constants) (key / 2 ^ (lay .rows));
+      takes = bits (length (G .balanced)) key;
+    }
 
 -- the field of a key that belongs to the constant at a place; the first constant's is the highest
 abbrev pub fieldAt : Layout → ℕ → ℕ → ℕ
-fieldAt lay key place = key / 2 ^ (lay .rows + lay .index-bits * (lay .constants - suc place)) % 2 ^ (lay .index-bits)
+fieldAt lay key place =
+    key / 2 ^ (lay .rows + lay .index-bits * (lay .constants - suc place)) % 2 ^ (lay .index-bits)
 
--- A candidate has row indexes within their groups and no bit beyond the balanced rows: each field below its group's size, the unused fields, which
--- are the lowest, 0, and nothing above the fields.
+-- A candidate has row indexes within their groups and no bit beyond the balanced rows: each field below its
+-- group's size, the unused fields, which are the lowest, 0, and nothing above the fields.
 pub record Candidate (lay : Layout) (G : Groups) (key : ℕ) : Type 0 where
   pub indexes-within : Within (G .constants) (selectionAt lay G key .indexes)
   pub unused-zero : key / 2 ^ (lay .rows) % 2 ^ (lay .index-bits * (lay .constants - length (G .constants))) ≡ 0
@@ -75,7 +80,8 @@ tuples (g ∷ gs) = flatMap (λ i. map (λ is. i ∷ is) (tuples gs)) (below (le
 -- every selection: for each tuple of indexes ascending the masks ascending
 abbrev pub selections : Groups → List Selection
 selections G =
-    flatMap (λ is. map (λ m. record { indexes = is; takes = bits (length (G .balanced)) m }) (below (2 ^ length (G .balanced)))) (tuples (G .constants))
+    flatMap (λ is. map (λ m. record { indexes = is; takes = bits (length (G .balanced)) m })
+    (below (2 ^ length (G .balanced)))) (tuples (G .constants))
 
 -- "The list is ascending by key": the admissible selections in that order.
 abbrev pub listed : Mode → Layout → List ℕ → List ℕ → Groups → List Selection
@@ -102,7 +108,8 @@ abbrev pub remaining : Begin → List ℕ → List ℕ
 remaining start ks = ks
 remaining (after k) ks = filter (ltb k) ks
 
--- the limits under which a key names one selection: as many fields as constants, each index in its field, a bit for each balanced row
+-- the limits under which a key names one selection: as many fields as constants, each index in its field, a
+-- bit for each balanced row
 pub record Fits (lay : Layout) (G : Groups) : Type 0 where
   pub few-constants : length (G .constants) ≤ lay .constants
   pub few-rows : (g : Group) → List·Memᴰ g (G .constants) → length (g .rows) ≤ 2 ^ (lay .index-bits)

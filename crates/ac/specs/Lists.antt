@@ -1,4 +1,5 @@
--- Words on lists that the definitions share; none is a notion of its own in document 01, but for a lent buffer that receives what is written.
+-- Words on lists that the definitions share; none is a notion of its own in document 01, but for a lent
+-- buffer that receives what is written.
 use Prim.Native.Nat.{ℕ, zero, suc, _+_}
 use mathlib.Core.Bool.{Bool, true, false, _&&_}
 use mathlib.Core.List.{List, [], _∷_, _++_, List·Memᴰ}
@@ -45,4 +46,5 @@ receives buffer written = written ++ drop (length written) buffer
 -- every member stands before all that follow it
 pub data Ascending {A : Type 0} (_before_ : A → A → Type 0) : List A → Type 0 where
   none : Ascending _before_ []
-  next : {a : A} {rest : List A} → ((b : A) → List·Memᴰ b rest → _before_ a b) → Ascending _before_ rest → Ascending _before_ (a ∷ rest)
+  next : {a : A} {rest : List A} → ((b : A) → List·Memᴰ b rest → _before_ a b) → Ascending _before_ rest
+      → Ascending _before_ (a ∷ rest)

@@ -6,7 +6,8 @@ use lib.Dec.{eqb, ltb}
 use lib.IntN.{ℤ, pos, _-ℤ_}
 use Rattle.ac.specs.Lists.{below, filter}
 
--- Which atoms are variables, and whether a variable may be replaced by nothing. Every other atom counts as a constant.
+-- Which atoms are variables, and whether a variable may be replaced by nothing. Every other atom counts as a
+-- constant.
 pub record Mode : Type 0 where
   pub moves : ℕ → Bool
   pub empties : Bool

@@ -1,4 +1,5 @@
--- Vectors, weights and rows (document 01, "From sides to equations"). Rows are minimal among all vectors; nothing here is bounded.
+-- Vectors, weights and rows (document 01, "From sides to equations"). Rows are minimal among all vectors;
+-- nothing here is bounded.
 use Prim.Native.Nat.{ℕ, zero, suc, _≤_, _<_}
 use mathlib.Core.Path.{_≡_}
 use mathlib.Core.List.{List, [], _∷_, map, List·Memᴰ}
@@ -45,12 +46,14 @@ module _ (M : Mode) (L R : List ℕ) where
   abbrev pub weight : List ℕ → ℤ
   weight = weigh (net L R) (variables M L R)
 
-  -- A balanced row is a vector, not all zero, of weight 0, such that no other vector, not all zero and of weight 0, is at or below it.
+  -- A balanced row is a vector, not all zero, of weight 0, such that no other vector, not all zero and of
+  -- weight 0, is at or below it.
   pub record BalancedRow (v : List ℕ) : Type 0 where
     pub vector : IsVector (variables M L R) v
     pub least : Least (λ u. (0 < sum u) × (weight u ≡ pos 0)) v
 
-  -- A row of a constant is a vector whose weight is minus the constant's net count, such that no other vector of that weight is at or below it.
+  -- A row of a constant is a vector whose weight is minus the constant's net count, such that no other vector
+  -- of that weight is at or below it.
   pub record RowOf (c : ℕ) (v : List ℕ) : Type 0 where
     pub vector : IsVector (variables M L R) v
     pub least : Least (λ u. weight u ≡ negℤ (net L R c)) v

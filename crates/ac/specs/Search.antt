@@ -1,6 +1,8 @@
--- A search for minimal solutions that computes: all vectors up to Huet's bound, those of them that solve, those that no other one is at or below.
--- It shows that every pair has its groups, and gives them where a pair is small. No contract speaks of it: the rows of document 01, "From sides to
--- equations", are minimal among all vectors, without a bound (`specs/Rows.antt`). `proofs/Search.antt` shows that the search finds exactly them.
+-- A search for minimal solutions that computes: all vectors up to Huet's bound, those of them that solve,
+-- those that no other one is at or below. It shows that every pair has its groups, and gives them where a
+-- pair is small. No contract speaks of it: the rows of document 01, "From sides to equations", are minimal
+-- among all vectors, without a bound (`specs/Rows.antt`). `proofs/Search.antt` shows that the search finds
+-- exactly them.
 use Prim.Native.Nat.{ℕ, zero, suc, _+_, max}
 use mathlib.Core.Bool.{Bool, true, false, not, _&&_, _||_}
 use mathlib.Core.List.{List, [], _∷_, map}
@@ -33,7 +35,8 @@ box (suc places) bound = flatMap (λ x. map (λ v. x ∷ v) (box places bound)) 
 
 -- whether a vector solves the equation
 abbrev pub solves : Equation → List ℕ → Bool
-solves E v = eqb (dot (E .left) v + E .left-offset) (dot (E .right) v + E .right-offset) && (not (E .homogeneous) || ltb 0 (sum v))
+solves E v = eqb (dot (E .left) v + E .left-offset) (dot (E .right) v + E .right-offset)
+    && (not (E .homogeneous) || ltb 0 (sum v))
 
 -- the largest of some numbers, 0 if there are none
 abbrev pub largest : List ℕ → ℕ
@@ -58,4 +61,7 @@ groupOf M L R c = record { constant = c; rows = minimalSolutions (equationOf M L
 
 -- the groups of a pair as they are found
 abbrev pub groups : Mode → List ℕ → List ℕ → Groups
-groups M L R = record { balanced = minimalSolutions (balancedEquation M L R); constants = map (groupOf M L R) (unbalanced M L R) }
+groups M L R = record {
+  balanced = minimalSolutions (balancedEquation M L R);
+  constants = map (groupOf M L R) (unbalanced M L R);
+}

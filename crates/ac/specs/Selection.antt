@@ -8,7 +8,8 @@ use lib.Dec.{ltb, eqb}
 use Rattle.ac.specs.Pair.{Mode, variables}
 use Rattle.ac.specs.Rows.{Group, Groups}
 
--- A selection takes one row for each unbalanced constant, by its index, and any set of balanced rows, by a truth value for each.
+-- A selection takes one row for each unbalanced constant, by its index, and any set of balanced rows, by a
+-- truth value for each.
 pub record Selection : Type 0 where
   pub indexes : List ℕ
   pub takes : List Bool
@@ -16,7 +17,8 @@ pub record Selection : Type 0 where
 -- an index for each constant, below the number of its rows
 pub data Within : List Group → List ℕ → Type 0 where
   none : Within [] []
-  index : {g : Group} {gs : List Group} {i : ℕ} {is : List ℕ} → i < length (g .rows) → Within gs is → Within (g ∷ gs) (i ∷ is)
+  index : {g : Group} {gs : List Group} {i : ℕ} {is : List ℕ} → i < length (g .rows) → Within gs is
+      → Within (g ∷ gs) (i ∷ is)
 
 -- the selection has a row for each constant of the groups and a truth value for each of their balanced rows
 pub record SelectionOf (G : Groups) (s : Selection) : Type 0 where
@@ -71,10 +73,15 @@ placeOf x [] = 0
 placeOf x (y ∷ ys) = elim (eqb x y) [ true ↦ 0 | false ↦ suc (placeOf x ys) ]
 
 module _ (M : Mode) (new : ℕ) (L R : List ℕ) (G : Groups) where
-  -- It is admissible if each variable is above 0 in at least one taken row; where a variable may be empty, if all balanced rows are taken.
+  -- It is admissible if each variable is above 0 in at least one taken row; where a variable may be empty, if
+  -- all balanced rows are taken.
   abbrev pub admissible : Selection → Bool
-  admissible s = elim (M .empties) [ true ↦ allTaken (s .takes) | false ↦ allReached (taken new G s) (length (variables M L R)) ]
+  admissible s = elim (M .empties) [
+    | true ↦ allTaken (s .takes)
+    | false ↦ allReached (taken new G s) (length (variables M L R))
+  ]
 
-  -- A variable's value: each unbalanced constant, ascending, as often as its taken row says; then n0, n1 and so on, each as often as that row says.
+  -- A variable's value: each unbalanced constant, ascending, as often as its taken row says; then n0, n1 and
+  -- so on, each as often as that row says.
   abbrev pub value : Selection → ℕ → List ℕ
   value s x = valueAt (taken new G s) (placeOf x (variables M L R))

@@ -1,4 +1,5 @@
--- The layout of Values (document 01, "The questions"): "for each variable ascending, its byte, a byte count and the atoms".
+-- The layout of Values (document 01, "The questions"): "for each variable ascending, its byte, a byte count
+-- and the atoms".
 use Prim.Native.Nat.{ℕ}
 use mathlib.Core.List.{List, [], _∷_, _++_}
 use lib.ListN.{length}

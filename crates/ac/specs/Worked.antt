@@ -9,7 +9,8 @@ use Rattle.ac.specs.Selection.{value}
 use Rattle.ac.specs.Keys.{layout, listed, keys}
 use Rattle.ac.specs.Values.{Binding, bindings}
 
--- 0 to 63 are variables v0 to v63, 64 to 127 are constants c0 to c63; in answers 192 to 207 are new variables n0 to n15.
+-- 0 to 63 are variables v0 to v63, 64 to 127 are constants c0 to c63; in answers 192 to 207 are new variables
+-- n0 to n15.
 
 -- the variable vi
 abbrev v : ℕ → ℕ
@@ -50,7 +51,11 @@ pub record Pair : Type 0 where
 abbrev pub pairs : List Pair
 pairs =
     -- 1. v0 and v1+c0: one, v0=c0+n0 v1=n0.
-    record { left = v 0 ∷ []; right = v 1 ∷ c 0 ∷ []; printed = substitutions (((v 0 is c 0 ∷ n 0 ∷ []) ∷ (v 1 is n 0 ∷ []) ∷ []) ∷ []) ∷ [] }
+    record {
+      left = v 0 ∷ [];
+      right = v 1 ∷ c 0 ∷ [];
+      printed = substitutions (((v 0 is c 0 ∷ n 0 ∷ []) ∷ (v 1 is n 0 ∷ []) ∷ []) ∷ []) ∷ [];
+    }
     -- 2. v0+v1 and v2+v3: rows 0101, 0110, 1001, 1010; keys 6, 7, 9, 11, 13, 14, 15.
     ∷ record {
       left = v 0 ∷ v 1 ∷ [];
@@ -63,7 +68,8 @@ pairs =
     ∷ record {
       left = v 0 ∷ v 0 ∷ [];
       right = v 1 ∷ v 2 ∷ [];
-      printed = rows ((1 ∷ 0 ∷ 2 ∷ []) ∷ (1 ∷ 1 ∷ 1 ∷ []) ∷ (1 ∷ 2 ∷ 0 ∷ []) ∷ []) ∷ the-keys (2 ∷ 3 ∷ 5 ∷ 6 ∷ 7 ∷ []) ∷ [];
+      printed = rows ((1 ∷ 0 ∷ 2 ∷ []) ∷ (1 ∷ 1 ∷ 1 ∷ []) ∷ (1 ∷ 2 ∷ 0 ∷ []) ∷ [])
+          ∷ the-keys (2 ∷ 3 ∷ 5 ∷ 6 ∷ 7 ∷ []) ∷ [];
     }
     -- 4. v0+c0 and v1+c1: keys 0 and 1; v0=c1 v1=c0, then v0=c1+n0 v1=c0+n0.
     ∷ record {
@@ -72,7 +78,8 @@ pairs =
       printed =
           the-keys (0 ∷ 1 ∷ [])
           ∷ substitutions
-          (((v 0 is c 1 ∷ []) ∷ (v 1 is c 0 ∷ []) ∷ []) ∷ ((v 0 is c 1 ∷ n 0 ∷ []) ∷ (v 1 is c 0 ∷ n 0 ∷ []) ∷ []) ∷ []) ∷ [];
+          (((v 0 is c 1 ∷ []) ∷ (v 1 is c 0 ∷ []) ∷ [])
+          ∷ ((v 0 is c 1 ∷ n 0 ∷ []) ∷ (v 1 is c 0 ∷ n 0 ∷ []) ∷ []) ∷ []) ∷ [];
     }
     -- 5. v0+v0 and v1+c0: v0=c0 v1=c0, then v0=c0+n0 v1=c0+n0+n0.
     ∷ record {
@@ -80,7 +87,8 @@ pairs =
       right = v 1 ∷ c 0 ∷ [];
       printed =
           substitutions
-          (((v 0 is c 0 ∷ []) ∷ (v 1 is c 0 ∷ []) ∷ []) ∷ ((v 0 is c 0 ∷ n 0 ∷ []) ∷ (v 1 is c 0 ∷ n 0 ∷ n 0 ∷ []) ∷ []) ∷ []) ∷ [];
+          (((v 0 is c 0 ∷ []) ∷ (v 1 is c 0 ∷ []) ∷ [])
+          ∷ ((v 0 is c 0 ∷ n 0 ∷ []) ∷ (v 1 is c 0 ∷ n 0 ∷ n 0 ∷ []) ∷ []) ∷ []) ∷ [];
     }
     -- 6. v0+v0+v0 and v1+v1: one, v0=n0+n0 v1=n0+n0+n0.
     ∷ record {
@@ -89,7 +97,11 @@ pairs =
       printed = substitutions (((v 0 is n 0 ∷ n 0 ∷ []) ∷ (v 1 is n 0 ∷ n 0 ∷ n 0 ∷ []) ∷ []) ∷ []) ∷ [];
     }
     -- 7. v0 and v0: one, key 1, v0=n0.
-    ∷ record { left = v 0 ∷ []; right = v 0 ∷ []; printed = the-keys (1 ∷ []) ∷ substitutions (((v 0 is n 0 ∷ []) ∷ []) ∷ []) ∷ [] }
+    ∷ record {
+      left = v 0 ∷ [];
+      right = v 0 ∷ [];
+      printed = the-keys (1 ∷ []) ∷ substitutions (((v 0 is n 0 ∷ []) ∷ []) ∷ []) ∷ [];
+    }
     -- 8. c0 and c0: one, key 0, no variables.
     ∷ record { left = c 0 ∷ []; right = c 0 ∷ []; printed = the-keys (0 ∷ []) ∷ substitutions ([] ∷ []) ∷ [] }
     -- 9. v0 and v0+v1: 13, though there is a balanced row.
@@ -99,11 +111,16 @@ pairs =
     -- 11. v0+v0 and c0: 13.
     ∷ record { left = v 0 ∷ v 0 ∷ []; right = c 0 ∷ []; printed = thirteen ∷ [] }
     -- 12. v0+v1 and c0+c1: keys 16,777,216 and 268,435,456.
-    ∷ record { left = v 0 ∷ v 1 ∷ []; right = c 0 ∷ c 1 ∷ []; printed = the-keys (16_777_216 ∷ 268_435_456 ∷ []) ∷ [] } ∷ []
+    ∷ record {
+      left = v 0 ∷ v 1 ∷ [];
+      right = c 0 ∷ c 1 ∷ [];
+      printed = the-keys (16_777_216 ∷ 268_435_456 ∷ []) ∷ [];
+    } ∷ []
 
 -- what the selections of the list give the variables, ascending
 abbrev pub valuesOf : List ℕ → List ℕ → Groups → List (List Binding)
-valuesOf L R G = map (λ s. bindings (value unifying (layout .new) L R G s) (variables unifying L R)) (listed unifying layout L R G)
+valuesOf L R G = map (λ s. bindings (value unifying (layout .new) L R G s) (variables unifying L R))
+    (listed unifying layout L R G)
 
 -- What is printed holds of the sides and their groups.
 abbrev pub Holds : List ℕ → List ℕ → Groups → Printed → Type 0
@@ -116,4 +133,5 @@ Holds L R G (substitutions vs) = valuesOf L R G ≡ vs
 -- All that document 01 prints of a pair holds of it.
 abbrev pub AsPrinted : Pair → Type 0
 AsPrinted pair =
-    (G : Groups) → GroupsOf unifying (pair .left) (pair .right) G → (what : Printed) → List·Memᴰ what (pair .printed) → Holds (pair .left) (pair .right) G what
+    (G : Groups) → GroupsOf unifying (pair .left) (pair .right) G → (what : Printed)
+    → List·Memᴰ what (pair .printed) → Holds (pair .left) (pair .right) G what

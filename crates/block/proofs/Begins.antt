@@ -28,13 +28,15 @@ above-begins-not {a} h (atom b) i = go (i .writable) (let e : a ≡ b = cc (i .s
 above-begins-not {a} h (plus s t) i = let e : a ≡ 128 = cc (i .splits) in omega arith
 
 -- after 128 stand two terms
-pub plus-begins : {bytes : List ℕ} {s t : Term} (b : Begins bytes s) → Begins (b .rest) t → Begins (128 ∷ bytes) (plus s t)
+pub plus-begins : {bytes : List ℕ} {s t : Term} (b : Begins bytes s) → Begins (b .rest) t
+    → Begins (128 ∷ bytes) (plus s t)
 plus-begins {bytes} {s} {t} b c =
     record {
       rest = c .rest;
       splits =
           ap (λ (l : List ℕ). 128 ∷ l)
-          (b .splits ∙ ap (λ (l : List ℕ). encode s ++ l) (c .splits) ∙ sym (append-assoc (encode s) (encode t) (c .rest)));
+          (b .splits ∙ ap (λ (l : List ℕ). encode s ++ l) (c .splits)
+          ∙ sym (append-assoc (encode s) (encode t) (c .rest)));
       writable = two (b .writable) (c .writable);
     }
 
@@ -51,14 +53,19 @@ after-plus (atom a) b = absurd (go (b .writable) (let e : a ≡ 128 = cc (b .spl
   where
     go : Writable (atom a) → a ≡ 128 → ⊥
     go (one m) e = plus-is-no-atom m e
-after-plus {bytes} (plus s t) b = go (b .writable) (let e : bytes ≡ (encode s ++ encode t) ++ b .rest = cc (b .splits) in e)
+after-plus {bytes} (plus s t) b =
+    go (b .writable) (let e : bytes ≡ (encode s ++ encode t) ++ b .rest = cc (b .splits) in e)
   where
     go : Writable (plus s t) → bytes ≡ (encode s ++ encode t) ++ b .rest → Two bytes
     go (two v w) e =
         record {
           left = s;
           right = t;
-          first = record { rest = encode t ++ b .rest; splits = e ∙ append-assoc (encode s) (encode t) (b .rest); writable = v };
+          first = record {
+            rest = encode t ++ b .rest;
+            splits = e ∙ append-assoc (encode s) (encode t) (b .rest);
+            writable = v;
+          };
           second = record { rest = b .rest; splits = refl; writable = w };
         }
 
@@ -74,12 +81,14 @@ pub second-missing :
     Begins (128 ∷ bytes) t → ⊥
 second-missing {bytes} {s} b none t c =
     let w = after-plus t c in
-    let same : b .rest ≡ w .first .rest = one-reading (b .writable) (w .first .writable) (sym (b .splits) ∙ w .first .splits) .1 in
+    let same : b .rest ≡ w .first .rest =
+    one-reading (b .writable) (w .first .writable) (sym (b .splits) ∙ w .first .splits) .1 in
     none (w .right) (rw same (w .second))
 
 -- bytes that are a term begin with it
 pub writes-begins : {bytes : List ℕ} {t : Term} → Writes bytes t → Begins bytes t
-writes-begins {bytes} {t} w = record { rest = []; splits = w .exactly ∙ sym (append-nil (encode t)); writable = w .writable }
+writes-begins {bytes} {t} w =
+    record { rest = []; splits = w .exactly ∙ sym (append-nil (encode t)); writable = w .writable }
 
 -- bytes that begin with no term are none
 pub nothing-is-no-term : {bytes : List ℕ} → ((t : Term) → Begins bytes t → ⊥) → NoTerm bytes

@@ -30,7 +30,8 @@ pub data Fault (bytes : List ℕ) : Type 0 where
 no-stray : {t : Term} {b : ℕ} → Writable t → List·Memᴰ b (encode t) → Stray b → ⊥
 no-stray (one m) (List·Memᴰ·head e) s = s .no-atom (rw e m)
 no-stray (two v w) (List·Memᴰ·head e) s = s .no-plus e
-no-stray (two {s = t} v w) (List·Memᴰ·tail m) s = ⊎-elim (λ l. no-stray v l s) (λ r. no-stray w r s) (List·Memᴰ·append-cases (encode t) m)
+no-stray (two {s = t} v w) (List·Memᴰ·tail m) s =
+    ⊎-elim (λ l. no-stray v l s) (λ r. no-stray w r s) (List·Memᴰ·append-cases (encode t) m)
 
 -- the empty list has no first byte
 no-more : {b : ℕ} {l : List ℕ} → [] ≡ b ∷ l → ⊥
@@ -70,7 +71,8 @@ data Found (k : ℕ) (bytes : List ℕ) : Type 0 where
 
 -- an atom before what is found where k terms are looked for is one term more
 after-atom : {k a : ℕ} {bytes : List ℕ} → MayBeWritten a → Found k bytes → Found (suc k) (a ∷ bytes)
-after-atom {a = a} m (whole front rest ts e) = whole (a ∷ front) rest (next (one m) ts) (ap (λ (l : List ℕ). a ∷ l) e)
+after-atom {a = a} m (whole front rest ts e) =
+    whole (a ∷ front) rest (next (one m) ts) (ap (λ (l : List ℕ). a ∷ l) e)
 after-atom m (early b more ts) = early b more (next (one m) ts)
 after-atom m (stray b i s) = stray b (List·Memᴰ·tail i) s
 

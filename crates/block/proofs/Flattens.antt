@@ -31,7 +31,8 @@ later-kind above (inl e) = omega arith
 later-kind above (inr e) = omega arith
 
 -- a variable or a constant may be written
-pub atom-may-be-written : {b : ℕ} {kind : Kind} → Classified b kind → OneOf (0 ∷ 1 ∷ []) (tagOf the-type kind) → MayBeWritten b
+pub atom-may-be-written : {b : ℕ} {kind : Kind} → Classified b kind → OneOf (0 ∷ 1 ∷ []) (tagOf the-type kind)
+    → MayBeWritten b
 atom-may-be-written (variable h) first-two = omega arith
 atom-may-be-written (constant l h) first-two = h
 atom-may-be-written (Classified.plus e) first-two = absurd (later-kind (omega arith) first-two)
@@ -51,15 +52,18 @@ first-byte bytes h = drop-cons bytes 0 0 h ∙ ap (λ (l : List ℕ). getD bytes
 
 -- what is found where the first byte was looked at is found in the whole
 module _ {bytes buffer after : List ℕ} {r : Flattened} (some : 0 < length bytes) where
-  pub after-first-byte : Flattens (getD bytes 0 0 ∷ take (length bytes - 1) (drop 1 bytes)) buffer r after → Flattens bytes buffer r after
+  pub after-first-byte : Flattens (getD bytes 0 0 ∷ take (length bytes - 1) (drop 1 bytes)) buffer r after
+      → Flattens bytes buffer r after
   after-first-byte f = subst (λ (l : List ℕ). Flattens l buffer r after) (sym (first-byte bytes some)) f
 
   -- and where it is a plus
-  pub after-plus-byte : getD bytes 0 0 ≡ 128 → Flattens (128 ∷ take (length bytes - 1) (drop 1 bytes)) buffer r after → Flattens bytes buffer r after
+  pub after-plus-byte : getD bytes 0 0 ≡ 128
+      → Flattens (128 ∷ take (length bytes - 1) (drop 1 bytes)) buffer r after → Flattens bytes buffer r after
   after-plus-byte is-plus f = after-first-byte (rw is-plus f)
 
 -- a buffer that is not empty, with an atom written at its start
-pub receives-atom : (buffer : List ℕ) (a : ℕ) → 0 < length buffer → set buffer 0 a ≡ receives buffer (flatten (atom a))
+pub receives-atom : (buffer : List ℕ) (a : ℕ) → 0 < length buffer
+    → set buffer 0 a ≡ receives buffer (flatten (atom a))
 receives-atom [] a h = absurd (let z : _<_ 0 0 = h in omega arith)
 receives-atom (b ∷ buffer) a h = refl
 
@@ -102,7 +106,13 @@ length-zero (a ∷ l) e = absurd (omega (arith, e))
 module _ {bytes buffer after : List ℕ} {used filled : ℕ} (f : FoundTerm bytes buffer used filled after) where
   -- the bytes of the term are among the bytes, and n bytes are (n + 1) / 2 atoms
   pub found-sizes : (used ≤ length bytes) × (used + 1 ≡ 2 * filled)
-  found-sizes = omega (arith, bytes-of-atoms (f .term), simp length-append at (ap length (f .begins .splits)), f .used-is, f .filled-is)
+  found-sizes = omega (
+    arith,
+    bytes-of-atoms (f .term),
+    simp length-append at (ap length (f .begins .splits)),
+    f .used-is,
+    f .filled-is,
+  )
 
   -- the bytes after the term
   rest-is : take (length bytes - used) (drop used bytes) ≡ f .begins .rest
@@ -114,11 +124,13 @@ module _ {bytes buffer after : List ℕ} {used filled : ℕ} (f : FoundTerm byte
   -- the term uses exactly the bytes, or no term does
   pub whole-is-term : length bytes ≤ used → TakesApart bytes buffer (Atoms filled) after
   whole-is-term all =
-      let sum : length bytes ≡ length (encode (f .term)) + length (f .begins .rest) = simp length-append at (ap length (f .begins .splits)) in
+      let sum : length bytes ≡ length (encode (f .term)) + length (f .begins .rest) =
+      simp length-append at (ap length (f .begins .splits)) in
       let none : f .begins .rest ≡ [] = length-zero (f .begins .rest) (omega (arith, f .used-is)) in
       let exact : Writes bytes (f .term) =
       record {
-        exactly = f .begins .splits ∙ ap (λ (l : List ℕ). encode (f .term) ++ l) none ∙ append-nil (encode (f .term));
+        exactly =
+            f .begins .splits ∙ ap (λ (l : List ℕ). encode (f .term) ++ l) none ∙ append-nil (encode (f .term));
         writable = f .begins .writable;
       } in
       rw (f .filled-is, f .after-is) (atoms exact)
@@ -126,12 +138,14 @@ module _ {bytes buffer after : List ℕ} {used filled : ℕ} (f : FoundTerm byte
   -- where bytes are left over, they are none
   pub left-over-is-no-term : used < length bytes → NoTerm bytes
   left-over-is-no-term over t w =
-      let same : f .term ≡ t = one-reading (f .begins .writable) (w .writable) (sym (f .begins .splits) ∙ writes-begins w .splits) .0 in
+      let same : f .term ≡ t = one-reading (f .begins .writable) (w .writable)
+      (sym (f .begins .splits) ∙ writes-begins w .splits) .0 in
       omega (arith, ap length (w .exactly), ap (λ (u : Term). length (encode u)) same, f .used-is)
 
   -- the buffer's atoms, and what stands after them
   front-is : take filled after ≡ flatten (f .term)
-  front-is = ap (take filled) (f .after-is) ∙ take-at (flatten (f .term)) (drop (length (flatten (f .term))) buffer) filled (sym (f .filled-is))
+  front-is = ap (take filled) (f .after-is)
+      ∙ take-at (flatten (f .term)) (drop (length (flatten (f .term))) buffer) filled (sym (f .filled-is))
 
   -- and what stands after them
   back-is : take (length after - filled) (drop filled after) ≡ drop (length (flatten (f .term))) buffer
@@ -149,17 +163,21 @@ module _ {bytes buffer after : List ℕ} {used filled : ℕ} (f : FoundTerm byte
       length bytes + 1 < 2 * length buffer →
       length after ≡ length buffer →
       (length (take (length bytes - used) (drop used bytes)) ≤ length bytes)
-      × (length (take (length bytes - used) (drop used bytes)) < 2 * length (take (length after - filled) (drop filled after)))
+      × (length (take (length bytes - used) (drop used bytes))
+      < 2 * length (take (length after - filled) (drop filled after)))
   second-sizes fits same =
-      simp (part-to-end, length-drop) (let sizes : (used ≤ length bytes) × (used + 1 ≡ 2 * filled) = found-sizes in omega arith)
+      simp (part-to-end, length-drop) (let sizes : (used ≤ length bytes)
+      × (used + 1 ≡ 2 * filled) = found-sizes in omega arith)
 
   -- where no second term stands there is no term
-  pub second-nothing : ((t : Term) → Begins (take (length bytes - used) (drop used bytes)) t → ⊥) → (t : Term) → Begins (128 ∷ bytes) t → ⊥
+  pub second-nothing : ((t : Term) → Begins (take (length bytes - used) (drop used bytes)) t → ⊥) → (t : Term)
+      → Begins (128 ∷ bytes) t → ⊥
   second-nothing none = second-missing (f .begins) (rw rest-is at none)
 
   module _
       {end : List ℕ} {used′ filled′ : ℕ}
-      (g : FoundTerm (take (length bytes - used) (drop used bytes)) (take (length after - filled) (drop filled after)) used′ filled′ end)
+      (g : FoundTerm (take (length bytes - used) (drop used bytes))
+      (take (length after - filled) (drop filled after)) used′ filled′ end)
     where
       both : Begins (128 ∷ bytes) (plus (f .term) (g .term))
       both = plus-begins (f .begins) (rw rest-is at (g .begins))
@@ -170,10 +188,12 @@ module _ {bytes buffer after : List ℕ} {used filled : ℕ} (f : FoundTerm byte
 
       -- the first term's atoms and the second's
       atoms-add-up : length (flatten (plus (f .term) (g .term))) ≡ filled + filled′
-      atoms-add-up = omega (arith, length-append (flatten (f .term)) (flatten (g .term)), f .filled-is, g .filled-is)
+      atoms-add-up =
+          omega (arith, length-append (flatten (f .term)) (flatten (g .term)), f .filled-is, g .filled-is)
 
       -- the buffer has the first term's atoms, and the second's behind them
-      buffer-holds-both : receives buffer (flatten (plus (f .term) (g .term))) ≡ putMid filled (length after - filled) after end
+      buffer-holds-both : receives buffer (flatten (plus (f .term) (g .term)))
+          ≡ putMid filled (length after - filled) after end
       buffer-holds-both =
           cc (
             receives-append buffer (flatten (f .term)) (flatten (g .term)),
@@ -187,7 +207,8 @@ module _ {bytes buffer after : List ℕ} {used filled : ℕ} (f : FoundTerm byte
 
       -- so the two terms, with the plus before them, were found
       pub found-both :
-          Flattens (128 ∷ bytes) buffer (Found (1 + used + used′) (filled + filled′)) (putMid filled (length after - filled) after end)
+          Flattens (128 ∷ bytes) buffer (Found (1 + used + used′) (filled + filled′))
+          (putMid filled (length after - filled) after end)
       found-both = rw (← bytes-add-up, ← atoms-add-up, ← buffer-holds-both) (found both)
 
 -- the two terms take no more bytes than there are, and have no more atoms than bytes and one

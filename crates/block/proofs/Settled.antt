@@ -54,7 +54,8 @@ other-than-zero [] e = apart (cc e)
 other-than-zero (a ∷ bytes) e = go (eqb a 0) refl (other-than-zero bytes)
   where
     go : (z : Bool) → eqb a 0 ≡ z → (allZero bytes ≡ false → OtherThanZero bytes) → OtherThanZero (a ∷ bytes)
-    go true t rest = let o = rest (rw t at e) in record { byte = o .byte; member = List·Memᴰ·tail (o .member); not-zero = o .not-zero }
+    go true t rest = let o = rest (rw t at e) in record
+        { byte = o .byte; member = List·Memᴰ·tail (o .member); not-zero = o .not-zero }
     go false f rest = record { byte = a; member = List·Memᴰ·head refl; not-zero = eqb-false a 0 f }
 
 -- a row of the table that is not given
@@ -72,7 +73,8 @@ module _ {block : List ℕ} {number : ℕ} {left right : List ℕ} where
   not-4 l r (term-length (inl h)) = is-length l h
   not-4 l r (term-length (inr h)) = is-length r h
 
-  not-5 : {s t : Term} → Writes (leftTerm block) s → Writes (rightTerm block) t → ReadGiven block number left right 5 → ⊥
+  not-5 : {s t : Term} → Writes (leftTerm block) s → Writes (rightTerm block) t
+      → ReadGiven block number left right 5 → ⊥
   not-5 {s} {t} v w (no-term (inl h)) = h s v
   not-5 {s} {t} v w (no-term (inr h)) = h t w
 
@@ -93,7 +95,8 @@ module _ {block : List ℕ} {number : ℕ} where
     module _ (checked : check block ≡ checkOfBytes block) where
       -- number 3, where the check agrees
       pub block-number-first : (blockNumber block ≡ number → ⊥) → Refuses block number refusal.BlockNumber
-      block-number-first h = record { first = λ left right. later (not-1 whole) (later (not-2 checked) (here (block-number h))) }
+      block-number-first h =
+          record { first = λ left right. later (not-1 whole) (later (not-2 checked) (here (block-number h))) }
 
       -- number 4, where the check and the number agree
       pub term-length-first :
@@ -101,7 +104,10 @@ module _ {block : List ℕ} {number : ℕ} where
           NoLength (leftLength block) ⊎ NoLength (rightLength block) →
           Refuses block number refusal.TermLength
       term-length-first numbered h =
-          record { first = λ left right. later (not-1 whole) (later (not-2 checked) (later (not-3 numbered) (here (term-length h)))) }
+          record {
+            first = λ left right. later (not-1 whole)
+                (later (not-2 checked) (later (not-3 numbered) (here (term-length h))));
+          }
 
   module _ (good : GoodHeader block number) where
     -- after a good header the first number is one of 5 and 6
@@ -124,10 +130,14 @@ module _ {block : List ℕ} {number : ℕ} where
       pub filler-first : allZero (filler block) ≡ false → Refuses block number refusal.Filler
       filler-first e =
           let other = other-than-zero (filler block) e in
-          record { first = λ left right. after-header (later (not-5 v w) (here (filler-byte (other .byte) (other .member) (other .not-zero)))) }
+          record {
+            first = λ left right. after-header
+                (later (not-5 v w) (here (filler-byte (other .byte) (other .member) (other .not-zero))));
+          }
 
       -- no number is left
-      pub none-given : allZero (filler block) ≡ true → (left right : List ℕ) → NoneOf (ReadGiven block number left right) blockNumbers
+      pub none-given : allZero (filler block) ≡ true → (left right : List ℕ)
+          → NoneOf (ReadGiven block number left right) blockNumbers
       none-given e left right =
           also (not-1 (good .whole))
           (also (not-2 (good .checked))
@@ -144,7 +154,8 @@ shorter-is-short m n h = go (decLt m 64)
 
 -- what is promised with number 16, and with the block's own where both buffers are long enough
 module _ {block : List ℕ} {number : ℕ} {left right : List ℕ} where
-  pub short-buffer-first : min (length left) (length right) < 64 → ReadPromise block number left right (refused 16) left right
+  pub short-buffer-first : min (length left) (length right) < 64
+      → ReadPromise block number left right (refused 16) left right
   short-buffer-first h = is-refused (here (short-buffer (shorter-is-short (length left) (length right) h)))
 
   module _ (left-fits : 64 ≤ length left) (right-fits : 64 ≤ length right) where
@@ -154,5 +165,6 @@ module _ {block : List ℕ} {number : ℕ} {left right : List ℕ} where
     not-16 (short-buffer (inr h)) = omega arith
 
     -- the block's own number, where 16 is not given
-    pub promised-refusal : {why : Refusal} → Refuses block number why → ReadPromise block number left right (refused (numberOf why)) left right
+    pub promised-refusal : {why : Refusal} → Refuses block number why
+        → ReadPromise block number left right (refused (numberOf why)) left right
     promised-refusal r = is-refused (later not-16 (r .first left right))

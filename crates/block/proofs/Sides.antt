@@ -74,11 +74,13 @@ pub when-atoms :
     TakesApart bytes buffer s after →
     s ≡ side.Atoms count →
     SideTerm bytes count after
-when-atoms {buffer = buffer} (atoms {t} w) e = record { buffer = buffer; term = t; writes = w; count-is = cc e; after-is = refl }
+when-atoms {buffer = buffer} (atoms {t} w) e =
+    record { buffer = buffer; term = t; writes = w; count-is = cc e; after-is = refl }
 when-atoms (no-term none) e = apart (cc e)
 
 -- and where they are none
-pub when-no-term : {bytes buffer after : List ℕ} {s : Side} → TakesApart bytes buffer s after → s ≡ side.NoTerm → NoTerm bytes
+pub when-no-term : {bytes buffer after : List ℕ} {s : Side} → TakesApart bytes buffer s after
+    → s ≡ side.NoTerm → NoTerm bytes
 when-no-term (atoms w) e = apart (cc e)
 when-no-term (no-term none) e = none
 
@@ -88,7 +90,8 @@ module _ {bytes after : List ℕ} {count : ℕ} (f : SideTerm bytes count after)
 
   -- the front of the array is the flattened side
   side-is : take count after ≡ flatten (f .term)
-  side-is = ap (take count) (f .after-is) ∙ take-at (flatten (f .term)) (drop (length (flatten (f .term))) (f .buffer)) count (sym (f .count-is))
+  side-is = ap (take count) (f .after-is)
+      ∙ take-at (flatten (f .term)) (drop (length (flatten (f .term))) (f .buffer)) count (sym (f .count-is))
 
   -- a term of at most 127 bytes has at most 64 atoms
   pub count-fits : length bytes ≤ 127 → count ≤ 64
@@ -97,7 +100,8 @@ module _ {bytes after : List ℕ} {count : ℕ} (f : SideTerm bytes count after)
   -- a buffer into which the atoms are copied receives the side
   pub copied :
       (lent : List ℕ) →
-      take (length (take count after)) (take count after) ++ drop (length (take count after)) lent ≡ receives lent (flatten (f .term))
+      take (length (take count after)) (take count after) ++ drop (length (take count after)) lent
+      ≡ receives lent (flatten (f .term))
   copied lent = rw (side-is, take-length)
 
 -- the right term's atoms are themselves
@@ -107,7 +111,11 @@ right-side-is t = map-id (flatten t)
 module _ {block : List ℕ} {number l r : ℕ} (h : HeaderLengths block number l r) where
   -- both terms end before the check
   pub terms-fit : (length block ≡ 512) × (l ≤ 127) × (r ≤ 127)
-  terms-fit = (h .good .whole, omega (arith, h .left-is, h .good .left-length), omega (arith, h .right-is, h .good .right-length))
+  terms-fit = (
+    h .good .whole,
+    omega (arith, h .left-is, h .good .left-length),
+    omega (arith, h .right-is, h .good .right-length),
+  )
 
   -- the parts of the block that are lent: the left term, the right term and the filler
   abbrev leftPart : List ℕ
@@ -156,7 +164,8 @@ module _ {block : List ℕ} {number l r : ℕ} (h : HeaderLengths block number l
 
       -- where a filler byte is not 0, the number is 6
       pub filler-wrong : {z : Bool} → z ≡ allZero fillerPart → not z ≡ true → Refuses block number refusal.Filler
-      filler-wrong {z} e t = filler-first (h .good) left-writes right-writes (rw filler-part-is at (sym e ∙ not-true z t))
+      filler-wrong {z} e t =
+          filler-first (h .good) left-writes right-writes (rw filler-part-is at (sym e ∙ not-true z t))
 
       -- and where all is well, the sides are read
       pub sides-read :

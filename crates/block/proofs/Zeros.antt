@@ -18,5 +18,7 @@ zeros-differ : check zeros ≡ checkOfBytes zeros → ⊥
 zeros-differ e = let z : _≡_ {A = ℕ} 0 65535 = e in omega arith
 
 -- Whatever number is expected, a block of zeros is refused with 2.
-pub zeros-fail : (number : ℕ) {left right : List ℕ} → 64 ≤ length left → 64 ≤ length right → First (ReadGiven zeros number left right) readNumbers 2
-zeros-fail number left-fits right-fits = later (not-16 left-fits right-fits) (later (not-1 refl) (here (check-differs zeros-differ)))
+pub zeros-fail : (number : ℕ) {left right : List ℕ} → 64 ≤ length left → 64 ≤ length right
+    → First (ReadGiven zeros number left right) readNumbers 2
+zeros-fail number left-fits right-fits =
+    later (not-16 left-fits right-fits) (later (not-1 refl) (here (check-differs zeros-differ)))

@@ -22,7 +22,8 @@ pub data Writable : Term → Type 0 where
   one : {a : ℕ} → MayBeWritten a → Writable (atom a)
   two : {s t : Term} → Writable s → Writable t → Writable (plus s t)
 
--- The bytes are this term, all of them: a term must use exactly the stated length, and a byte 129 to 255 is no term.
+-- The bytes are this term, all of them: a term must use exactly the stated length, and a byte 129 to 255 is
+-- no term.
 pub record Writes (bytes : List ℕ) (t : Term) : Type 0 where
   pub exactly : bytes ≡ encode t
   pub writable : Writable t

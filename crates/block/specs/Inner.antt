@@ -1,5 +1,5 @@
--- What the functions that Read calls give (document 01, "A library block"): a byte's kind, a term taken apart, the header
--- and the filler settled.
+-- What the functions that Read calls give (document 01, "A library block"): a byte's kind, a term taken
+-- apart, the header and the filler settled.
 use Prim.Native.Nat.{ℕ, _≤_, _<_}
 use mathlib.Core.Path.{_≡_}
 use mathlib.Core.Bool.{Bool, true, false, _&&_}
@@ -40,12 +40,14 @@ pub record Begins (bytes : List ℕ) (t : Term) : Type 0 where
 -- The term that the bytes begin with, by how many bytes it takes and how many atoms it has, which stand at
 -- the start of the buffer.
 pub data Flattens (bytes buffer : List ℕ) : Flattened → List ℕ → Type 0 where
-  found : {t : Term} → Begins bytes t → Flattens bytes buffer (Found (length (encode t)) (length (flatten t))) (receives buffer (flatten t))
+  found : {t : Term} → Begins bytes t
+      → Flattens bytes buffer (Found (length (encode t)) (length (flatten t))) (receives buffer (flatten t))
   nothing : {after : List ℕ} → ((t : Term) → Begins bytes t → ⊥) → Flattens bytes buffer Nothing after
 
 -- The term that the bytes are, by how many atoms it has, which stand at the start of the buffer.
 pub data TakesApart (bytes buffer : List ℕ) : Side → List ℕ → Type 0 where
-  atoms : {t : Term} → Writes bytes t → TakesApart bytes buffer (side.Atoms (length (flatten t))) (receives buffer (flatten t))
+  atoms : {t : Term} → Writes bytes t
+      → TakesApart bytes buffer (side.Atoms (length (flatten t))) (receives buffer (flatten t))
   no-term : {after : List ℕ} → NoTerm bytes → TakesApart bytes buffer side.NoTerm after
 
 -- Each is 1 to 127.
@@ -80,5 +82,6 @@ pub record GoodHeader (block : List ℕ) (number : ℕ) : Type 0 where
 
 -- Numbers 2 to 4 are settled: one of them is given, or the two lengths are good.
 pub data SettlesHeader (block : List ℕ) (number : ℕ) : Header → Type 0 where
-  is-refused : {refusal : Refusal} → Refuses block number refusal → SettlesHeader block number (Header.Refused refusal)
+  is-refused : {refusal : Refusal} → Refuses block number refusal
+      → SettlesHeader block number (Header.Refused refusal)
   is-good : GoodHeader block number → SettlesHeader block number (Lengths (leftLength block) (rightLength block))

@@ -23,7 +23,8 @@ told (Sides left right) = lengths left right
 told (Refused refusal) = refused (numberOf refusal)
 
 -- What Read promises of its outcome and of the two lent buffers at exit.
-pub data ReadPromise (block : List ℕ) (number : ℕ) (left right : List ℕ) : ReadOutcome → List ℕ → List ℕ → Type 0 where
+pub data ReadPromise (block : List ℕ) (number : ℕ) (left right : List ℕ) : ReadOutcome → List ℕ → List ℕ
+    → Type 0 where
   -- Each returns its number alone and changes no buffer.
   is-refused :
       {n : ℕ} →

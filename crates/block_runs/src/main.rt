@@ -1,8 +1,8 @@
-// Runs Read on cases from standard input, and prints a line for each: the case's name, the sides that the buffers hold or the
-// number, and whether all other bytes of the buffers are as they were.
+// Runs Read on cases from standard input, and prints a line for each: the case's name, the sides that the
+// buffers hold or the number, and whether all other bytes of the buffers are as they were.
 //
-// A case is 640 bytes: a name of 32, the expected block number in two, the length of the block in two, the length of each buffer
-// in one, two that are not used, and then the block.
+// A case is 640 bytes: a name of 32, the expected block number in two, the length of the block in two, the
+// length of each buffer in one, two that are not used, and then the block.
 mod sum;
 
 use block::ReadAnswer;

@@ -32,7 +32,8 @@ pub put-byte : (out : List ℕ) (at b : ℕ) → Put out at (b ∷ []) (at + 1) 
 put-byte out at b = record { place = refl; stored = refl }
 
 -- one text and then another are the two in a row
-pub put-then : {out mid after : List ℕ} {at m n : ℕ} {s t : List ℕ} → Put out at s m mid → Put mid m t n after → Put out at (s ++ t) n after
+pub put-then : {out mid after : List ℕ} {at m n : ℕ} {s t : List ℕ} → Put out at s m mid → Put mid m t n after
+    → Put out at (s ++ t) n after
 put-then {out} {mid} {after} {at} {m} {n} {s} {t} first second =
     record {
       place = omega (arith, first .place, second .place, length-append s t);
@@ -56,6 +57,8 @@ pub put-at : {out after : List ℕ} {at m n : ℕ} {s : List ℕ} → m ≡ n �
 put-at {out} {after} {at} {m} {n} {s} e p = subst (λ (k : ℕ). Put out at s k after) e p
 
 -- what is put from the front of a buffer that has room for it stands there, and what comes after it stays
-pub put-received : {out after bytes : List ℕ} {next : ℕ} → Put out 0 bytes next after → next ≤ length out → after ≡ bytes ++ drop (length bytes) out
+pub put-received : {out after bytes : List ℕ} {next : ℕ} → Put out 0 bytes next after → next ≤ length out
+    → after ≡ bytes ++ drop (length bytes) out
 put-received {out} {after} {bytes} put room =
-    put .stored ∙ sets-eq bytes out 0 (omega (arith, put .place)) ∙ ap (λ n. bytes ++ drop n out) (let e : 0 + length bytes ≡ length bytes = omega arith in e)
+    put .stored ∙ sets-eq bytes out 0 (omega (arith, put .place))
+    ∙ ap (λ n. bytes ++ drop n out) (let e : 0 + length bytes ≡ length bytes = omega arith in e)

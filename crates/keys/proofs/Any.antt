@@ -40,11 +40,13 @@ any-more i test e f = ap (λ n. any n test) (add-one i) ∙ ap₂ (λ a b. a || 
 -- so with the test whether a number's value is above a bound
 module _ {bound : ℕ} (value : ℕ → ℕ) where
   pub any-above : (n : ℕ) {i v : ℕ} → i < n → v ≡ value i → bound < v → any n (λ j. ltb bound (value j)) ≡ true
-  any-above n {i} h e above = any-found n i (λ j. ltb bound (value j)) h (lt-ltb bound (value i) (subst (λ (k : ℕ). bound < k) e above))
+  any-above n {i} h e above =
+      any-found n i (λ j. ltb bound (value j)) h (lt-ltb bound (value i) (subst (λ (k : ℕ). bound < k) e above))
 
   pub none-above : {i v : ℕ} → any i (λ j. ltb bound (value j)) ≡ false → v ≡ value i → v ≤ bound
       → any (i + 1) (λ j. ltb bound (value j)) ≡ false
-  none-above {i} none e below = any-more i (λ j. ltb bound (value j)) none (le-ltb bound (value i) (subst (λ (k : ℕ). k ≤ bound) e below))
+  none-above {i} none e below =
+      any-more i (λ j. ltb bound (value j)) none (le-ltb bound (value i) (subst (λ (k : ℕ). k ≤ bound) e below))
 
   pub not-above : (n : ℕ) {i : ℕ} → any n (λ j. ltb bound (value j)) ≡ false → i < n → value i ≤ bound
   not-above n {i} none h = go (decLt bound (value i))
@@ -58,7 +60,8 @@ pub any-some : (n : ℕ) (test : ℕ → Bool) → any n test ≡ true → (i : 
 any-some zero test e = absurd (false≢true e)
 any-some (suc n) test e = go (any n test) refl (test n) refl (any-some n test)
   where
-    go : (a : Bool) → any n test ≡ a → (b : Bool) → test n ≡ b → (any n test ≡ true → (i : ℕ) × (i < n) × (test i ≡ true))
+    go : (a : Bool) → any n test ≡ a → (b : Bool) → test n ≡ b
+        → (any n test ≡ true → (i : ℕ) × (i < n) × (test i ≡ true))
         → (i : ℕ) × (i < suc n) × (test i ≡ true)
     go true p b q rec = let r = rec p in (r .0, omega (arith, r .1), r .2)
     go false p true q rec = (n, omega arith, q)

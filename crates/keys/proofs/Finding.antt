@@ -18,18 +18,21 @@ use Rattle.keys.proofs.Given.{listed-after, not-13, not-14}
 
 module _ {listed : List ℕ} {key : ℕ} where
   -- a key that is not listed is 14 where another is
-  unlisted : {other : ℕ} → List·Memᴰ other listed → (List·Memᴰ key listed → ⊥) → FoundOf listed key (Refused NotListed)
+  unlisted : {other : ℕ} → List·Memᴰ other listed → (List·Memᴰ key listed → ⊥)
+      → FoundOf listed key (Refused NotListed)
   unlisted some not-there = is-refused (later (not-13 some) (here (not-listed refl not-there)))
 
   -- the least listed key from it on is the key itself, or another
   pub found-itself : {least : ℕ} → LeastFrom listed key least → least ≡ key → FoundOf listed key Listed
   found-itself least same = is-listed (subst (λ k. List·Memᴰ k listed) same (least .on-list))
 
-  pub found-other : {least : ℕ} → LeastFrom listed key least → (least ≡ key → ⊥) → FoundOf listed key (Refused NotListed)
+  pub found-other : {least : ℕ} → LeastFrom listed key least → (least ≡ key → ⊥)
+      → FoundOf listed key (Refused NotListed)
   found-other least differs = unlisted (least .on-list) (passed-over least differs)
 
   -- there is none from it on, but a first, or nothing is listed
-  pub found-above : {first : ℕ} → NoneFrom listed key → LeastFrom listed 0 first → FoundOf listed key (Refused NotListed)
+  pub found-above : {first : ℕ} → NoneFrom listed key → LeastFrom listed 0 first
+      → FoundOf listed key (Refused NotListed)
   found-above nothing first = unlisted (first .on-list) (not-reached nothing)
 
   pub found-nothing : Ascending _<_ listed → NoneFrom listed 0 → FoundOf listed key (Refused NoUnifier)
@@ -50,5 +53,6 @@ module _ {listed : List ℕ} {key : ℕ} where
       → First (ListGiven listed (after key)) (13 ∷ 14 ∷ []) (numberOf why)
   told-refused {why = why} told e = of-refused (subst (FoundOf listed key) e told)
     where
-      of-refused : FoundOf listed key (Refused why) → First (ListGiven listed (after key)) (13 ∷ 14 ∷ []) (numberOf why)
+      of-refused : FoundOf listed key (Refused why)
+          → First (ListGiven listed (after key)) (13 ∷ 14 ∷ []) (numberOf why)
       of-refused (is-refused first) = first

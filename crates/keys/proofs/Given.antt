@@ -12,7 +12,8 @@ pub start-not-after : {key : ℕ} → start ≡ after key → ⊥
 start-not-after e = let z : _≡_ {A = ℕ} 0 1 = cc e in omega arith
 
 -- if the key after which to begin is listed, it is so whichever name it has
-pub listed-after : {listed : List ℕ} {key : ℕ} → List·Memᴰ key listed → (k : ℕ) → after key ≡ after k → List·Memᴰ k listed
+pub listed-after : {listed : List ℕ} {key : ℕ} → List·Memᴰ key listed → (k : ℕ) → after key ≡ after k
+    → List·Memᴰ k listed
 listed-after {listed} {key} m k same = subst (λ k. List·Memᴰ k listed) (let e : key ≡ k = cc same in e) m
 
 no-member : {key : ℕ} {keys : List ℕ} → keys ≡ [] → List·Memᴰ key keys → ⊥
@@ -33,8 +34,10 @@ module _ {listed : List ℕ} {begin : Begin} where
   pub given-15 : {n : ℕ} → n ≡ 15 → ListGiven listed begin n → (remaining begin listed ≡ []) × (begin ≡ start → ⊥)
   given-15 e (none-admissible empty) = absurd (omega arith)
   given-15 e (not-listed same unlisted) = absurd (omega arith)
-  given-15 e (last-listed same m nothing) =
-      (subst (λ b. remaining b listed ≡ []) (sym same) nothing, λ from-start. start-not-after (sym from-start ∙ same))
+  given-15 e (last-listed same m nothing) = (
+    subst (λ b. remaining b listed ≡ []) (sym same) nothing,
+    λ from-start. start-not-after (sym from-start ∙ same),
+  )
 
   -- a list with a member does not give 13
   pub not-13 : {key : ℕ} → List·Memᴰ key listed → ListGiven listed begin 13 → ⊥
@@ -47,8 +50,10 @@ module _ {listed : List ℕ} {begin : Begin} where
   not-14 e on-list (last-listed same m nothing) = omega arith
 
   -- no number is given where a key remains, and where the key after which to begin, if any, is on the list
-  pub list-gives-none : {key n : ℕ} → ((k : ℕ) → begin ≡ after k → List·Memᴰ k listed) → List·Memᴰ key (remaining begin listed)
+  pub list-gives-none : {key n : ℕ} → ((k : ℕ) → begin ≡ after k → List·Memᴰ k listed)
+      → List·Memᴰ key (remaining begin listed)
       → ListGiven listed begin n → ⊥
   list-gives-none on-list some (none-admissible empty) = no-member empty (remaining-members begin some .0)
   list-gives-none on-list some (not-listed {key = k} same unlisted) = unlisted (on-list k same)
-  list-gives-none {key} on-list some (last-listed same m nothing) = no-member nothing (subst (λ b. List·Memᴰ key (remaining b listed)) same some)
+  list-gives-none {key} on-list some (last-listed same m nothing) =
+      no-member nothing (subst (λ b. List·Memᴰ key (remaining b listed)) same some)

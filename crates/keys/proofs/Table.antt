@@ -1,4 +1,5 @@
--- What a table whose numbers are within its room says of its groups: their sizes, their entries, and that they fit a key.
+-- What a table whose numbers are within its room says of its groups: their sizes, their entries, and that
+-- they fit a key.
 use Prim.Native.Nat.{ℕ, zero, suc, _+_, _*_, _<_, _≤_}
 use native.Mathlib.Omega.{arith}
 use native.Mathlib.Decide.{decLt}
@@ -26,10 +27,12 @@ getD-map-from f a (suc n) (suc i) d h = getD-map-from f (suc a) n i d (omega ari
 
 module _ (t : Table) where
   -- the group at a place among the constants'
-  rowsAt-groupsFrom : (a : ℕ) (cs : List ℕ) (g : ℕ) → g < length cs → rowsAt (groupsFrom t a cs) g ≡ groupAt t (a + g)
+  rowsAt-groupsFrom : (a : ℕ) (cs : List ℕ) (g : ℕ) → g < length cs
+      → rowsAt (groupsFrom t a cs) g ≡ groupAt t (a + g)
   rowsAt-groupsFrom a [] g h = absurd (omega arith)
   rowsAt-groupsFrom a (c ∷ cs) zero h = ap (groupAt t) (omega arith)
-  rowsAt-groupsFrom a (c ∷ cs) (suc g) h = rowsAt-groupsFrom (suc a) cs g (omega arith) ∙ ap (groupAt t) (omega arith)
+  rowsAt-groupsFrom a (c ∷ cs) (suc g) h =
+      rowsAt-groupsFrom (suc a) cs g (omega arith) ∙ ap (groupAt t) (omega arith)
 
   rowsAt-beyond : (a : ℕ) (cs : List ℕ) (g : ℕ) → length cs ≤ g → rowsAt (groupsFrom t a cs) g ≡ []
   rowsAt-beyond a [] g h = refl
@@ -37,9 +40,11 @@ module _ (t : Table) where
   rowsAt-beyond a (c ∷ cs) (suc g) h = rowsAt-beyond (suc a) cs g (omega arith)
 
   -- an entry of a row
-  entry-at : (g i p : ℕ) → i < getD (t .sizes) g 0 → p < t .places → getD (getD (groupAt t g) i []) p 0 ≡ getD (t .rows) (96 * g + 6 * i + p) 0
+  entry-at : (g i p : ℕ) → i < getD (t .sizes) g 0 → p < t .places
+      → getD (getD (groupAt t g) i []) p 0 ≡ getD (t .rows) (96 * g + 6 * i + p) 0
   entry-at g i p row place =
-      ap (λ r. getD r p 0) (getD-map-from (rowAt t g) 0 (getD (t .sizes) g 0) i [] row ∙ ap (rowAt t g) (omega arith))
+      ap (λ r. getD r p 0) (getD-map-from (rowAt t g) 0 (getD (t .sizes) g 0) i [] row
+      ∙ ap (rowAt t g) (omega arith))
       ∙ getD-take (t .places) (drop (96 * g + 6 * i) (t .rows)) p 0 place ∙ getD-drop (96 * g + 6 * i) (t .rows) p 0
 
 module _ {t : Table} (within : Within t) where
@@ -64,10 +69,14 @@ module _ {t : Table} (within : Within t) where
   -- the balanced rows are group 0 of the table, and those of the constants the groups after it
   group-in : (g : ℕ) → g ≤ t .unbalanced → group (groupsIn t) g ≡ groupAt t g
   group-in zero h = refl
-  group-in (suc g) h = rowsAt-groupsFrom t 1 (take (t .unbalanced) (t .constants)) g (omega (arith, how-many)) ∙ ap (groupAt t) (omega arith)
+  group-in (suc g) h = rowsAt-groupsFrom t 1 (take (t .unbalanced) (t .constants)) g (omega (arith, how-many))
+      ∙ ap (groupAt t) (omega arith)
 
   pub table-sized : Sized (t .sizes) (t .unbalanced) (groupsIn t)
-  table-sized = record { how-many-constants = how-many-constants t within; a-size-each = λ g h. ap length (group-in g h) ∙ length-groupAt t g }
+  table-sized = record {
+    how-many-constants = how-many-constants t within;
+    a-size-each = λ g h. ap length (group-in g h) ∙ length-groupAt t g;
+  }
 
   -- a selection of the table is one of its groups, and the array holds them
   pub table-holds : (key : ℕ) → Holds (t .rows) (t .places) (selectionIn t key) (groupsIn t)
@@ -87,8 +96,12 @@ module _ {t : Table} (within : Within t) where
           ∙ entry-at t g i p (omega (arith, ap length (group-in g used), length-groupAt t g)) place
       go zero i p row place (yes beyond) = absurd (omega arith)
       go (suc g) i p row place (yes beyond) =
-          absurd (omega (arith, ap length (rowsAt-beyond t 1 (take (t .unbalanced) (t .constants)) g (omega (arith, how-many)))))
+          absurd (omega (
+            arith,
+            ap length (rowsAt-beyond t 1 (take (t .unbalanced) (t .constants)) g (omega (arith, how-many))),
+          ))
 
 -- so that the list of the pair that it is of is ascending
-pub table-ascending : {M : Mode} {L R : List ℕ} {t : Table} → TableOf M L R t → Ascending _<_ (keys M layout L R (groupsIn t))
+pub table-ascending : {M : Mode} {L R : List ℕ} {t : Table} → TableOf M L R t
+    → Ascending _<_ (keys M layout L R (groupsIn t))
 table-ascending {M} {L} {R} {t} of = keys-ascending (table-fits (of .within)) M L R

@@ -1,4 +1,5 @@
--- The sets of balanced rows that go with a tuple of row indexes, one after the other: those tried so far miss a place.
+-- The sets of balanced rows that go with a tuple of row indexes, one after the other: those tried so far miss
+-- a place.
 use Prim.Native.Nat.{ℕ, _+_, _*_, _/_, _^_, _<_, _≤_}
 use native.Mathlib.Omega.{arith}
 use native.Mathlib.Nat.{div-lt-iff-lt-mul}
@@ -46,24 +47,30 @@ module _ (t : Table) (tuple from : ℕ) where
 
   -- the masks from the first on to before this one miss a place
   abbrev pub Missed : ℕ → Type 0
-  Missed mask = HasTuple (groupsIn t) tuple → (other : ℕ) → tuple * 65536 + from ≤ other → other < tuple * 65536 + mask → reaching other ≡ false
+  Missed mask = HasTuple (groupsIn t) tuple → (other : ℕ) → tuple * 65536 + from ≤ other
+      → other < tuple * 65536 + mask → reaching other ≡ false
 
   -- what was tried of a tuple
   abbrev Tried : Next → Type 0
-  Tried next = HasTuple (groupsIn t) tuple → LeastWithin reaching (tuple * 65536 + from) (tuple * 65536 + 2 ^ getD (t .sizes) 0 0) next
+  Tried next = HasTuple (groupsIn t) tuple
+      → LeastWithin reaching (tuple * 65536 + from) (tuple * 65536 + 2 ^ getD (t .sizes) 0 0) next
 
   pub missed-none : Missed from
   missed-none has other above below = absurd (omega arith)
 
-  module _ {mask key : ℕ} (missed : Missed mask) (packed : key ≡ tuple * 65536 + mask) (low : mask < 2 ^ getD (t .sizes) 0 0)
+  module _ {mask key : ℕ} (missed : Missed mask) (packed : key ≡ tuple * 65536 + mask)
+      (low : mask < 2 ^ getD (t .sizes) 0 0)
       (within : Within t) {selection : Selection} (its : selection ≡ selectionIn t key) {reaches : Bool}
-      (weighed : (G : Groups) → Holds (t .rows) (t .places) selection G → Fits layout G → Candidate layout G (selection .key)
+      (weighed : (G : Groups) → Holds (t .rows) (t .places) selection G → Fits layout G
+      → Candidate layout G (selection .key)
       → reaches ≡ fills G (t .places) (selection .key)) where
     its-weight : HasTuple (groupsIn t) tuple → reaches ≡ reaching key
     its-weight has =
         subst
-        (λ (s : Selection). (G : Groups) → Holds (t .rows) (t .places) s G → Fits layout G → Candidate layout G (s .key)
-        → reaches ≡ fills G (t .places) (s .key)) its weighed (groupsIn t) (table-holds within key) (table-fits within)
+        (λ (s : Selection). (G : Groups) → Holds (t .rows) (t .places) s G → Fits layout G
+        → Candidate layout G (s .key)
+        → reaches ≡ fills G (t .places) (s .key)) its weighed (groupsIn t) (table-holds within key)
+        (table-fits within)
         (subst (Candidate layout (groupsIn t)) (sym packed)
         (has mask (omega (arith, low, ap (λ (n : ℕ). 2 ^ n) (table-sized within .a-size-each 0 (omega arith))))))
 

@@ -47,7 +47,8 @@ module _ {t : Table} {M : Mode} {L R : List ℕ} (full : M .empties ≡ false) (
       let h = listed-candidates (table-fits (of .within)) M L R .0 m in (
         h .0,
         ap (allReached (taken (layout .new) (groupsIn t) (selectionAt layout (groupsIn t) key))) (of .the-places)
-            ∙ sym (admissible-reaches M (layout .new) L R (groupsIn t) (selectionAt layout (groupsIn t) key) full) ∙ h .1,
+            ∙ sym (admissible-reaches M (layout .new) L R (groupsIn t) (selectionAt layout (groupsIn t) key)
+            full) ∙ h .1,
       )
 
   reached-listed : {key : ℕ} → Candidate layout (groupsIn t) key
@@ -56,7 +57,8 @@ module _ {t : Table} {M : Mode} {L R : List ℕ} (full : M .empties ≡ false) (
       listed-candidates (table-fits (of .within)) M L R .1 (
         candidate,
         admissible-reaches M (layout .new) L R (groupsIn t) (selectionAt layout (groupsIn t) key) full
-            ∙ sym (ap (allReached (taken (layout .new) (groupsIn t) (selectionAt layout (groupsIn t) key))) (of .the-places)) ∙ e,
+            ∙ sym (ap (allReached (taken (layout .new) (groupsIn t) (selectionAt layout (groupsIn t) key)))
+            (of .the-places)) ∙ e,
       )
 
 module _ {t : Table} {start at : ℕ} (passed : Passed t start at) where
@@ -83,7 +85,11 @@ module _ {t : Table} {start at : ℕ} (passed : Passed t start at) where
     where
       go : Dec (other < start) → other < start
       go (yes before) = before
-      go (no above) = absurd (omega (arith, passed M L R full of other m (omega arith), keys-below (table-fits (of .within)) M L R m))
+      go (no above) = absurd (omega (
+        arith,
+        passed M L R full of other m (omega arith),
+        keys-below (table-fits (of .within)) M L R m,
+      ))
 
 between-none : {G : Groups} {key later : ℕ} → Stands G key (NoneBefore later)
     → (key < later) × ((other : ℕ) → key ≤ other → other < later → Candidate layout G other → ⊥)
@@ -98,10 +104,14 @@ same-tuple {G} {key} fits candidate mask low =
     let small : mask < 65536 = mask-fits (fits .few-balanced) low in
     let same : (key / 65536 * 65536 + mask) / 65536 ≡ key / 65536 = omega arith in
     record {
-      indexes-within = subst (λ (n : ℕ). IndexesWithin (G .constants) (fieldsOf layout 4 (G .constants) n)) (sym same) (candidate .indexes-within);
-      unused-zero = subst (λ (n : ℕ). n % 2 ^ (4 * (4 - length (G .constants))) ≡ 0) (sym same) (candidate .unused-zero);
-      no-bit-beyond = let low-part : (key / 65536 * 65536 + mask) % 65536 ≡ mask = omega arith in subst (λ (n : ℕ). n < 2 ^ length (G .balanced)) (sym low-part) low;
-      no-bit-above = let high : key < 4294967296 = candidate .no-bit-above in let z : key / 65536 * 65536 + mask < 4294967296 = omega arith in z;
+      indexes-within = subst (λ (n : ℕ). IndexesWithin (G .constants) (fieldsOf layout 4 (G .constants) n))
+          (sym same) (candidate .indexes-within);
+      unused-zero =
+          subst (λ (n : ℕ). n % 2 ^ (4 * (4 - length (G .constants))) ≡ 0) (sym same) (candidate .unused-zero);
+      no-bit-beyond = let low-part : (key / 65536 * 65536 + mask) % 65536 ≡ mask =
+          omega arith in subst (λ (n : ℕ). n < 2 ^ length (G .balanced)) (sym low-part) low;
+      no-bit-above = let high : key < 4294967296 =
+          candidate .no-bit-above in let z : key / 65536 * 65536 + mask < 4294967296 = omega arith in z;
     }
 
 none-within : {passes : ℕ → Bool} {from end : ℕ} {next : Next} → LeastWithin passes from end next → next ≡ None
@@ -111,12 +121,15 @@ none-within {passes} {from} {end} told e = of-none (subst (LeastWithin passes fr
     of-none : LeastWithin passes from end None → (other : ℕ) → from ≤ other → other < end → passes other ≡ false
     of-none (within.nothing missed) = missed
 
-found-within : {passes : ℕ → Bool} {from end key : ℕ} {next : Next} → LeastWithin passes from end next → next ≡ Key key
-    → (from ≤ key) × (key < end) × (passes key ≡ true) × ((other : ℕ) → from ≤ other → other < key → passes other ≡ false)
+found-within : {passes : ℕ → Bool} {from end key : ℕ} {next : Next} → LeastWithin passes from end next
+    → next ≡ Key key
+    → (from ≤ key) × (key < end) × (passes key ≡ true)
+    × ((other : ℕ) → from ≤ other → other < key → passes other ≡ false)
 found-within {passes} {from} {end} {key} told e = of-key (subst (LeastWithin passes from end) e told)
   where
     of-key : LeastWithin passes from end (Key key)
-        → (from ≤ key) × (key < end) × (passes key ≡ true) × ((other : ℕ) → from ≤ other → other < key → passes other ≡ false)
+        → (from ≤ key) × (key < end) × (passes key ≡ true)
+        × ((other : ℕ) → from ≤ other → other < key → passes other ≡ false)
     of-key (within.found low high passed before) = (low, high, passed, before)
 
 -- One step of the walk, from what was told of the number that it has come to.
@@ -131,14 +144,17 @@ module _ {t : Table} {start at : ℕ} (within : Within t) (walked : Walked t sta
         h .0,
         record {
           above = omega (arith, walked .above, h .0);
-          passed = passed-over (walked .passed) (λ other low high candidate. absurd (h .1 other low high candidate));
+          passed =
+              passed-over (walked .passed) (λ other low high candidate. absurd (h .1 other low high candidate));
         },
       )
 
   -- A candidate's tuple was tried from its mask on.
-  module _ (e : standing ≡ IsCandidate) {tuple from : ℕ} (its-tuple : tuple ≡ at / 65536) (its-mask : from ≡ at % 65536) {next : Next}
+  module _ (e : standing ≡ IsCandidate) {tuple from : ℕ} (its-tuple : tuple ≡ at / 65536)
+      (its-mask : from ≡ at % 65536) {next : Next}
       (tried : HasTuple (groupsIn t) tuple
-      → LeastWithin (fills (groupsIn t) (t .places)) (tuple * 65536 + from) (tuple * 65536 + 2 ^ getD (t .sizes) 0 0) next) where
+      → LeastWithin (fills (groupsIn t) (t .places)) (tuple * 65536 + from)
+      (tuple * 65536 + 2 ^ getD (t .sizes) 0 0) next) where
     candidate : Candidate layout (groupsIn t) at
     candidate = stands-candidate (subst (Stands (groupsIn t) at) e here)
 
@@ -148,10 +164,12 @@ module _ {t : Table} {start at : ℕ} (within : Within t) (walked : Walked t sta
     least : LeastWithin (fills (groupsIn t) (t .places)) at (tuple * 65536 + 2 ^ getD (t .sizes) 0 0) next
     least =
         let begins : tuple * 65536 + from ≡ at = omega arith in
-        subst (λ (n : ℕ). LeastWithin (fills (groupsIn t) (t .places)) n (tuple * 65536 + 2 ^ getD (t .sizes) 0 0) next) begins
+        subst (λ (n : ℕ). LeastWithin (fills (groupsIn t) (t .places)) n
+        (tuple * 65536 + 2 ^ getD (t .sizes) 0 0) next) begins
         (tried has-tuple)
 
-    -- Its masks all miss a place: the walk goes on with the next tuple, since a larger mask has a bit beyond the balanced rows.
+    -- Its masks all miss a place: the walk goes on with the next tuple, since a larger mask has a bit beyond
+    -- the balanced rows.
     pub step-over : next ≡ None → Walked t start (blockEnd at 16)
     step-over none =
         record {
@@ -159,10 +177,12 @@ module _ {t : Table} {start at : ℕ} (within : Within t) (walked : Walked t sta
           passed = passed-over (walked .passed) missed;
         }
       where
-        all-missed : (other : ℕ) → at ≤ other → other < tuple * 65536 + 2 ^ getD (t .sizes) 0 0 → fills (groupsIn t) (t .places) other ≡ false
+        all-missed : (other : ℕ) → at ≤ other → other < tuple * 65536 + 2 ^ getD (t .sizes) 0 0
+            → fills (groupsIn t) (t .places) other ≡ false
         all-missed = none-within least none
 
-        missed : (other : ℕ) → at ≤ other → other < blockEnd at 16 → Candidate layout (groupsIn t) other → fills (groupsIn t) (t .places) other ≡ false
+        missed : (other : ℕ) → at ≤ other → other < blockEnd at 16 → Candidate layout (groupsIn t) other
+            → fills (groupsIn t) (t .places) other ≡ false
         missed other low high other-candidate =
             let sized = table-sized within .a-size-each 0 (omega arith) in
             all-missed other low
@@ -177,30 +197,41 @@ module _ {t : Table} {start at : ℕ} (within : Within t) (walked : Walked t sta
     pub step-found : {key : ℕ} → next ≡ Key key → OfItsList t (λ keys. NextFrom keys start (Key key))
     step-found {key} e M L R full of =
         let h = found-within least e in
-        found (passed-found (passed-over (walked .passed) (λ other low high other-candidate. h .3 other low high)) (omega (arith, h .0, walked .above))
-        (subst (Candidate layout (groupsIn t)) (its-place h) (has-tuple (key - tuple * 65536) (few h))) (h .2) M L R full of)
+        found (passed-found (passed-over (walked .passed)
+        (λ other low high other-candidate. h .3 other low high)) (omega (arith, h .0, walked .above))
+        (subst (Candidate layout (groupsIn t)) (its-place h) (has-tuple (key - tuple * 65536) (few h))) (h .2)
+        M L R full of)
       where
         Found : Type 0
-        Found = (at ≤ key) × (key < tuple * 65536 + 2 ^ getD (t .sizes) 0 0) × (fills (groupsIn t) (t .places) key ≡ true)
+        Found = (at ≤ key) × (key < tuple * 65536 + 2 ^ getD (t .sizes) 0 0)
+            × (fills (groupsIn t) (t .places) key ≡ true)
             × ((other : ℕ) → at ≤ other → other < key → fills (groupsIn t) (t .places) other ≡ false)
 
         its-place : Found → tuple * 65536 + (key - tuple * 65536) ≡ key
         its-place h = omega (arith, h .0)
 
         few : Found → key - tuple * 65536 < 2 ^ length (groupsIn t .balanced)
-        few h = omega (arith, h .1, ap (λ (n : ℕ). 2 ^ n) (table-sized within .a-size-each 0 (omega arith)), pow-pos (getD (t .sizes) 0 0))
+        few h = omega (
+          arith,
+          h .1,
+          ap (λ (n : ℕ). 2 ^ n) (table-sized within .a-size-each 0 (omega arith)),
+          pow-pos (getD (t .sizes) 0 0),
+        )
 
-pub step-end : {t : Table} {start at : ℕ} → Walked t start at → 2 ^ 32 ≤ at → OfItsList t (λ keys. NextFrom keys start None)
+pub step-end : {t : Table} {start at : ℕ} → Walked t start at → 2 ^ 32 ≤ at
+    → OfItsList t (λ keys. NextFrom keys start None)
 step-end walked end M L R full of = nothing (passed-all (walked .passed) end M L R full of)
 
 -- What a next key tells.
-pub next-key : {keys : List ℕ} {bound key : ℕ} {next : Next} → NextFrom keys bound next → next ≡ Key key → LeastFrom keys bound key
+pub next-key : {keys : List ℕ} {bound key : ℕ} {next : Next} → NextFrom keys bound next → next ≡ Key key
+    → LeastFrom keys bound key
 next-key {keys} {bound} told e = of-key (subst (NextFrom keys bound) e told)
   where
     of-key : {key : ℕ} → NextFrom keys bound (Key key) → LeastFrom keys bound key
     of-key (found least) = least
 
-pub next-none : {keys : List ℕ} {bound : ℕ} {next : Next} → NextFrom keys bound next → next ≡ None → NoneFrom keys bound
+pub next-none : {keys : List ℕ} {bound : ℕ} {next : Next} → NextFrom keys bound next → next ≡ None
+    → NoneFrom keys bound
 next-none {keys} {bound} told e = of-none (subst (NextFrom keys bound) e told)
   where
     of-none : NextFrom keys bound None → NoneFrom keys bound

@@ -31,7 +31,8 @@ pub data Stands (G : Groups) (key : ℕ) : Standing → Type 0 where
 
 -- each set of balanced rows makes a candidate with the tuple of row indexes
 abbrev pub HasTuple : Groups → ℕ → Type 0
-HasTuple G tuple = (mask : ℕ) → mask < 2 ^ length (G .balanced) → IsCandidate layout G (tuple * 2 ^ (layout .rows) + mask)
+HasTuple G tuple =
+    (mask : ℕ) → mask < 2 ^ length (G .balanced) → IsCandidate layout G (tuple * 2 ^ (layout .rows) + mask)
 
 -- the rows that the key takes reach every place: of a candidate, that its selection is admissible
 abbrev pub fills : Groups → ℕ → ℕ → Bool
@@ -39,6 +40,7 @@ fills G places key = allReached (taken (layout .new) G (selectionAt layout G key
 
 -- the least number from one to before another that passes a test, or that there is none
 pub data LeastWithin (passes : ℕ → Bool) (from end : ℕ) : Next → Type 0 where
-  found : {key : ℕ} → from ≤ key → key < end → passes key ≡ true → ((other : ℕ) → from ≤ other → other < key → passes other ≡ false)
+  found : {key : ℕ} → from ≤ key → key < end → passes key ≡ true
+      → ((other : ℕ) → from ≤ other → other < key → passes other ≡ false)
       → LeastWithin passes from end (Key key)
   nothing : ((other : ℕ) → from ≤ other → other < end → passes other ≡ false) → LeastWithin passes from end None

@@ -1,4 +1,5 @@
--- Numbers 13 to 15 of document 01's table: when each is given, of a list and where to begin on it, whatever else is wrong.
+-- Numbers 13 to 15 of document 01's table: when each is given, of a list and where to begin on it, whatever
+-- else is wrong.
 use Prim.Native.Nat.{ℕ}
 use mathlib.Core.Path.{_≡_}
 use mathlib.Core.List.{List, [], List·Memᴰ}
@@ -11,4 +12,5 @@ pub data ListGiven (listed : List ℕ) (begin : Begin) : ℕ → Type 0 where
   -- the key isn't on the list
   not-listed : {key : ℕ} → begin ≡ after key → (List·Memᴰ key listed → ⊥) → ListGiven listed begin 14
   -- the key is the last on the list
-  last-listed : {key : ℕ} → begin ≡ after key → List·Memᴰ key listed → remaining (after key) listed ≡ [] → ListGiven listed begin 15
+  last-listed : {key : ℕ} → begin ≡ after key → List·Memᴰ key listed → remaining (after key) listed ≡ []
+      → ListGiven listed begin 15

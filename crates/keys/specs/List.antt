@@ -17,7 +17,8 @@ use Rattle.keys.specs.declared.Next.the-variants.{Key, None}
 use Rattle.keys.specs.declared.Found.{Found}
 use Rattle.keys.specs.declared.Found.the-variants.{Listed, Refused}
 
--- It is so of every pair that the table is of, in a mode in which no variable may be empty; it is so of the list of every such pair.
+-- It is so of every pair that the table is of, in a mode in which no variable may be empty; it is so of the
+-- list of every such pair.
 abbrev pub OfItsPair : Table → (Mode → List ℕ → List ℕ → Type 0) → Type 0
 OfItsPair table So = (M : Mode) (L R : List ℕ) → M .empties ≡ false → TableOf M L R table → So M L R
 
@@ -32,4 +33,5 @@ pub data NextFrom (keys : List ℕ) (from : ℕ) : Next → Type 0 where
 -- that the key is on the list, or 13 or 14
 pub data FoundOf (listed : List ℕ) (key : ℕ) : Found → Type 0 where
   is-listed : List·Memᴰ key listed → FoundOf listed key Listed
-  is-refused : {why : Refusal} → First (ListGiven listed (after key)) (13 ∷ 14 ∷ []) (numberOf why) → FoundOf listed key (Refused why)
+  is-refused : {why : Refusal} → First (ListGiven listed (after key)) (13 ∷ 14 ∷ []) (numberOf why)
+      → FoundOf listed key (Refused why)

@@ -24,12 +24,14 @@ abbrev pub group : Groups → ℕ → List (List ℕ)
 group G zero = G .balanced
 group G (suc g) = rowsAt (G .constants) g
 
--- The selection is one of the groups, and the array holds them: row i of group g has its entries, one for each place, from 96 * g + 6 * i on.
+-- The selection is one of the groups, and the array holds them: row i of group g has its entries, one for
+-- each place, from 96 * g + 6 * i on.
 pub record Holds (rows : List ℕ) (places : ℕ) (s : Selection) (G : Groups) : Type 0 where
   pub how-many-constants : length (G .constants) ≡ s .unbalanced
   pub how-many-balanced : length (G .balanced) ≡ s .balanced
   pub the-constants : map (λ (g : Group). g .constant) (G .constants) ≡ take (s .unbalanced) (s .constants)
-  pub entries : (g i p : ℕ) → i < length (group G g) → p < places → getD (getD (group G g) i []) p 0 ≡ getD rows (96 * g + 6 * i + p) 0
+  pub entries : (g i p : ℕ) → i < length (group G g) → p < places
+      → getD (getD (group G g) i []) p 0 ≡ getD rows (96 * g + 6 * i + p) 0
 
 -- a taken row is above 0 at the place: one of the runs names its atom there
 abbrev pub reaches : List ℕ → Selection → ℕ → Bool

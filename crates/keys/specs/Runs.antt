@@ -1,4 +1,5 @@
--- A value as runs: for each row that a key takes its atom, as often as the row says at a place (document 01, "From sides to equations").
+-- A value as runs: for each row that a key takes its atom, as often as the row says at a place (document 01,
+-- "From sides to equations").
 use Prim.Native.Nat.{ℕ, zero, suc, _+_, _-_, _*_, _≤_}
 use mathlib.Core.Bool.{cond}
 use mathlib.Core.List.{List, [], _++_}
@@ -32,7 +33,8 @@ balancedTimes rows key place i = cond (bit key i) (getD rows (6 * i + place) 0) 
 
 -- the selection that a key names of a table
 abbrev pub selectionIn : Table → ℕ → Selection
-selectionIn t key = record { key = key; constants = t .constants; unbalanced = t .unbalanced; balanced = getD (t .sizes) 0 0 }
+selectionIn t key =
+    record { key = key; constants = t .constants; unbalanced = t .unbalanced; balanced = getD (t .sizes) 0 0 }
 
 -- a key has room for so many unbalanced constants and balanced rows
 abbrev pub Fit : Selection → Type 0
@@ -44,7 +46,8 @@ runCount s = s .unbalanced + s .balanced
 
 -- how often a run names its atom at the place
 abbrev pub timesAt : List ℕ → Selection → ℕ → ℕ → ℕ
-timesAt rows s place = inTurn (s .unbalanced) (constantTimes rows (s .key) place) (balancedTimes rows (s .key) place)
+timesAt rows s place =
+    inTurn (s .unbalanced) (constantTimes rows (s .key) place) (balancedTimes rows (s .key) place)
 
 -- the atom of a run: the constant, or the new variable of the balanced row
 abbrev pub atomOf : Selection → ℕ → ℕ

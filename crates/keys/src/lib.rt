@@ -1,4 +1,5 @@
-// Keys of a solved pair: packed and taken apart by shifts and masks, weighed, and found on the list (document 01, "From sides to equations").
+// Keys of a solved pair: packed and taken apart by shifts and masks, weighed, and found on the list (document
+// 01, "From sides to equations").
 ghost use mathlib.Core.Path.{_≡_};
 ghost use Prim.Native.Nat.{_+_, _*_, _/_, _^_, _<_, _≤_};
 ghost use lib.ListN.{getD};
@@ -15,7 +16,8 @@ use table::GROUP;
 use table::Table;
 use table::VARIABLES;
 
-// A key has 16 low bits for the balanced rows, and above them 4 fields of 4 bits; the lowest constant's stands highest.
+// A key has 16 low bits for the balanced rows, and above them 4 fields of 4 bits; the lowest constant's
+// stands highest.
 pub const MASK_BITS: usize = 16;
 
 pub const INDEX_BITS: usize = 4;
@@ -35,7 +37,8 @@ fn takes(key: u32, i: usize) -> bool
     key >> i & 1 == 1
 }
 
-// The row index of constant number `g`: bits 28 to 31 for the lowest, for the next 24 to 27, then 20 to 23 and 16 to 19.
+// The row index of constant number `g`: bits 28 to 31 for the lowest, for the next 24 to 27, then 20 to 23
+// and 16 to 19.
 fn index_at(key: u32, g: usize) -> usize
     requires { ⌜ g < layout .constants ⌝ }
     ensures { λ r. ⌜ r ≡ fieldAt layout key g ⌝ }
@@ -82,8 +85,8 @@ fn wide(number: u8) -> usize
     number as usize
 }
 
-// How often a run of the selection names its atom at the place. There is a run for each unbalanced constant, ascending, as its taken row
-// says, and after them one for each balanced row, as that says if it is taken.
+// How often a run of the selection names its atom at the place. There is a run for each unbalanced constant,
+// ascending, as its taken row says, and after them one for each balanced row, as that says if it is taken.
 pub fn times(rows: &[u8; 480], selection: Selection, place: usize, run: usize) -> usize
     requires { ⌜ Fit selection × (run < runCount selection) × (place < 6) ⌝ }
     ensures { λ r. ⌜ r ≡ timesAt (now (rows .entry)) selection place run ⌝ }
@@ -133,7 +136,8 @@ fn weigh(rows: &[u8; 480], places: usize, selection: Selection) -> bool
     true
 }
 
-// How many values the field of constant number `g` may have: one for each of its rows; where there is no such constant only 0.
+// How many values the field of constant number `g` may have: one for each of its rows; where there is no such
+// constant only 0.
 fn field_limit(sizes: &[usize; 5], unbalanced: usize, g: usize) -> usize
     requires { ⌜ g < layout .constants ⌝ }
     ensures { λ r. ⌜ r ≡ fieldLimit (now (sizes .entry)) unbalanced g ⌝ }
@@ -155,7 +159,8 @@ enum Standing {
     NoneBefore(u64),
 }
 
-// Where the key stands. Up to the end of its block a field only grows, so that one which is too large stays so, and the block is left.
+// Where the key stands. Up to the end of its block a field only grows, so that one which is too large stays
+// so, and the block is left.
 fn stands(sizes: &[usize; 5], unbalanced: usize, key: u32) -> Standing
     requires { ⌜ (unbalanced ≤ layout .constants) × (getD (now sizes) 0 0 ≤ layout .rows) ⌝ }
     ensures { λ r. ⌜ ((G : Groups) → Sized (now (sizes .entry)) unbalanced G → Fits layout G → Stands G key r) ⌝ }
@@ -181,7 +186,8 @@ pub enum Next {
     None,
 }
 
-// The least admissible key of a tuple from a mask on: the sets of balanced rows are taken one after the other, in the order of their masks.
+// The least admissible key of a tuple from a mask on: the sets of balanced rows are taken one after the
+// other, in the order of their masks.
 fn least_of_tuple(table: Table, tuple: u32, from: u32) -> Next
     requires { ⌜ Within table × (tuple < 65536) × (from < 2 ^ layout .rows) ⌝ }
     ensures { λ r. ⌜ (HasTuple (groupsIn table) tuple → LeastWithin (fills (groupsIn table) (table .places)) (tuple * 2 ^ layout .rows + from)
@@ -200,7 +206,8 @@ fn least_of_tuple(table: Table, tuple: u32, from: u32) -> Next
     Next::None
 }
 
-// The least key on the list from a number on. The highest key may be listed, so that the number after it needs 64 bits.
+// The least key on the list from a number on. The highest key may be listed, so that the number after it
+// needs 64 bits.
 pub fn least_listed(table: Table, from: u64) -> Next
     requires { ⌜ Within table ⌝ }
     ensures { λ r. ⌜ OfItsList table (λ keys. NextFrom keys from r) ⌝ }

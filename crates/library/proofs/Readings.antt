@@ -27,7 +27,8 @@ first-none (a ∷ s) t e = absurd (omega (arith, ap length e))
 
 -- no bytes wait between a place and itself
 none-wait : (buffer : List ℕ) (r : Reader) → r .at ≡ r .filled → waiting buffer r ≡ []
-none-wait buffer r e = ap (λ (k : ℕ). take k (drop (r .at) buffer)) (let z : r .filled - r .at ≡ 0 = omega arith in z)
+none-wait buffer r e =
+    ap (λ (k : ℕ). take k (drop (r .at) buffer)) (let z : r .filled - r .at ≡ 0 = omega arith in z)
 
 -- the bytes that wait are the next ones, and those that wait behind them
 wait-behind : (buffer : List ℕ) (r : Reader) (size left : ℕ) → r .at + size ≤ r .filled →
@@ -38,20 +39,23 @@ wait-behind buffer r size left h =
     ap (λ (k : ℕ). take k (drop (r .at) buffer))
     (let e : r .filled - r .at ≡ size + (r .filled - (r .at + size)) = omega arith in e)
     ∙ take-add size (r .filled - (r .at + size)) (drop (r .at) buffer)
-    ∙ ap (λ (l : List ℕ). part (r .at) size buffer ++ take (r .filled - (r .at + size)) l) (drop-drop size (r .at) buffer)
+    ∙ ap (λ (l : List ℕ). part (r .at) size buffer ++ take (r .filled - (r .at + size)) l)
+    (drop-drop size (r .at) buffer)
 
 -- What is handed on of the bytes that wait is what comes next.
 pub hands-on : {buffer after : List ℕ} {r full r′ : Reader} {wanted : ℕ} {n : Next} → Wants (r .left) wanted
     → Waits buffer r wanted full after →
     Hands full n r′ → HandsOn buffer r n r′ after
 hands-on {buffer} {after} {r} {full} w waits (Hands.nothing none) =
-    HandsOn.the-end (waits .fits) (first-none (waiting buffer r) (waits .came) (waits .whole ∙ none-wait after full none))
+    HandsOn.the-end (waits .fits) (first-none (waiting buffer r) (waits .came)
+    (waits .whole ∙ none-wait after full none))
     (ended-if-short (waits .enough) (omega (arith, waiting-length (waits .fits), w .some)))
 hands-on w waits (Hands.remains some none-left) =
     HandsOn.remains (waits .came) (waits .fits) (waits .whole) (omega (arith, waiting-length (waits .fits)))
     (omega (arith, waits .same-left))
 hands-on {buffer} {after} {r} {full} {wanted = wanted} w waits (Hands.block {size} {left} some least one-less) =
-    HandsOn.a-block (waits .came) fits refl (waits .whole ∙ wait-behind after full size left inside) (kind (decLt size 512))
+    HandsOn.a-block (waits .came) fits refl (waits .whole ∙ wait-behind after full size left inside)
+    (kind (decLt size 512))
     (omega (arith, waits .same-left))
   where
     behind : Reader
@@ -85,10 +89,12 @@ pub record ABlock (r : Reader) (start size : ℕ) (r′ : Reader) (after : List 
 pub handed-block : {buffer after : List ℕ} {r r′ : Reader} {n : Next} {start size : ℕ}
     → HandsOn buffer r n r′ after → n ≡ next.Block start size →
     ABlock r start size r′ after
-handed-block {start = start} {size = size} (HandsOn.a-block {start = s} {size = z} came fits ends whole kind one-less) e =
+handed-block {start = start} {size = size}
+    (HandsOn.a-block {start = s} {size = z} came fits ends whole kind one-less) e =
     let same-start : s ≡ start = cc e in
     let same-size : z ≡ size = cc e in
     record { fits = fits; ends = omega arith; one-less = one-less }
 handed-block (HandsOn.the-end fits none ended) e = absurd (let z : _≡_ {A = ℕ} 0 1 = cc e in omega arith)
-handed-block (HandsOn.remains came fits whole some none-left) e = absurd (let z : _≡_ {A = ℕ} 0 1 = cc e in omega arith)
+handed-block (HandsOn.remains came fits whole some none-left) e =
+    absurd (let z : _≡_ {A = ℕ} 0 1 = cc e in omega arith)
 handed-block HandsOn.failed e = absurd (let z : _≡_ {A = ℕ} 0 1 = cc e in omega arith)

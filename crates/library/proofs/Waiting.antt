@@ -25,17 +25,20 @@ abbrev from-start : Reader → ℕ → Bool → Reader
 from-start r n ended = record { at = 0; filled = n; left = r .left; ended = ended }
 
 -- What waits for it is what waited before, moved to the start, and behind that what came.
-module _ (buffer mid after : List ℕ) (r : Reader) (n : ℕ) (fits : Fits buffer r) (same : length mid ≡ length buffer) where
+module _ (buffer mid after : List ℕ) (r : Reader) (n : ℕ) (fits : Fits buffer r)
+    (same : length mid ≡ length buffer) where
   module _ {kept : ℕ} (moved : take kept mid ≡ waiting buffer r) (g : Grown mid kept n after) where
     waits-on : (ended : Bool)
         → waiting buffer r ++ drop kept (take n after) ≡ waiting after (from-start r n ended)
     waits-on ended =
-        ap (λ (l : List ℕ). l ++ drop kept (take n after)) (sym moved ∙ sym (g .kept) ∙ sym (take-take kept n after (g .grown)))
+        ap (λ (l : List ℕ). l ++ drop kept (take n after))
+        (sym moved ∙ sym (g .kept) ∙ sym (take-take kept n after (g .grown)))
         ∙ take-append-drop kept (take n after)
         ∙ ap (λ (k : ℕ). take k after) (let e : n ≡ n - 0 = omega arith in e)
 
     fits-on : (ended : Bool) → Fits after (from-start r n ended)
-    fits-on ended = record { ordered = omega arith; within = g .within; room = omega (arith, g .same-length, fits .room) }
+    fits-on ended =
+        record { ordered = omega arith; within = g .within; room = omega (arith, g .same-length, fits .room) }
 
     pub ready-enough : {wanted : ℕ} → wanted ≤ n
         → Readies buffer r wanted (ready.Waits (from-start r n false)) after
@@ -49,7 +52,8 @@ module _ (buffer mid after : List ℕ) (r : Reader) (n : ℕ) (fits : Fits buffe
 pub ready-at-once : {buffer : List ℕ} {r : Reader} {wanted : ℕ} → Fits buffer r
     → (wanted ≤ r .filled - r .at) ⊎ (r .ended ≡ true) →
     Readies buffer r wanted (ready.Waits r) buffer
-ready-at-once {buffer} {r} {wanted} fits enough = Readies.waits [] fits (append-nil (waiting buffer r)) (longer enough) refl
+ready-at-once {buffer} {r} {wanted} fits enough =
+    Readies.waits [] fits (append-nil (waiting buffer r)) (longer enough) refl
   where
     longer : (wanted ≤ r .filled - r .at) ⊎ (r .ended ≡ true)
         → (wanted ≤ length (waiting buffer r)) ⊎ (r .ended ≡ true)

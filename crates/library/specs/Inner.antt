@@ -77,4 +77,5 @@ pub data Hands (r : Reader) : Next → Reader → Type 0 where
       0 < size →
       size ≡ min 512 (r .filled - r .at) →
       r .left ≡ left + 1 →
-      Hands r (next.Block (r .at) size) (record { at = r .at + size; filled = r .filled; left = left; ended = r .ended })
+      Hands r (next.Block (r .at) size) (record
+      { at = r .at + size; filled = r .filled; left = left; ended = r .ended })

@@ -22,7 +22,8 @@ pub written-values : {M : Mode} {L R : List ℕ} {G : Groups} {key n : ℕ} {out
     Writes M L R G key out o after → o ≡ written n → valuesOf M L R G key ≡ take (min n (length after)) after
 written-values (too-long long) e = absurd (let z : _≡_ {A = ℕ} 0 1 = cc e in omega arith)
 written-values {M} {L} {R} {G} {key} {n} {out} (fits short) e =
-    let size : min n (length after) ≡ length values = omega (arith, told-length, length-append values (drop (length values) out)) in
+    let size : min n (length after) ≡ length values =
+    omega (arith, told-length, length-append values (drop (length values) out)) in
     sym (take-append-seam values (drop (length values) out)) ∙ ap (λ (k : ℕ). take k after) (sym size)
   where
     values : List ℕ

@@ -18,5 +18,6 @@ module _ {size at : ℕ} {p : Place} (e : p ≡ At at) where
   inside-at h = subst (Inside size) e h
 
 -- a page is ready: it has no more keys than there are, and its table's numbers are within its room
-pub ready-page : {p : PageAnswer} {table : Table} {size written : ℕ} {more : Bool} → p ≡ Page written more → PageReady p table size → (written ≤ size) × Within table
+pub ready-page : {p : PageAnswer} {table : Table} {size written : ℕ} {more : Bool} → p ≡ Page written more
+    → PageReady p table size → (written ≤ size) × Within table
 ready-page {table = table} {size = size} e h = subst (λ q. PageReady q table size) e h

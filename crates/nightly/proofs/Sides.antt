@@ -25,23 +25,27 @@ use Rattle.nightly.specs.declared.ask.Asked.{Asked}
 -- the left side that Read gave is within its buffer
 pub left-fits : {block : List ℕ} {number : ℕ} {left right left′ right′ : List ℕ} (a : ReadAnswer) →
     ReadPromise block number left right (told a) left′ right′ → leftLength a ≤ length left′
-left-fits {left = left} (Sides m n) (is-read {s} {t} none v w) = omega (arith, length-append (leftSide s) (drop (length (leftSide s)) left))
+left-fits {left = left} (Sides m n) (is-read {s} {t} none v w) =
+    omega (arith, length-append (leftSide s) (drop (length (leftSide s)) left))
 left-fits (Refused why) p = omega arith
 
 -- and so is the right side
 pub right-fits : {block : List ℕ} {number : ℕ} {left right left′ right′ : List ℕ} (a : ReadAnswer) →
     ReadPromise block number left right (told a) left′ right′ → rightLength a ≤ length right′
-right-fits {right = right} (Sides m n) (is-read {s} {t} none v w) = omega (arith, length-append (rightSide t) (drop (length (rightSide t)) right))
+right-fits {right = right} (Sides m n) (is-read {s} {t} none v w) =
+    omega (arith, length-append (rightSide t) (drop (length (rightSide t)) right))
 right-fits (Refused why) p = omega arith
 
 -- a page has at most as many keys as are wanted
-pub page-fits : {M : Mode} {L R : List ℕ} {begin : Begin} {wanted : ℕ} {out out′ : List ℕ} {written : ℕ} {more : Bool} →
+pub page-fits : {M : Mode} {L R : List ℕ} {begin : Begin} {wanted : ℕ} {out out′ : List ℕ} {written : ℕ}
+    {more : Bool} →
     PagePromise M L R begin wanted out (outcome.page written more) out′ → written ≤ wantedCount wanted
 page-fits {M} {L} {R} {begin} {wanted} (is-page {G} none groups) =
     omega (arith, length-take (wantedCount wanted) (remaining begin (keys M layout L R G)))
 
 -- what Read gave and what was asked of its sides, together
-pub block-asked : {block : List ℕ} {number : ℕ} {keys keys′ left right : List ℕ} {answer : ReadAnswer} {a : Asked} {m n : ℕ} →
+pub block-asked : {block : List ℕ} {number : ℕ} {keys keys′ left right : List ℕ} {answer : ReadAnswer}
+    {a : Asked} {m n : ℕ} →
     ReadPromise block number (replicate 64 0) (replicate 64 0) (told answer) left right →
     m ≡ leftLength answer →
     n ≡ rightLength answer →
@@ -51,23 +55,28 @@ block-asked {block} {number} {keys} {keys′} {left} {right} {answer} {a} promis
     record {
       left = left;
       right = right;
-      read-promise = subst (λ x. ReadPromise block number (replicate 64 0) (replicate 64 0) (told x) left right) (sym (pair .same-read)) promise;
+      read-promise = subst (λ x. ReadPromise block number (replicate 64 0) (replicate 64 0) (told x) left
+          right) (sym (pair .same-read)) promise;
       pair =
-          subst (λ x. PairAsked x (take (leftLength x) left) (take (rightLength x) right) keys a keys′) (sym (pair .same-read))
+          subst (λ x. PairAsked x (take (leftLength x) left) (take (rightLength x) right) keys a keys′)
+          (sym (pair .same-read))
           (subst₂ (λ i j. PairAsked answer (take i left) (take j right) keys a keys′) l r pair);
     }
 
 -- the same number, said in another way
-pub numbered : {block : List ℕ} {m n : ℕ} {out out′ : List ℕ} {a : Asked} → m ≡ n → BlockAsked block m out a out′ → BlockAsked block n out a out′
+pub numbered : {block : List ℕ} {m n : ℕ} {out out′ : List ℕ} {a : Asked} → m ≡ n
+    → BlockAsked block m out a out′ → BlockAsked block n out a out′
 numbered {block} {out = out} {out′ = out′} {a = a} e asked = subst (λ k. BlockAsked block k out a out′) e asked
 
 -- what was asked is ready to be printed: a page fits its buffer, and the table's numbers are within its room
-pub asked-ready : {read : ReadAnswer} {L R out out′ : List ℕ} {a : Asked} {size : ℕ} → PairAsked read L R out a out′ → 200 ≤ size →
+pub asked-ready : {read : ReadAnswer} {L R out out′ : List ℕ} {a : Asked} {size : ℕ}
+    → PairAsked read L R out a out′ → 200 ≤ size →
     PageReady (a .page) (a .table) size
 asked-ready {L = L} {R = R} {out = out} {out′ = out′} {a = a} {size = size} asked enough = go (a .page) refl
   where
     go : (p : PageAnswer) → a .page ≡ p → PageReady p (a .table) size
     go (Page written more) e =
-        let few = page-fits (subst (λ q. PagePromise unifying L R start 200 out (toldPage q) out′) e (asked .page-promise)) in
+        let few = page-fits (subst (λ q. PagePromise unifying L R start 200 out (toldPage q) out′) e
+        (asked .page-promise)) in
         (omega (arith, few), asked .the-table e .within)
     go (page.Refused why) e = tt

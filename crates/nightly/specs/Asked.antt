@@ -1,4 +1,5 @@
--- What is asked of a block: Read, and of the sides that it gives Rows and Page. What each returned is what its own promise says.
+-- What is asked of a block: Read, and of the sides that it gives Rows and Page. What each returned is what
+-- its own promise says.
 use Prim.Native.Nat.{ℕ, _%_}
 use mathlib.Core.Path.{_≡_}
 use mathlib.Core.Bool.{Bool}
@@ -45,9 +46,11 @@ pub record BlockAsked (block : List ℕ) (number : ℕ) (keys : List ℕ) (a : A
   pub left : List ℕ
   pub right : List ℕ
   pub read-promise : ReadPromise block number (replicate 64 0) (replicate 64 0) (toldRead (a .read)) left right
-  pub pair : PairAsked (a .read) (take (leftLength (a .read)) left) (take (rightLength (a .read)) right) keys a keys-after
+  pub pair : PairAsked (a .read) (take (leftLength (a .read)) left) (take (rightLength (a .read)) right) keys
+      a keys-after
 
--- The counts after a block are those of the line that what was asked of it gives; its number is to be its place in the file, modulo 65,536.
+-- The counts after a block are those of the line that what was asked of it gives; its number is to be its
+-- place in the file, modulo 65,536.
 pub record BlockCounted (block : List ℕ) (before after : Counts) : Type 0 where
   pub asked : Asked
   pub keys-after : List ℕ

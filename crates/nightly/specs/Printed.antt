@@ -34,14 +34,18 @@ PageReady (Refused refusal) table keys = Unit {0}
 
 -- the variables with the values that a key gives them, of the pair that the table is of
 abbrev pub bindingsOf : Mode → List ℕ → List ℕ → Table → ℕ → List Binding
-bindingsOf M L R table key = bindings (value M (layout .new) L R (groupsIn table) (selectionAt layout (groupsIn table) key)) (variables M L R)
+bindingsOf M L R table key = bindings
+    (value M (layout .new) L R (groupsIn table) (selectionAt layout (groupsIn table) key)) (variables M L R)
 
 -- The line of a listed key is its substitution. A value that would be too long has none.
-pub data KeyLine (M : Mode) (L R : List ℕ) (table : Table) (key : ℕ) (out : List ℕ) (at : ℕ) : ℕ → List ℕ → Type 0 where
-  line : {next : ℕ} {after : List ℕ} → Put out at (substitutionLine (bindingsOf M L R table key)) next after → KeyLine M L R table key out at next after
+pub data KeyLine (M : Mode) (L R : List ℕ) (table : Table) (key : ℕ) (out : List ℕ) (at : ℕ) : ℕ → List ℕ
+    → Type 0 where
+  line : {next : ℕ} {after : List ℕ} → Put out at (substitutionLine (bindingsOf M L R table key)) next after
+      → KeyLine M L R table key out at next after
   too-long : LongValue M L R (groupsIn table) key → KeyLine M L R table key out at at out
 
 abbrev pub KeyPut : Table → ℕ → List ℕ → ℕ → ℕ → List ℕ → Type 0
 KeyPut table key out at next after =
-    (M : Mode) (L R : List ℕ) → M .empties ≡ false → TableOf M L R table → List·Memᴰ key (keys M layout L R (groupsIn table))
+    (M : Mode) (L R : List ℕ) → M .empties ≡ false → TableOf M L R table
+    → List·Memᴰ key (keys M layout L R (groupsIn table))
     → KeyLine M L R table key out at next after

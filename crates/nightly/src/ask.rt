@@ -14,7 +14,8 @@ ghost use Rattle.nightly.specs.Asked.{leftLength, rightLength, PairAsked
 // The first page is of 200.
 pub const PAGE: usize = 200;
 
-// What Read, Rows and Page returned for a block, and the pair's table, which says something where Page did not refuse.
+// What Read, Rows and Page returned for a block, and the pair's table, which says something where Page did
+// not refuse.
 pub struct Asked {
     pub read: ReadAnswer,
     pub rows: RowsAnswer,

@@ -1,4 +1,5 @@
--- The answer to a question's list of numbers, carried from one table to another and past numbers that are not given.
+-- The answer to a question's list of numbers, carried from one table to another and past numbers that are not
+-- given.
 use Prim.Native.Nat.{ℕ, _≤_}
 use native.Mathlib.Omega.{arith}
 use mathlib.Core.Path.{_≡_, refl, subst}
@@ -20,27 +21,36 @@ inside low high [] = true
 inside low high (n ∷ ns) = leb low n && (leb n high && inside low high ns)
 
 -- so each of its numbers lies between them
-pub numbers-between : (low high : ℕ) (ns : List ℕ) → inside low high ns ≡ true → {m : ℕ} → List·Memᴰ m ns → (low ≤ m) × (m ≤ high)
+pub numbers-between : (low high : ℕ) (ns : List ℕ) → inside low high ns ≡ true → {m : ℕ} → List·Memᴰ m ns
+    → (low ≤ m) × (m ≤ high)
 numbers-between low high [] e mem = absurd (List·Memᴰ·not-nil mem)
 numbers-between low high (n ∷ ns) e (List·Memᴰ·head same) =
     let first = and-true (leb low n) (leb n high && inside low high ns) e in
-    omega (arith, leb-true low n (first .0), leb-true n high (and-true (leb n high) (inside low high ns) (first .1) .0))
+    omega (
+      arith,
+      leb-true low n (first .0),
+      leb-true n high (and-true (leb n high) (inside low high ns) (first .1) .0),
+    )
 numbers-between low high (n ∷ ns) e (List·Memᴰ·tail mem) =
     let first = and-true (leb low n) (leb n high && inside low high ns) e in
     numbers-between low high ns (and-true (leb n high) (inside low high ns) (first .1) .1) mem
 
 module _ {Given Other : ℕ → Type 0} where
   -- where two tables agree on a list's numbers, its first number is the same
-  pub first-carried : {ns : List ℕ} {n : ℕ} → ((m : ℕ) → List·Memᴰ m ns → Given m ↔ Other m) → First Given ns n → First Other ns n
+  pub first-carried : {ns : List ℕ} {n : ℕ} → ((m : ℕ) → List·Memᴰ m ns → Given m ↔ Other m)
+      → First Given ns n → First Other ns n
   first-carried agree (here given) = here (agree _ (List·Memᴰ·head refl) .0 given)
   first-carried agree (later skip first) =
-      later (λ given. skip (agree _ (List·Memᴰ·head refl) .1 given)) (first-carried (λ m mem. agree m (List·Memᴰ·tail mem)) first)
+      later (λ given. skip (agree _ (List·Memᴰ·head refl) .1 given))
+      (first-carried (λ m mem. agree m (List·Memᴰ·tail mem)) first)
 
   -- and where none of them is given in the one, none is in the other
-  pub none-carried : {ns : List ℕ} → ((m : ℕ) → List·Memᴰ m ns → Other m → Given m) → NoneOf Given ns → NoneOf Other ns
+  pub none-carried : {ns : List ℕ} → ((m : ℕ) → List·Memᴰ m ns → Other m → Given m) → NoneOf Given ns
+      → NoneOf Other ns
   none-carried back end = end
   none-carried back (also skip none) =
-      also (λ given. skip (back _ (List·Memᴰ·head refl) given)) (none-carried (λ m mem. back m (List·Memᴰ·tail mem)) none)
+      also (λ given. skip (back _ (List·Memᴰ·head refl) given))
+      (none-carried (λ m mem. back m (List·Memᴰ·tail mem)) none)
 
 module _ {Given : ℕ → Type 0} where
   -- the first number of a list's end is the list's, where none before it is given
@@ -82,8 +92,10 @@ elsewhere n [] = true
 elsewhere n (m ∷ ms) = not (eqb n m) && elsewhere n ms
 
 -- where the first number is none of a list's front, none of the front is given
-pub first-past : {Given : ℕ → Type 0} (ms ns : List ℕ) {n : ℕ} → elsewhere n ms ≡ true → First Given (ms ++ ns) n → NoneOf Given ms
+pub first-past : {Given : ℕ → Type 0} (ms ns : List ℕ) {n : ℕ} → elsewhere n ms ≡ true
+    → First Given (ms ++ ns) n → NoneOf Given ms
 first-past [] ns e first = end
 first-past (m ∷ ms) ns {n} e (here given) =
     absurd (eqb-false n n (not-true (eqb n n) (and-true (not (eqb n n)) (elsewhere n ms) e .0)) refl)
-first-past (m ∷ ms) ns {n} e (later skip first) = also skip (first-past ms ns (and-true (not (eqb n m)) (elsewhere n ms) e .1) first)
+first-past (m ∷ ms) ns {n} e (later skip first) =
+    also skip (first-past ms ns (and-true (not (eqb n m)) (elsewhere n ms) e .1) first)

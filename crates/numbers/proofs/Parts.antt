@@ -1,5 +1,5 @@
--- The table of a question on two sides, by what its rows speak of: 7 to 12 of the sides, 13 to 15 of the list, 16 of a lent buffer and 17 of the
--- values. "Order: 16 first, then by number."
+-- The table of a question on two sides, by what its rows speak of: 7 to 12 of the sides, 13 to 15 of the
+-- list, 16 of a lent buffer and 17 of the values. "Order: 16 first, then by number."
 use Prim.Native.Nat.{ℕ, _<_, _≤_}
 use native.Mathlib.Omega.{arith}
 use mathlib.Core.Path.{_≡_, refl}
@@ -49,7 +49,8 @@ pub record MadeOf (Given OfSides OfList : ℕ → Type 0) (size room : ℕ) (Lon
   pub of-buffer : size < room → Given 16
   pub row-of : {n : ℕ} → Given n → Row OfSides OfList size room Long n
 
-module _ {Given OfSides OfList : ℕ → Type 0} {size room : ℕ} {Long : Type 0} (made : MadeOf Given OfSides OfList size room Long) where
+module _ {Given OfSides OfList : ℕ → Type 0} {size room : ℕ} {Long : Type 0}
+    (made : MadeOf Given OfSides OfList size room Long) where
   pub given-list : {n : ℕ} → (13 ≤ n) × (n ≤ 15) → Given n → OfList n
   given-list between given = row-of-list between (made .row-of given)
 
@@ -66,25 +67,31 @@ module _ {Given OfSides OfList : ℕ → Type 0} {size room : ℕ} {Long : Type 
 
     -- the sides' numbers are given where the sides give them, the list's where the list does
     sides-agree : (sides : List ℕ) → inside 7 12 sides ≡ true → (n : ℕ) → List·Memᴰ n sides → OfSides n ↔ Given n
-    sides-agree sides these n m = (made .of-sides, λ given. row-of-sides (numbers-between 7 12 sides these m .1) (made .row-of given))
+    sides-agree sides these n m =
+        (made .of-sides, λ given. row-of-sides (numbers-between 7 12 sides these m .1) (made .row-of given))
 
     list-agrees : (list : List ℕ) → inside 13 15 list ≡ true → (n : ℕ) → List·Memᴰ n list → OfList n ↔ Given n
     list-agrees list these n m = (made .of-list, given-list (numbers-between 13 15 list these m))
 
     -- then the first number of the sides
-    pub first-of-sides : {sides : List ℕ} {n : ℕ} → inside 7 12 sides ≡ true → (others : List ℕ) → First OfSides sides n
+    pub first-of-sides : {sides : List ℕ} {n : ℕ} → inside 7 12 sides ≡ true → (others : List ℕ)
+        → First OfSides sides n
         → First Given (16 ∷ (sides ++ others)) n
-    first-of-sides {sides} these others first = later not-16 (first-before others (first-carried (sides-agree sides these) first))
+    first-of-sides {sides} these others first =
+        later not-16 (first-before others (first-carried (sides-agree sides these) first))
 
-    pub none-of-sides : {sides : List ℕ} → inside 7 12 sides ≡ true → NoneOf OfSides sides → NoneOf Given (16 ∷ sides)
+    pub none-of-sides : {sides : List ℕ} → inside 7 12 sides ≡ true → NoneOf OfSides sides
+        → NoneOf Given (16 ∷ sides)
     none-of-sides {sides} these none = also not-16 (none-carried (λ n m. sides-agree sides these n m .1) none)
 
     module _ {sides : List ℕ} (these : inside 7 12 sides ≡ true) (none : NoneOf OfSides sides) where
       -- then the first of the list
-      pub first-of-list : {list : List ℕ} {n : ℕ} → inside 13 15 list ≡ true → (others : List ℕ) → First OfList list n
+      pub first-of-list : {list : List ℕ} {n : ℕ} → inside 13 15 list ≡ true → (others : List ℕ)
+          → First OfList list n
           → First Given (16 ∷ (sides ++ (list ++ others))) n
       first-of-list {list} those others first =
-          first-after (none-of-sides these none) (first-before others (first-carried (list-agrees list those) first))
+          first-after (none-of-sides these none)
+          (first-before others (first-carried (list-agrees list those) first))
 
       none-of-list : {list : List ℕ} → inside 13 15 list ≡ true → NoneOf OfList list → NoneOf Given list
       none-of-list {list} those nothing = none-carried (λ n m. list-agrees list those n m .1) nothing
@@ -92,7 +99,9 @@ module _ {Given OfSides OfList : ℕ → Type 0} {size room : ℕ} {Long : Type 
       -- and then what is left
       module _ {list others : List ℕ} (those : inside 13 15 list ≡ true) (nothing : NoneOf OfList list) where
         pub first-of-others : {n : ℕ} → First Given others n → First Given (16 ∷ (sides ++ (list ++ others))) n
-        first-of-others first = first-after (none-of-sides these none) (first-after (none-of-list those nothing) first)
+        first-of-others first =
+            first-after (none-of-sides these none) (first-after (none-of-list those nothing) first)
 
         pub none-at-all : NoneOf Given others → NoneOf Given (16 ∷ (sides ++ (list ++ others)))
-        none-at-all none-left = none-after (none-of-sides these none) (none-after (none-of-list those nothing) none-left)
+        none-at-all none-left =
+            none-after (none-of-sides these none) (none-after (none-of-list those nothing) none-left)

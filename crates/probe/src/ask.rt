@@ -1,4 +1,5 @@
-// The questions, each with the buffers that it is lent. An answer is put behind the answers so far, and where it ends is given.
+// The questions, each with the buffers that it is lent. An answer is put behind the answers so far, and where
+// it ends is given.
 use crate::answer::of_page;
 use crate::answer::of_read;
 use crate::answer::of_rows;

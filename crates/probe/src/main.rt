@@ -1,5 +1,6 @@
-// Answers raw questions, for the comparison with a second solver (second/PROTOCOL.md): reads questions from standard input
-// until it ends and writes to standard output what each answered, with every byte of the lent buffers.
+// Answers raw questions, for the comparison with a second solver (second/PROTOCOL.md): reads questions from
+// standard input until it ends and writes to standard output what each answered, with every byte of the lent
+// buffers.
 mod answer;
 mod ask;
 mod question;

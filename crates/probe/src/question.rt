@@ -1,8 +1,9 @@
 // A question's header, 20 bytes, taken apart.
 use runs::two_bytes;
 
-// What is asked: which question, the byte that fills the lent buffers, the lengths of what follows, the number that the
-// question takes, whether a page begins after it, how many keys are wanted, and the lengths of the lent buffers.
+// What is asked: which question, the byte that fills the lent buffers, the lengths of what follows, the
+// number that the question takes, whether a page begins after it, how many keys are wanted, and the lengths
+// of the lent buffers.
 pub struct Question {
     pub kind: u8,
     pub fill: u8,

@@ -31,10 +31,12 @@ pub tried-none : {rows vector : List ℕ} → Tried rows vector 0
 tried-none = record { none-lower = λ i h. absurd (omega arith) }
 
 -- when all rows have been tried, none is lower
-pub tried-all : {rows vector : List ℕ} {count row : ℕ} → Tried rows vector row → count ≤ row → Lower (rowsOf (length vector) count rows) vector → ⊥
+pub tried-all : {rows vector : List ℕ} {count row : ℕ} → Tried rows vector row → count ≤ row
+    → Lower (rowsOf (length vector) count rows) vector → ⊥
 tried-all {rows} {vector} {count} {row} tried all lower =
     let x : Index (length vector) count rows (lower .row) = index-of (length vector) count rows (lower .found) in
-    tried .none-lower (x .index) (let h : x .index < row = omega (arith, x .within) in h) (subst (λ r. r ≼ vector) (x .same) (lower .below))
+    tried .none-lower (x .index) (let h : x .index < row = omega (arith, x .within) in h)
+    (subst (λ r. r ≼ vector) (x .same) (lower .below))
 
 entry : (k : ℕ) (rows : List ℕ) (row j : ℕ) → j < k → getD (rowAt k rows row) j 0 ≡ getD rows (row * k + j) 0
 entry k rows row j h = getD-take k (drop (row * k) rows) j 0 h ∙ getD-drop (row * k) rows j 0
@@ -45,27 +47,39 @@ module _ {rows vector : List ℕ} {row : ℕ} where
   compared-none = record { within = omega arith; fine = λ j h. absurd (omega arith) }
 
   -- one place more
-  pub compared-more : {place : ℕ} → Compared rows vector row place → place < length vector → getD rows (row * length vector + place) 0 ≤ getD vector place 0
+  pub compared-more : {place : ℕ} → Compared rows vector row place → place < length vector
+      → getD rows (row * length vector + place) 0 ≤ getD vector place 0
       → Compared rows vector row (place + 1)
   compared-more {place} d h le =
-      record { within = omega arith; fine = below-more (λ j. getD rows (row * length vector + j) 0 ≤ getD vector j 0) place (d .fine) le }
+      record {
+        within = omega arith;
+        fine = below-more (λ j. getD rows (row * length vector + j) 0 ≤ getD vector j 0) place (d .fine) le;
+      }
 
   -- a row that is at or below in all places is lower
-  pub compared-all : {count place : ℕ} → Compared rows vector row place → place ≡ length vector → row < count → count * length vector ≤ length rows
+  pub compared-all : {count place : ℕ} → Compared rows vector row place → place ≡ length vector → row < count
+      → count * length vector ≤ length rows
       → Lower (rowsOf (length vector) count rows) vector
   compared-all {count} {place} d all more room =
       record {
         row = rowAt (length vector) rows row;
         found = row-found (length vector) count rows row more;
         below = ≼-entries (rowAt (length vector) rows row) vector whole
-            (λ j h. subst (λ n. n ≤ getD vector j 0) (sym (entry (length vector) rows row j h)) (d .fine j (let h′ : j < place = omega arith in h′)));
+            (λ j h. subst (λ n. n ≤ getD vector j 0) (sym (entry (length vector) rows row j h))
+            (d .fine j (let h′ : j < place = omega arith in h′)));
       }
     where
       whole : length (rowAt (length vector) rows row) ≡ length vector
-      whole = omega (arith, length-take (length vector) (drop (row * length vector) rows), length-drop (row * length vector) rows, row-within (length vector) more)
+      whole = omega (
+        arith,
+        length-take (length vector) (drop (row * length vector) rows),
+        length-drop (row * length vector) rows,
+        row-within (length vector) more,
+      )
 
   -- a row that is above in one place is not
-  pub tried-more : Tried rows vector row → {place : ℕ} → place < length vector → getD vector place 0 < getD rows (row * length vector + place) 0
+  pub tried-more : Tried rows vector row → {place : ℕ} → place < length vector
+      → getD vector place 0 < getD rows (row * length vector + place) 0
       → Tried rows vector (row + 1)
   tried-more tried {place} h above =
       record {

@@ -17,7 +17,8 @@ first-row k bytes = ap (λ n. take k (drop n bytes)) (zero-mul k)
 
 next-row : (k : ℕ) (bytes : List ℕ) (i : ℕ) → rowAt k (drop k bytes) i ≡ rowAt k bytes (suc i)
 next-row k bytes i =
-    ap (take k) (drop-drop (i * k) k bytes ∙ ap (λ n. drop n bytes) (let e : k + i * k ≡ suc i * k = omega (arith, suc-mul i k) in e))
+    ap (take k) (drop-drop (i * k) k bytes
+    ∙ ap (λ n. drop n bytes) (let e : k + i * k ≡ suc i * k = omega (arith, suc-mul i k) in e))
 
 -- n rows are n
 pub length-rows : (k n : ℕ) (bytes : List ℕ) → length (rowsOf k n bytes) ≡ n
@@ -33,11 +34,16 @@ pub record Index (k n : ℕ) (bytes row : List ℕ) : Type 0 where
 -- it can be found from the front
 pub index-of : (k n : ℕ) (bytes : List ℕ) {row : List ℕ} → List·Memᴰ row (rowsOf k n bytes) → Index k n bytes row
 index-of k zero bytes member = absurd (elim member [ ])
-index-of k (suc n) bytes (List·Memᴰ·head e) = record { index = 0; within = omega arith; same = e ∙ sym (first-row k bytes) }
+index-of k (suc n) bytes (List·Memᴰ·head e) =
+    record { index = 0; within = omega arith; same = e ∙ sym (first-row k bytes) }
 index-of k (suc n) bytes {row} (List·Memᴰ·tail member) = one-more (index-of k n (drop k bytes) member)
   where
     one-more : Index k n (drop k bytes) row → Index k (suc n) bytes row
-    one-more x = record { index = suc (x .index); within = omega (arith, x .within); same = x .same ∙ next-row k bytes (x .index) }
+    one-more x = record {
+      index = suc (x .index);
+      within = omega (arith, x .within);
+      same = x .same ∙ next-row k bytes (x .index);
+    }
 
 -- the row at an index below their number is found
 pub row-found : (k n : ℕ) (bytes : List ℕ) (i : ℕ) → i < n → List·Memᴰ (rowAt k bytes i) (rowsOf k n bytes)
@@ -51,14 +57,17 @@ pub rows-snoc : (k n : ℕ) (bytes : List ℕ) → rowsOf k (suc n) bytes ≡ ro
 rows-snoc k zero bytes = ap {B = List (List ℕ)} (λ r. r ∷ []) (sym (first-row k bytes))
 rows-snoc k (suc n) bytes =
     ap {B = List (List ℕ)} (λ rs. take k bytes ∷ rs)
-    (rows-snoc k n (drop k bytes) ∙ ap {B = List (List ℕ)} (λ r. rowsOf k n (drop k bytes) ++ (r ∷ [])) (next-row k bytes n))
+    (rows-snoc k n (drop k bytes) ∙ ap {B = List (List ℕ)} (λ r. rowsOf k n (drop k bytes) ++ (r ∷ []))
+    (next-row k bytes n))
 
 -- rows that stand in the first part of the bytes
-rows-append : (k n : ℕ) (first others : List ℕ) → n * k ≤ length first → rowsOf k n (first ++ others) ≡ rowsOf k n first
+rows-append : (k n : ℕ) (first others : List ℕ) → n * k ≤ length first
+    → rowsOf k n (first ++ others) ≡ rowsOf k n first
 rows-append k zero first others room = refl
 rows-append k (suc n) first others room =
     ap₂ {C = List (List ℕ)} (λ r rs. r ∷ rs) (take-append-le k first others within)
-    (ap (rowsOf k n) (drop-append-le k first others within) ∙ rows-append k n (drop k first) others (let h : n * k ≤ length (drop k first) = later in h))
+    (ap (rowsOf k n) (drop-append-le k first others within)
+    ∙ rows-append k n (drop k first) others (let h : n * k ≤ length (drop k first) = later in h))
   where
     within : k ≤ length first
     within = omega (arith, suc-mul n k)

@@ -26,12 +26,14 @@ module _ (E : Equation) {v : List ℕ} (vector : length v ≡ length (E .left)) 
   not-minimal : Lower rows v → Minimal E v → ⊥
   not-minimal lower minimal =
       let row = found .only (lower .row) (lower .found) in
-      let itself : v ≺ v = subst (λ w. w ≺ v) (minimal .least .no-other (lower .row) (lower .below) (row .0 .least .has)) (row .1) in
+      let itself : v ≺ v = subst (λ w. w ≺ v)
+      (minimal .least .no-other (lower .row) (lower .below) (row .0 .least .has)) (row .1) in
       ≺-asymmetric itself itself
 
   -- a lower row says that the vector is none
   upto-lower : Lower rows v → Exactly (RowUpto E v) rows
-  upto-lower lower = exactly-same (λ w. (λ b. (b .0, before-upto (b .1)), λ u. (u .0, before (u .0) (upto-cases (u .1))))) found
+  upto-lower lower = exactly-same (λ w.
+      (λ b. (b .0, before-upto (b .1)), λ u. (u .0, before (u .0) (upto-cases (u .1))))) found
     where
       before : {w : List ℕ} → Minimal E w → (w ≺ v) ⊎ Begins v w → w ≺ v
       before minimal (inl h) = h
@@ -59,7 +61,11 @@ module _ (E : Equation) {v : List ℕ} (vector : length v ≡ length (E .left)) 
 
           by-order : (g ≺ v) ⊎ (g ≡ v) → u ≡ v
           by-order (inl before) =
-              absurd (none-lower (record { row = g; found = found .all g (minimal-g, before); below = ≼-trans (b .below) below }))
+              absurd (none-lower (record {
+                row = g;
+                found = found .all g (minimal-g, before);
+                below = ≼-trans (b .below) below;
+              }))
           by-order (inr same) = ≼-equal below (sum-mono (subst (λ w. w ≼ u) same (b .below)))
 
   -- so the rows up to it are those before it and the vector itself
@@ -74,23 +80,28 @@ module _ (E : Equation) {v : List ℕ} (vector : length v ≡ length (E .left)) 
     where
       only : (w : List ℕ) → List·Memᴰ w rows ⊎ List·Memᴰ w (v ∷ []) → RowUpto E v w
       only w (inl m) = (found .only w m .0, before-upto (found .only w m .1))
-      only w (inr m) = subst (RowUpto E v) (sym (List·Memᴰ·eq-of-singleton m)) (minimal-unless none-lower, begins-upto v)
+      only w (inr m) =
+          subst (RowUpto E v) (sym (List·Memᴰ·eq-of-singleton m)) (minimal-unless none-lower, begins-upto v)
 
       all : (w : List ℕ) → Minimal E w → (w ≺ v) ⊎ Begins v w → List·Memᴰ w (rows ++ (v ∷ []))
       all w minimal (inl before) = Memᴰ·append-left (v ∷ []) (found .all w (minimal, before))
-      all w minimal (inr b) = Memᴰ·append-right rows (List·Memᴰ·head (begins-whole v (minimal .vector ∙ sym vector) b))
+      all w minimal (inr b) =
+          Memᴰ·append-right rows (List·Memᴰ·head (begins-whole v (minimal .vector ∙ sym vector) b))
 
 -- where the number is at most the limit, the bytes hold exactly the rows
-found-few : {limit places : ℕ} {Row : List ℕ → Type 0} {bytes : List ℕ} {n : ℕ} → n ≤ limit → Holds limit places Row bytes n
+found-few : {limit places : ℕ} {Row : List ℕ → Type 0} {bytes : List ℕ} {n : ℕ} → n ≤ limit
+    → Holds limit places Row bytes n
     → Exactly Row (rowsOf places n bytes)
 found-few fits (few small found) = found
 found-few fits (more ascending only many) = absurd (omega arith)
 
 -- The vector has been compared with the rows found: the three ways on.
 module _ {limit n : ℕ} {v bytes : List ℕ} (fits : n ≤ limit) where
-  rows-of-vector : (E : Equation) → length v ≡ length (E .left) → Holds limit (length (E .left)) (RowBefore E v) bytes n
+  rows-of-vector : (E : Equation) → length v ≡ length (E .left)
+      → Holds limit (length (E .left)) (RowBefore E v) bytes n
       → Exactly (RowBefore E v) (rowsOf (length v) n bytes)
-  rows-of-vector E vector held = subst (λ k. Exactly (RowBefore E v) (rowsOf k n bytes)) (sym vector) (found-few fits held)
+  rows-of-vector E vector held =
+      subst (λ k. Exactly (RowBefore E v) (rowsOf k n bytes)) (sym vector) (found-few fits held)
 
   -- a row found is lower: nothing changes
   pub keeps-lower : Lower (rowsOf (length v) n bytes) v → Keeps limit v bytes n bytes n
@@ -98,12 +109,14 @@ module _ {limit n : ℕ} {v bytes : List ℕ} (fits : n ≤ limit) where
       record {
         counted = omega arith;
         found = λ E vector solves held.
-            few fits (subst (λ k. Exactly (RowUpto E v) (rowsOf k n bytes)) vector (upto-lower E vector solves (rows-of-vector E vector held) lower));
+            few fits (subst (λ k. Exactly (RowUpto E v) (rowsOf k n bytes)) vector
+            (upto-lower E vector solves (rows-of-vector E vector held) lower));
       }
 
   module _ (none-lower : Lower (rowsOf (length v) n bytes) v → ⊥) where
     next : (E : Equation) → length v ≡ length (E .left) → Solves E v
-        → Holds limit (length (E .left)) (RowBefore E v) bytes n → Exactly (RowUpto E v) (rowsOf (length v) n bytes ++ (v ∷ []))
+        → Holds limit (length (E .left)) (RowBefore E v) bytes n
+        → Exactly (RowUpto E v) (rowsOf (length v) n bytes ++ (v ∷ []))
     next E vector solves held = upto-more E vector solves (rows-of-vector E vector held) none-lower
 
     -- none is, and there is no room: it is only counted
@@ -116,27 +129,32 @@ module _ {limit n : ℕ} {v bytes : List ℕ} (fits : n ≤ limit) where
         found : (E : Equation) → length v ≡ length (E .left) → Solves E v → Advances E v limit bytes n bytes (n + 1)
         found E vector solves held =
             let rows = next E vector solves held in
-            subst (Holds limit (length (E .left)) (RowUpto E v) bytes) (let e : suc limit ≡ n + 1 = omega arith in e)
+            subst (Holds limit (length (E .left)) (RowUpto E v) bytes)
+            (let e : suc limit ≡ n + 1 = omega arith in e)
             (more (rows .ascending) (rows .only) long)
 
     -- none is, and it is put behind them
     pub keeps-put : (n ≡ limit → ⊥) → n * length v ≤ length bytes → {bytes′ : List ℕ}
-        → bytes′ ≡ take (n * length v) bytes ++ v ++ drop (n * length v + length v) bytes → Keeps limit v bytes n bytes′ (n + 1)
+        → bytes′ ≡ take (n * length v) bytes ++ v ++ drop (n * length v + length v) bytes
+        → Keeps limit v bytes n bytes′ (n + 1)
     keeps-put room-left room {bytes′} put = record { counted = omega arith; found = found }
       where
         rows′ : rowsOf (length v) (suc n) bytes′ ≡ rowsOf (length v) n bytes ++ (v ∷ [])
         rows′ = ap (rowsOf (length v) (suc n)) put ∙ rows-put (length v) n bytes v room refl
 
-        found : (E : Equation) → length v ≡ length (E .left) → Solves E v → Advances E v limit bytes n bytes′ (n + 1)
+        found : (E : Equation) → length v ≡ length (E .left) → Solves E v
+            → Advances E v limit bytes n bytes′ (n + 1)
         found E vector solves held =
             subst (Holds limit (length (E .left)) (RowUpto E v) bytes′) (sym (add-one n))
             (few (let h : suc n ≤ limit = omega arith in h)
-            (subst (λ k. Exactly (RowUpto E v) (rowsOf k (suc n) bytes′)) vector (rw rows′ (next E vector solves held))))
+            (subst (λ k. Exactly (RowUpto E v) (rowsOf k (suc n) bytes′)) vector
+            (rw rows′ (next E vector solves held))))
 
 -- From one prefix to the next.
 
 -- rows of one kind are those of another that has the same members
-holds-same : {limit places : ℕ} {Row Row′ : List ℕ → Type 0} {bytes : List ℕ} {n : ℕ} → ((v : List ℕ) → Row v ↔ Row′ v)
+holds-same : {limit places : ℕ} {Row Row′ : List ℕ → Type 0} {bytes : List ℕ} {n : ℕ}
+    → ((v : List ℕ) → Row v ↔ Row′ v)
     → Holds limit places Row bytes n → Holds limit places Row′ bytes n
 holds-same same (few small found) = few small (exactly-same same found)
 holds-same same (more ascending only many) = more ascending (λ v m. same v .0 (only v m)) many
@@ -152,25 +170,41 @@ module _ {E : Equation} {limit : ℕ} (p : List ℕ) {bytes : List ℕ} {n : ℕ
 
   -- no row has a number below the first after the prefix
   pub from-first : (first : ℕ) → ((m : ℕ) (rest : List ℕ) → Minimal E (p ++ m ∷ rest) → first ≤ m)
-      → Holds limit (length (E .left)) (RowBefore E p) bytes n → Holds limit (length (E .left)) (RowBefore E (p ++ first ∷ [])) bytes n
+      → Holds limit (length (E .left)) (RowBefore E p) bytes n
+      → Holds limit (length (E .left)) (RowBefore E (p ++ first ∷ [])) bytes n
   from-first first none =
-      holds-same (λ v. (λ b. (b .0, before-longer (first ∷ []) (b .1)), λ b. (b .0, before (b .0) (before-number-cases p first (b .1)))))
+      holds-same (λ v. (
+        λ b. (b .0, before-longer (first ∷ []) (b .1)),
+        λ b.
+            (b .0, before (b .0) (before-number-cases p first (b .1))),
+      ))
     where
       before : {v : List ℕ} → Minimal E v → (v ≺ p) ⊎ Smaller p first v → v ≺ p
       before minimal (inl h) = h
-      before minimal (inr s) = absurd (omega (arith, none (s .number) (s .rest) (subst (Minimal E) (s .whole) minimal), s .smaller))
+      before minimal (inr s) =
+          absurd (omega (arith, none (s .number) (s .rest) (subst (Minimal E) (s .whole) minimal), s .smaller))
 
   -- the rows up to a number after the prefix are those before the next number
   pub to-next : (m : ℕ) → Holds limit (length (E .left)) (RowUpto E (p ++ m ∷ [])) bytes n
       → Holds limit (length (E .left)) (RowBefore E (p ++ (m + 1) ∷ [])) bytes n
   to-next m h =
-      rw add-one (holds-same (λ v. (λ u. (u .0, upto-before-next p m (u .1)), λ b. (b .0, before-next-upto p m (b .1)))) h)
+      rw add-one (holds-same (λ v. (
+        λ u. (u .0, upto-before-next p m (u .1)),
+        λ b.
+            (b .0, before-next-upto p m (b .1)),
+      )) h)
 
   -- no row has a number above the most after the prefix
-  pub to-most : length p < length (E .left) → (most : ℕ) → ((m : ℕ) (rest : List ℕ) → Minimal E (p ++ m ∷ rest) → m ≤ most)
-      → Holds limit (length (E .left)) (RowUpto E (p ++ most ∷ [])) bytes n → Holds limit (length (E .left)) (RowUpto E p) bytes n
+  pub to-most : length p < length (E .left) → (most : ℕ)
+      → ((m : ℕ) (rest : List ℕ) → Minimal E (p ++ m ∷ rest) → m ≤ most)
+      → Holds limit (length (E .left)) (RowUpto E (p ++ most ∷ [])) bytes n
+      → Holds limit (length (E .left)) (RowUpto E p) bytes n
   to-most short most none =
-      holds-same (λ v. (λ u. (u .0, upto-shorter p (most ∷ []) (u .1)), λ u. (u .0, upto (u .0) (upto-cases (u .1)))))
+      holds-same (λ v. (
+        λ u. (u .0, upto-shorter p (most ∷ []) (u .1)),
+        λ u.
+            (u .0, upto (u .0) (upto-cases (u .1))),
+      ))
     where
       at-number : (rest : List ℕ) → Minimal E (p ++ rest) → Upto (p ++ most ∷ []) (p ++ rest)
       at-number [] minimal = absurd (omega (arith, minimal .vector, length-append p []))
@@ -178,4 +212,5 @@ module _ {E : Equation} {limit : ℕ} (p : List ℕ) {bytes : List ℕ} {n : ℕ
 
       upto : {v : List ℕ} → Minimal E v → (v ≺ p) ⊎ Begins p v → Upto (p ++ most ∷ []) v
       upto minimal (inl h) = before-upto (before-longer (most ∷ []) h)
-      upto minimal (inr b) = subst (Upto (p ++ most ∷ [])) (sym (b .whole)) (at-number (b .rest) (subst (Minimal E) (b .whole) minimal))
+      upto minimal (inr b) = subst (Upto (p ++ most ∷ [])) (sym (b .whole))
+          (at-number (b .rest) (subst (Minimal E) (b .whole) minimal))

@@ -38,18 +38,22 @@ spent-other : (b : Bool) (n s : ℕ) {most : ℕ} → cond b 0 1 * n + s ≤ mos
 spent-other true n s h = omega arith
 spent-other false n s h = omega arith
 
-within-own : (b : Bool) (n s t : ℕ) {up down : ℕ} → cond b 1 0 * n + s ≤ up → cond b 0 1 * n + t ≤ down → n ≤ cond b up down
+within-own : (b : Bool) (n s t : ℕ) {up down : ℕ} → cond b 1 0 * n + s ≤ up → cond b 0 1 * n + t ≤ down
+    → n ≤ cond b up down
 within-own true n s t h h′ = omega arith
 within-own false n s t h h′ = omega arith
 
-module _ {E : Equation} {p left right : List ℕ} {l r : ℕ} {at : Standing} (s : Stands E p (l ∷ left) (r ∷ right) at) where
+module _ {E : Equation} {p left right : List ℕ} {l r : ℕ} {at : Standing}
+    (s : Stands E p (l ∷ left) (r ∷ right) at) where
   -- in a row, the next number is within the place's budget
   number-within : (n : ℕ) (rest : List ℕ) → Minimal E (p ++ n ∷ rest) → n ≤ budgetOf at l r
   number-within n rest minimal =
-      within-own (leb r l) n (upSum left right rest) (downSum left right rest) (s .within-up (n ∷ rest) minimal) (s .within-down (n ∷ rest) minimal)
+      within-own (leb r l) n (upSum left right rest) (downSum left right rest)
+      (s .within-up (n ∷ rest) minimal) (s .within-down (n ∷ rest) minimal)
 
   module _ (n : ℕ) where
-    not-zero : (rest : List ℕ) → ((at .counts || ltb 0 n) ≡ false → 0 < sum rest) → at .counts ≡ false → 0 < sum (n ∷ rest)
+    not-zero : (rest : List ℕ) → ((at .counts || ltb 0 n) ≡ false → 0 < sum rest) → at .counts ≡ false
+        → 0 < sum (n ∷ rest)
     not-zero rest positive unless = by-size (decLt 0 n)
       where
         by-size : Dec (0 < n) → 0 < sum (n ∷ rest)
@@ -63,27 +67,35 @@ module _ {E : Equation} {p left right : List ℕ} {l r : ℕ} {at : Standing} (s
           level = omega (arith, s .level);
           places = omega (arith, s .places, length-append p (n ∷ []));
           solves = λ rest long. (there rest long, back rest long);
-          within-up = λ rest minimal. spent-own (leb r l) n (upSum left right rest) (s .within-up (n ∷ rest) (subst (Minimal E) (one-place p n rest) minimal));
-          within-down = λ rest minimal. spent-other (leb r l) n (downSum left right rest) (s .within-down (n ∷ rest) (subst (Minimal E) (one-place p n rest) minimal));
+          within-up = λ rest minimal. spent-own (leb r l) n (upSum left right rest)
+              (s .within-up (n ∷ rest) (subst (Minimal E) (one-place p n rest) minimal));
+          within-down = λ rest minimal. spent-other (leb r l) n (downSum left right rest)
+              (s .within-down (n ∷ rest) (subst (Minimal E) (one-place p n rest) minimal));
         }
       where
         there : (rest : List ℕ) → length rest ≡ length left → Solves E ((p ++ n ∷ []) ++ rest)
-            → (dot left rest + (at .left + l * n) ≡ dot right rest + (at .right + r * n)) × ((at .counts || ltb 0 n) ≡ false → 0 < sum rest)
+            → (dot left rest + (at .left + l * n) ≡ dot right rest + (at .right + r * n))
+            × ((at .counts || ltb 0 n) ≡ false → 0 < sum rest)
         there rest long solves =
             let before = s .solves (n ∷ rest) (omega arith) .0 (subst (Solves E) (one-place p n rest) solves) in
             let positive : (at .counts || ltb 0 n) ≡ false → 0 < sum rest =
-            λ unless. let both = or-false (at .counts) (ltb 0 n) unless in omega (arith, before .1 (both .0), ltb-false 0 n (both .1)) in
+            λ unless. let both = or-false (at .counts) (ltb 0 n) unless in omega
+            (arith, before .1 (both .0), ltb-false 0 n (both .1)) in
             (omega (arith, before .0), positive)
 
         back : (rest : List ℕ) → length rest ≡ length left
-            → (dot left rest + (at .left + l * n) ≡ dot right rest + (at .right + r * n)) × ((at .counts || ltb 0 n) ≡ false → 0 < sum rest)
+            → (dot left rest + (at .left + l * n) ≡ dot right rest + (at .right + r * n))
+            × ((at .counts || ltb 0 n) ≡ false → 0 < sum rest)
             → Solves E ((p ++ n ∷ []) ++ rest)
         back rest long h =
-            let equal : dot (l ∷ left) (n ∷ rest) + at .left ≡ dot (r ∷ right) (n ∷ rest) + at .right = omega (arith, h .0) in
-            subst (Solves E) (sym (one-place p n rest)) (s .solves (n ∷ rest) (omega arith) .1 (equal, not-zero rest (h .1)))
+            let equal : dot (l ∷ left) (n ∷ rest) + at .left ≡ dot (r ∷ right) (n ∷ rest) + at .right =
+            omega (arith, h .0) in
+            subst (Solves E) (sym (one-place p n rest))
+            (s .solves (n ∷ rest) (omega arith) .1 (equal, not-zero rest (h .1)))
 
 -- in a row, the rest is as long as the coefficients that are left
-pub rest-places : {E : Equation} {p left right : List ℕ} {at : Standing} → Stands E p left right at → (rest : List ℕ) → Minimal E (p ++ rest)
+pub rest-places : {E : Equation} {p left right : List ℕ} {at : Standing} → Stands E p left right at
+    → (rest : List ℕ) → Minimal E (p ++ rest)
     → length rest ≡ length left
 rest-places {p = p} s rest minimal = omega (arith, s .places, minimal .vector, length-append p rest)
 
@@ -93,7 +105,8 @@ rest-places {p = p} s rest minimal = omega (arith, s .places, minimal .vector, l
 ≼-after [] below = below
 ≼-after (n ∷ p) below = place (le-refl n) (≼-after p below)
 
-module _ {E : Equation} {p left right : List ℕ} {l r : ℕ} {at : Standing} (s : Stands E p (l ∷ left) (r ∷ right) at) (same : l ≡ r) (rest : List ℕ) where
+module _ {E : Equation} {p left right : List ℕ} {l r : ℕ} {at : Standing}
+    (s : Stands E p (l ∷ left) (r ∷ right) at) (same : l ≡ r) (rest : List ℕ) where
   no-unit-more : (m : ℕ) → (at .counts ≡ false → 0 < m) → Minimal E (p ++ suc m ∷ rest) → ⊥
   no-unit-more m positive minimal =
       let long = rest-places s (suc m ∷ rest) minimal in
@@ -103,7 +116,12 @@ module _ {E : Equation} {p left right : List ℕ} {l r : ℕ} {at : Standing} (s
       let some-left : at .counts ≡ false → 0 < sum (m ∷ rest) = λ zero. omega (arith, positive zero) in
       let less = s .solves (m ∷ rest) long .1 (equal-less, some-left) in
       let below = ≼-after p (place (let h : m ≤ suc m = omega arith in h) (≼-refl rest)) in
-      omega (arith, ap (λ v. getD v (length p) 0) (minimal .least .no-other (p ++ m ∷ rest) below less), getD-append-seam p m rest 0, getD-append-seam p (suc m) rest 0)
+      omega (
+        arith,
+        ap (λ v. getD v (length p) 0) (minimal .least .no-other (p ++ m ∷ rest) below less),
+        getD-append-seam p m rest 0,
+        getD-append-seam p (suc m) rest 0,
+      )
 
   even-number : (b : Bool) → at .counts ≡ b → (n : ℕ) → Minimal E (p ++ n ∷ rest) → n ≤ cond b 0 1
   even-number true e zero minimal = omega arith
@@ -113,7 +131,8 @@ module _ {E : Equation} {p left right : List ℕ} {l r : ℕ} {at : Standing} (s
   even-number false e (suc (suc m)) minimal = absurd (no-unit-more (suc m) (λ f. omega arith) minimal)
 
 -- the numbers that a place has in rows are possible ones
-pub possible : {E : Equation} {p left right : List ℕ} {l r : ℕ} {at : Standing} (last : Bool) → Stands E p (l ∷ left) (r ∷ right) at
+pub possible : {E : Equation} {p left right : List ℕ} {l r : ℕ} {at : Standing} (last : Bool)
+    → Stands E p (l ∷ left) (r ∷ right) at
     → (last ≡ true → length left ≡ 0) → (n : ℕ) (rest : List ℕ) → Minimal E (p ++ n ∷ rest) → Possible at l r last n
 possible {left = left} {right = right} {at = at} last s none n rest minimal =
     record {

@@ -65,7 +65,12 @@ before-number-cases (k ∷ p) n (later {u = v} before) = one-place (before-numbe
     one-place : (v ≺ p) ⊎ Smaller p n v → ((k ∷ v) ≺ (k ∷ p)) ⊎ Smaller (k ∷ p) n (k ∷ v)
     one-place (inl earlier) = inl (later earlier)
     one-place (inr s) =
-        inr (record { number = s .number; smaller = s .smaller; rest = s .rest; whole = ap {B = List ℕ} (λ w. k ∷ w) (s .whole) })
+        inr (record {
+          number = s .number;
+          smaller = s .smaller;
+          rest = s .rest;
+          whole = ap {B = List ℕ} (λ w. k ∷ w) (s .whole);
+        })
 
 -- up to the prefix with a number is before the prefix with the next number
 pub upto-before-next : (p : List ℕ) (n : ℕ) {v : List ℕ} → Upto (p ++ n ∷ []) v → v ≺ (p ++ suc n ∷ [])
@@ -90,7 +95,8 @@ before-next-upto (k ∷ p) n (later before) = later (before-next-upto p n before
 
 -- a vector as long as the prefix that begins with it is the prefix
 pub begins-whole : (p : List ℕ) {v : List ℕ} → length v ≡ length p → Begins p v → v ≡ p
-begins-whole p {v} same b = b .whole ∙ none-left p (b .rest) (let e : length (p ++ b .rest) ≡ length p = sym (ap length (b .whole)) ∙ same in e)
+begins-whole p {v} same b = b .whole
+    ∙ none-left p (b .rest) (let e : length (p ++ b .rest) ≡ length p = sym (ap length (b .whole)) ∙ same in e)
   where
     none-left : (q s : List ℕ) → length (q ++ s) ≡ length q → q ++ s ≡ q
     none-left [] [] e = refl
@@ -104,7 +110,8 @@ pub ≼-before : {u v : List ℕ} → u ≼ v → (u ≺ v) ⊎ (u ≡ v)
   where
     by-order : Dec (m < n) → (u ≺ v) ⊎ (u ≡ v) → ((m ∷ u) ≺ (n ∷ v)) ⊎ ((m ∷ u) ≡ (n ∷ v))
     by-order (yes less) d = inl (here less)
-    by-order (no not) (inl before) = inl (subst (λ k. (m ∷ u) ≺ (k ∷ v)) (let e : m ≡ n = omega arith in e) (later before))
+    by-order (no not) (inl before) =
+        inl (subst (λ k. (m ∷ u) ≺ (k ∷ v)) (let e : m ≡ n = omega arith in e) (later before))
     by-order (no not) (inr same) = inr (ap₂ {C = List ℕ} (λ k w. k ∷ w) (let e : m ≡ n = omega arith in e) same)
 
 -- a vector stands up to itself

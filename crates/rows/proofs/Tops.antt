@@ -18,7 +18,13 @@ pub record ToppedFrom (bytes tops : List ℕ) (most place : ℕ) : Type 0 where
 -- at the end there is no byte
 pub topped-none : (bytes tops : List ℕ) → length tops ≡ 6 → ToppedFrom bytes tops 0 (length bytes)
 topped-none bytes tops six =
-    record { tops-length = six; within = omega arith; at-most = λ j h below. absurd (omega arith); topped = λ i h j le below. absurd (omega arith) }
+    record {
+      tops-length = six;
+      within = omega arith;
+      at-most = λ j h below. absurd (omega arith);
+      topped =
+          λ i h j le below. absurd (omega arith);
+    }
 
 module _ {bytes tops : List ℕ} {most place : ℕ} (t : ToppedFrom bytes tops most place) where
   -- one place before
@@ -39,11 +45,15 @@ module _ {bytes tops : List ℕ} {most place : ℕ} (t : ToppedFrom bytes tops m
           here (yes same) = omega (arith, ap (λ k. getD bytes k 0) same)
           here (no other) = omega (arith, t .at-most j (omega arith) below)
 
-      by-place : (i : ℕ) → place - 1 ≤ i → Dec (i ≡ place - 1) → AtMost bytes i (getD (set tops (place - 1) most′) i 0)
+      by-place : (i : ℕ) → place - 1 ≤ i → Dec (i ≡ place - 1)
+          → AtMost bytes i (getD (set tops (place - 1) most′) i 0)
       by-place i h (yes same) =
           subst (λ k. AtMost bytes k (getD (set tops (place - 1) most′) k 0)) (sym same)
-          (subst (AtMost bytes (place - 1)) (sym (getD-set-same tops (place - 1) most′ 0 (omega (arith, t .tops-length, t .within)))) at-most-more)
-      by-place i h (no other) = subst (AtMost bytes i) (sym (getD-set-other tops (place - 1) i most′ 0 other)) (t .topped i (omega arith))
+          (subst (AtMost bytes (place - 1))
+          (sym (getD-set-same tops (place - 1) most′ 0 (omega (arith, t .tops-length, t .within))))
+          at-most-more)
+      by-place i h (no other) = subst (AtMost bytes i) (sym (getD-set-other tops (place - 1) i most′ 0 other))
+          (t .topped i (omega arith))
 
   -- at the first place all have theirs
   pub topped-all : place ≤ 0 → Tops bytes tops

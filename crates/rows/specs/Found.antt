@@ -1,4 +1,5 @@
--- What is found of the rows of one equation (document 01, "From sides to equations"; number 12: more than 16 of a kind).
+-- What is found of the rows of one equation (document 01, "From sides to equations"; number 12: more than 16
+-- of a kind).
 use Prim.Native.Nat.{ℕ, suc, _≤_, _<_}
 use mathlib.Core.List.{List}
 use lib.ListN.{length}
@@ -7,7 +8,8 @@ use Rattle.ac.specs.Equation.{Equation, Minimal}
 pub use Rattle.ac.specs.Equation.{equation}
 use Rattle.rows.specs.Flat.{rowsOf}
 
--- If the rows are at most `limit`, their number, and exactly they in ascending order; else the number after `limit`, which says that there are more.
+-- If the rows are at most `limit`, their number, and exactly they in ascending order; else the number after
+-- `limit`, which says that there are more.
 pub data Finds (limit : ℕ) (E : Equation) (bytes : List ℕ) : ℕ → Type 0 where
   few : {n : ℕ} → n ≤ limit → Exactly (Minimal E) (rowsOf (length (E .left)) n bytes) → Finds limit E bytes n
   more : {rows : List (List ℕ)} → Exactly (Minimal E) rows → limit < length rows → Finds limit E bytes (suc limit)

@@ -1,5 +1,6 @@
--- Which rows are found so far (document 01, "From sides to equations": "Within a group rows stand in ascending order"). The walk goes through the vectors
--- in that order, so the rows found are at any time those before a prefix.
+-- Which rows are found so far (document 01, "From sides to equations": "Within a group rows stand in
+-- ascending order"). The walk goes through the vectors in that order, so the rows found are at any time those
+-- before a prefix.
 use Prim.Native.Nat.{ℕ, suc, _≤_, _<_}
 use mathlib.Core.Path.{_≡_}
 use mathlib.Core.Bool.{Bool, true, false}
@@ -10,10 +11,12 @@ use Rattle.ac.specs.Rows.{Exactly, _≺_, _≼_}
 use Rattle.ac.specs.Equation.{Equation, Solves, Minimal}
 use Rattle.rows.specs.Flat.{rowsOf}
 
--- The bytes hold the rows of a kind: if they are at most `limit`, exactly they; else the number says that there are more.
+-- The bytes hold the rows of a kind: if they are at most `limit`, exactly they; else the number says that
+-- there are more.
 pub data Holds (limit places : ℕ) (Row : List ℕ → Type 0) (bytes : List ℕ) : ℕ → Type 0 where
   few : {n : ℕ} → n ≤ limit → Exactly Row (rowsOf places n bytes) → Holds limit places Row bytes n
-  more : {rows : List (List ℕ)} → Ascending _≺_ rows → ((v : List ℕ) → List·Memᴰ v rows → Row v) → limit < length rows
+  more : {rows : List (List ℕ)} → Ascending _≺_ rows → ((v : List ℕ) → List·Memᴰ v rows → Row v)
+      → limit < length rows
       → Holds limit places Row bytes (suc limit)
 
 -- v begins with the prefix, or stands before all that do
@@ -33,7 +36,8 @@ module _ (E : Equation) (prefix : List ℕ) where
 
   -- where the bytes held the rows before the prefix, they hold those up to it
   abbrev pub Advances : ℕ → List ℕ → ℕ → List ℕ → ℕ → Type 0
-  Advances limit bytes n bytes′ n′ = Holds limit (length (E .left)) RowBefore bytes n → Holds limit (length (E .left)) RowUpto bytes′ n′
+  Advances limit bytes n bytes′ n′ =
+      Holds limit (length (E .left)) RowBefore bytes n → Holds limit (length (E .left)) RowUpto bytes′ n′
 
 -- "Any row found before may be the lower one": some row found is at or below the vector in every place.
 pub record Lower (rows : List (List ℕ)) (v : List ℕ) : Type 0 where
@@ -46,7 +50,8 @@ pub record Tells (test : Bool) (So : Type 0) : Type 0 where
   pub so : test ≡ true → So
   pub not-so : test ≡ false → So → ⊥
 
--- A vector that solves an equation has been kept, if it is a row: the rows before it were held, and those up to it are.
+-- A vector that solves an equation has been kept, if it is a row: the rows before it were held, and those up
+-- to it are.
 pub record Keeps (limit : ℕ) (v bytes : List ℕ) (n : ℕ) (bytes′ : List ℕ) (n′ : ℕ) : Type 0 where
   pub counted : n′ ≤ suc limit
   pub found : (E : Equation) → length v ≡ length (E .left) → Solves E v → Advances E v limit bytes n bytes′ n′

@@ -1,5 +1,5 @@
--- Where the walk stands after a prefix, and which numbers the next place may have in a row (document 01, "From sides to equations": "How far the search
--- must go is the team's to prove").
+-- Where the walk stands after a prefix, and which numbers the next place may have in a row (document 01,
+-- "From sides to equations": "How far the search must go is the team's to prove").
 use Prim.Native.Nat.{ℕ, _+_, _*_, _-_, _^_, _≤_, _<_}
 use mathlib.Core.Path.{_≡_}
 use mathlib.Core.Logic.{_↔_}
@@ -13,13 +13,15 @@ use Rattle.ac.specs.Budgets.{upSum, downSum}
 use Rattle.rows.specs.declared.standing.Standing.{Standing}
 use Rattle.rows.specs.declared.standing.Range.{Range}
 
--- The walk stands after a prefix, with the coefficients of the places that are left. A rest solves with the prefix exactly if it makes the two sums
--- equal and, where an all-zero rest does not count, is not all zero; and the rest of a row is within the two budgets.
+-- The walk stands after a prefix, with the coefficients of the places that are left. A rest solves with the
+-- prefix exactly if it makes the two sums equal and, where an all-zero rest does not count, is not all zero;
+-- and the rest of a row is within the two budgets.
 pub record Stands (E : Equation) (prefix left right : List ℕ) (at : Standing) : Type 0 where
   pub level : length left ≡ length right
   pub places : length prefix + length left ≡ length (E .left)
   pub solves : (rest : List ℕ) → length rest ≡ length left
-      → Solves E (prefix ++ rest) ↔ ((dot left rest + at .left ≡ dot right rest + at .right) × (at .counts ≡ false → 0 < sum rest))
+      → Solves E (prefix ++ rest) ↔ ((dot left rest + at .left ≡ dot right rest + at .right)
+      × (at .counts ≡ false → 0 < sum rest))
   pub within-up : (rest : List ℕ) → Minimal E (prefix ++ rest) → upSum left right rest ≤ at .up
   pub within-down : (rest : List ℕ) → Minimal E (prefix ++ rest) → downSum left right rest ≤ at .down
 
@@ -48,8 +50,9 @@ pub data Apart (at : Standing) (mostLeft mostRight : ℕ) : Type 0 where
   left-short : at .left + at .up * mostLeft < at .right → Apart at mostLeft mostRight
   right-short : at .right + at .down * mostRight < at .left → Apart at mostLeft mostRight
 
--- A number that a place with these coefficients may have in a row: within its budget; at the last place with the two sums equal; and where the
--- coefficients are equal, so that one unit less solves too, only what keeps the vector from being all zero.
+-- A number that a place with these coefficients may have in a row: within its budget; at the last place with
+-- the two sums equal; and where the coefficients are equal, so that one unit less solves too, only what keeps
+-- the vector from being all zero.
 pub record Possible (at : Standing) (l r : ℕ) (last : Bool) (n : ℕ) : Type 0 where
   pub within : n ≤ budgetOf at l r
   pub equal : last ≡ true → l * n + at .left ≡ r * n + at .right

@@ -1,5 +1,5 @@
--- What the walk through the vectors is given at a place, and what it gives: the rows of document 01, "From sides to equations", that begin with the
--- numbers before the place.
+-- What the walk through the vectors is given at a place, and what it gives: the rows of document 01, "From
+-- sides to equations", that begin with the numbers before the place.
 use Prim.Native.Nat.{ℕ, suc, _*_, _≤_, _<_}
 use mathlib.Core.Path.{_≡_}
 use mathlib.Core.Bool.{Bool, not}
@@ -12,7 +12,8 @@ use Rattle.rows.specs.Kept.{Advances}
 use Rattle.rows.specs.Places.{Stands, Room}
 
 -- After the last place: where the walk stood at the end of a vector, the rows up to the vector are found.
-pub record Settles (limit : ℕ) (v : List ℕ) (at : Standing) (bytes : List ℕ) (n : ℕ) (bytes′ : List ℕ) (n′ : ℕ) : Type 0 where
+pub record Settles (limit : ℕ) (v : List ℕ) (at : Standing) (bytes : List ℕ) (n : ℕ) (bytes′ : List ℕ)
+    (n′ : ℕ) : Type 0 where
   pub counted : n′ ≤ suc limit
   pub found : (E : Equation) → Stands E v [] [] at → Advances E v limit bytes n bytes′ n′
 
@@ -35,10 +36,12 @@ pub record Starts (E : Equation) (at : Standing) : Type 0 where
 -- so it begins for every equation with these offsets whose coefficients are at most these numbers
 abbrev pub StartsAll : ℕ → ℕ → ℕ → ℕ → Bool → Standing → Type 0
 StartsAll mostLeft mostRight left-offset right-offset homogeneous at =
-    (left right : List ℕ) → AtMost left 0 mostLeft → AtMost right 0 mostRight → Starts (equation left right left-offset right-offset homogeneous) at
+    (left right : List ℕ) → AtMost left 0 mostLeft → AtMost right 0 mostRight
+    → Starts (equation left right left-offset right-offset homogeneous) at
 
 -- coefficients with their tops, a vector and bytes of the lengths that go with them, and a place of the vector
-pub record Ready (limit : ℕ) (left right mostLeft mostRight vector bytes : List ℕ) (place n : ℕ) (at : Standing) : Type 0 where
+pub record Ready (limit : ℕ) (left right mostLeft mostRight vector bytes : List ℕ) (place n : ℕ)
+    (at : Standing) : Type 0 where
   pub rights : length right ≡ length left
   pub most-lefts : length left ≤ length mostLeft
   pub most-rights : length left ≤ length mostRight
@@ -52,7 +55,8 @@ pub record Ready (limit : ℕ) (left right mostLeft mostRight vector bytes : Lis
   pub right-tops : Tops right mostRight
 
 -- the numbers before the place stay, and the rows that begin with them are found
-pub record Walks (limit : ℕ) (left right vector bytes : List ℕ) (place n : ℕ) (at : Standing) (vector′ bytes′ : List ℕ) (n′ : ℕ) : Type 0 where
+pub record Walks (limit : ℕ) (left right vector bytes : List ℕ) (place n : ℕ) (at : Standing)
+    (vector′ bytes′ : List ℕ) (n′ : ℕ) : Type 0 where
   pub counted : n′ ≤ suc limit
   pub prefix : take place vector′ ≡ take place vector
   pub found : (E : Equation) → Stands E (take place vector) (drop place left) (drop place right) at

@@ -6,8 +6,8 @@ ghost use lib.ListN.{length, take, drop};
 ghost use Rattle.rows.specs.Flat.{rowsOf};
 ghost use Rattle.rows.specs.Kept.{Lower, Tells, Keeps};
 
-// Whether a row found is at or below the vector in every place. Any of them may be: the comparison ends as soon as one lower row is met,
-// or when all of them have been tried.
+// Whether a row found is at or below the vector in every place. Any of them may be: the comparison ends as
+// soon as one lower row is met, or when all of them have been tried.
 fn lower(rows: &[u8], count: usize, vector: &[u8]) -> bool
     requires { ⌜ count * length (now vector) ≤ length (now rows) ⌝ }
     ensures { λ r. ⌜ Tells r (Lower (rowsOf (length (now (vector .entry))) count (now (rows .entry))) (now (vector .entry))) ⌝ }
@@ -44,7 +44,8 @@ fn put(rows: &mut [u8], start: usize, row: &[u8])
     }
 }
 
-// Puts a vector that solves the equation behind the rows found, unless one of them is lower. What does not fit any more is only counted.
+// Puts a vector that solves the equation behind the rows found, unless one of them is lower. What does not
+// fit any more is only counted.
 pub fn keep(rows: &mut [u8], limit: usize, count: usize, vector: &[u8]) -> usize
     requires { ⌜ (count ≤ limit) × (limit < 65536) × (limit * length (now vector) ≤ length (now rows)) ⌝ }
     ensures { λ r. ⌜ Keeps limit (now (vector .entry)) (now (rows .entry)) count (now (rows .exit)) r ⌝ }

@@ -8,7 +8,8 @@ ghost use Prim.Native.Nat.{_≤_};
 ghost use lib.ListN.{take};
 ghost use Rattle.rows.specs.Found.{equation, Finds};
 
-// The rows of an equation with at most 6 places, one after the other from the first byte on, and their number, where 17 says more than 16.
+// The rows of an equation with at most 6 places, one after the other from the first byte on, and their
+// number, where 17 says more than 16.
 pub struct Found {
     pub rows: [u8; 96],
     pub number: usize,

@@ -4,8 +4,9 @@ ghost use mathlib.Core.Bool.{true};
 ghost use Prim.Native.Nat.{_*_, _<_, _≤_, min};
 ghost use Rattle.rows.specs.Places.{Room, Apart, Lifts, Ranges, budgetOf, afterChoice};
 
-// Where the walk stands, of the numbers chosen so far: the two sums, the offsets included; what is left of the budget of the places whose left
-// coefficient is at least the right one, and of the others; and whether an all-zero rest counts.
+// Where the walk stands, of the numbers chosen so far: the two sums, the offsets included; what is left of
+// the budget of the places whose left coefficient is at least the right one, and of the others; and whether
+// an all-zero rest counts.
 pub struct Standing {
     pub left: u32,
     pub right: u32,
@@ -74,7 +75,8 @@ pub fn chosen(at: Standing, left: u8, right: u8, number: u8) -> Standing
     }
 }
 
-// Whether the two sums are further apart than what is left of the budgets can bridge, where no coefficient left is above these.
+// Whether the two sums are further apart than what is left of the budgets can bridge, where no coefficient
+// left is above these.
 pub fn apart(at: Standing, lift: u8, drop: u8) -> bool
     requires { ⌜ Room at ⌝ }
     ensures { λ r. ⌜ (r ≡ true → Apart at lift drop) ⌝ }
@@ -106,8 +108,9 @@ fn divided(low: u32, high: u32, step: u8, budget: u8) -> Range
     }
 }
 
-// The numbers that a place with these coefficients may have: up to its budget; at the last place only the one that makes the sums equal; and where
-// the coefficients are equal, none but what keeps the vector from being all zero.
+// The numbers that a place with these coefficients may have: up to its budget; at the last place only the one
+// that makes the sums equal; and where the coefficients are equal, none but what keeps the vector from being
+// all zero.
 pub fn possible(at: Standing, left: u8, right: u8, last: bool) -> Range
     ensures { λ r. ⌜ Ranges at left right last r ⌝ }
 {

@@ -25,8 +25,9 @@ fn settle(rows: &mut [u8], limit: usize, count: usize, vector: &[u8], at: Standi
     keep(rows, limit, count, vector)
 }
 
-// Finds the rows that begin with the numbers of the vector before `place`, when those that stand before them are found: the numbers that the place
-// may have are taken one after the other, ascending, and with each of them the walk goes on from the next place.
+// Finds the rows that begin with the numbers of the vector before `place`, when those that stand before them
+// are found: the numbers that the place may have are taken one after the other, ascending, and with each of
+// them the walk goes on from the next place.
 fn walk(
     left: &[u8],
     right: &[u8],
@@ -103,9 +104,9 @@ fn tops(bytes: &[u8]) -> [u8; 6]
     each
 }
 
-// Where the walk starts, where no left coefficient is above `lift` and no right one above `drop`. The places whose left coefficient is at least the
-// right one get their budget from the right side, the others from the left one, the offsets among them: the other side sets how large an entry of
-// a row can be.
+// Where the walk starts, where no left coefficient is above `lift` and no right one above `drop`. The places
+// whose left coefficient is at least the right one get their budget from the right side, the others from the
+// left one, the offsets among them: the other side sets how large an entry of a row can be.
 fn start(lift: u8, drop: u8, left_offset: u8, right_offset: u8, homogeneous: bool) -> Standing
     ensures { λ r. ⌜ StartsAll lift drop «left_offset» «right_offset» homogeneous r ⌝ }
 {
@@ -118,7 +119,8 @@ fn start(lift: u8, drop: u8, left_offset: u8, right_offset: u8, homogeneous: boo
     }
 }
 
-// Finds the rows of an equation: the bytes get them, one after the other, unless they are more than the limit; then the number after it is given.
+// Finds the rows of an equation: the bytes get them, one after the other, unless they are more than the
+// limit; then the number after it is given.
 pub fn search(
     left: &[u8],
     right: &[u8],

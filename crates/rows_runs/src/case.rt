@@ -43,7 +43,8 @@ fn read_side(text: &[u8], side: &mut [u8]) -> usize
     end
 }
 
-// A digit is that variable, z is v63, y is v62 and so on; A is c0, B is c1 and so on, and ~ is c63. ! is the byte 128, which is no atom.
+// A digit is that variable, z is v63, y is v62 and so on; A is c0, B is c1 and so on, and ~ is c63. ! is the
+// byte 128, which is no atom.
 fn atom_of(sign: u8) -> u8 {
     match sign {
         b'0'..=b'9' => sign - 48,

@@ -8,7 +8,8 @@ use solve::RowsAnswer;
 ghost use Prim.Native.Nat.{_≤_};
 ghost use lib.ListN.{length};
 
-// The sizes and the rows that the buffer holds, or the number, and whether all other bytes of the buffer are as they were.
+// The sizes and the rows that the buffer holds, or the number, and whether all other bytes of the buffer are
+// as they were.
 pub fn put_answer(
     line: &mut [u8],
     at: usize,

@@ -1,5 +1,6 @@
-// Runs Rows on document 01's pairs, on the equation that source document 000 solves, and at each limit and just past it. Prints a line for each: the
-// sizes and the rows that the buffer holds, or the number, and whether all other bytes of the buffer are as they were.
+// Runs Rows on document 01's pairs, on the equation that source document 000 solves, and at each limit and
+// just past it. Prints a line for each: the sizes and the rows that the buffer holds, or the number, and
+// whether all other bytes of the buffer are as they were.
 mod case;
 mod line;
 
@@ -33,7 +34,8 @@ fn first_pairs() {
     run(b"pair 12", b"01", b"AB", 2);
 }
 
-// Pairs 13 to 17, each as it is and past its limit, and the equation of source document 000 with v0 to v4 for x1, x2, x3, y1 and y2.
+// Pairs 13 to 17, each as it is and past its limit, and the equation of source document 000 with v0 to v4 for
+// x1, x2, x3, y1 and y2.
 fn last_pairs() {
     run(b"pair 13", b"00004", b"1234", 5);
     run(b"pair 13 with v5", b"000045", b"12345", 6);

@@ -5,7 +5,8 @@ ghost use lib.ListN.{length};
 // Before a question every byte of a lent buffer is this one, which is no atom.
 pub const FILL: u8 = 200;
 
-// Puts the bytes at `at` as far as there is room, and answers where they end, as every function does that puts a text.
+// Puts the bytes at `at` as far as there is room, and answers where they end, as every function does that
+// puts a text.
 pub fn put(out: &mut [u8], at: usize, bytes: &[u8]) -> usize
     ensures { λ r. ⌜ r ≤ length (now (out .exit)) ⌝ }
 {

@@ -34,7 +34,8 @@ count-le-length a [] = omega arith
 count-le-length a (b ∷ s) = omega (arith, same-le a b, count-le-length a s)
 
 -- one more atom of the side, counted at its place
-pub counts-more : (side table : List ℕ) (i : ℕ) → i < length side → getD side i 0 < length table → Occurrences (take i side) table
+pub counts-more : (side table : List ℕ) (i : ℕ) → i < length side → getD side i 0 < length table
+    → Occurrences (take i side) table
     → Occurrences (take (i + 1) side) (set table (getD side i 0) (getD table (getD side i 0) 0 + 1))
 counts-more side table i within place counts =
     record {
@@ -48,9 +49,12 @@ counts-more side table i within place counts =
     one-more : take (i + 1) side ≡ take i side ++ x ∷ []
     one-more = ap (λ (n : ℕ). take n side) (add-one i) ∙ take-suc side i 0 within
 
-    go : (a : ℕ) → Dec (a ≡ x) → getD (set table x (getD table x 0 + 1)) a 0 ≡ count a (take i side) + count a (x ∷ [])
-    go a (yes e) = rw e (getD-set-same table x (getD table x 0 + 1) 0 place ∙ omega (arith, counts .entries x, same-self x x refl))
-    go a (no differ) = getD-set-other table x a (getD table x 0 + 1) 0 differ ∙ omega (arith, counts .entries a, same-other a x differ)
+    go : (a : ℕ) → Dec (a ≡ x)
+        → getD (set table x (getD table x 0 + 1)) a 0 ≡ count a (take i side) + count a (x ∷ [])
+    go a (yes e) = rw e (getD-set-same table x (getD table x 0 + 1) 0 place
+        ∙ omega (arith, counts .entries x, same-self x x refl))
+    go a (no differ) = getD-set-other table x a (getD table x 0 + 1) 0 differ
+        ∙ omega (arith, counts .entries a, same-other a x differ)
 
 -- nothing is counted yet
 pub counts-none : Occurrences [] (replicate 128 0)
@@ -63,10 +67,12 @@ right-length side right = at-most (length side) 64 (λ long. right (inr long))
 -- and each byte is an atom
 pub right-byte : (side : List ℕ) (i : ℕ) → i < length side → (WrongByte limits side → ⊥) → getD side i 0 < 128
 right-byte side i within right =
-    at-most (suc (getD side i 0)) 128 (λ high. right (record { byte = getD side i 0; held = getD-member side i 0 within; above = omega arith }))
+    at-most (suc (getD side i 0)) 128 (λ high. right
+    (record { byte = getD side i 0; held = getD-member side i 0 within; above = omega arith }))
 
 -- a count so far is below the limit of a byte
-pub count-so-far : (side table : List ℕ) (i x : ℕ) → Occurrences (take i side) table → (WrongLength limits side → ⊥) → getD table x 0 ≤ 64
+pub count-so-far : (side table : List ℕ) (i x : ℕ) → Occurrences (take i side) table
+    → (WrongLength limits side → ⊥) → getD table x 0 ≤ 64
 count-so-far side table i x counts right =
     omega (arith, counts .entries x, count-le-length x (take i side), length-take i side, right-length side right)
 
@@ -79,12 +85,15 @@ pub true-below-none : (size : ℕ) → TrueBelow 0 (replicate size false)
 true-below-none size atom = getD-replicate-same size atom false ∙ sym (le-ltb atom 0 (omega arith))
 
 -- and then at one atom more
-pub true-below-more : (n : ℕ) (table : List Bool) → n < length table → TrueBelow n table → TrueBelow (n + 1) (set table n true)
+pub true-below-more : (n : ℕ) (table : List Bool) → n < length table → TrueBelow n table
+    → TrueBelow (n + 1) (set table n true)
 true-below-more n table within below atom = go (ℕ-discrete atom n) (decLt atom n)
   where
     go : Dec (atom ≡ n) → Dec (atom < n) → getD (set table n true) atom false ≡ ltb atom (n + 1)
     go (yes e) lower = rw e (getD-set-same table n true false within ∙ sym (lt-ltb n (n + 1) (omega arith)))
     go (no differ) (yes lower) =
-        getD-set-other table n atom true false differ ∙ below atom ∙ lt-ltb atom n lower ∙ sym (lt-ltb atom (n + 1) (omega arith))
+        getD-set-other table n atom true false differ ∙ below atom ∙ lt-ltb atom n lower
+        ∙ sym (lt-ltb atom (n + 1) (omega arith))
     go (no differ) (no higher) =
-        getD-set-other table n atom true false differ ∙ below atom ∙ le-ltb atom n (omega arith) ∙ sym (le-ltb atom (n + 1) (omega arith))
+        getD-set-other table n atom true false differ ∙ below atom ∙ le-ltb atom n (omega arith)
+        ∙ sym (le-ltb atom (n + 1) (omega arith))

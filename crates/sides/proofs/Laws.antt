@@ -22,7 +22,8 @@ take-padded : (list : List ℕ) {n : ℕ} → n ≡ length list → take n (padd
 take-padded list {n} how-many = take-at list _ n (sym how-many)
 
 -- each place in use has what was made of the atom there
-getD-padded : (f : ℕ → ℕ) (list : List ℕ) {i : ℕ} → i < length list → getD (padded (map f list)) i 0 ≡ f (getD list i 0)
+getD-padded : (f : ℕ → ℕ) (list : List ℕ) {i : ℕ} → i < length list
+    → getD (padded (map f list)) i 0 ≡ f (getD list i 0)
 getD-padded f list {i} used = List·getD-append (map f list) _ 0 i (rw length-map used) ∙ getD-map f list i 0 0 used
 
 module _ {L R found : List ℕ} {gathered : Gathered} (held : Held L R found gathered) where
@@ -31,10 +32,12 @@ module _ {L R found : List ℕ} {gathered : Gathered} (held : Held L R found gat
   take-atoms = rw (held .the-atoms) (take-padded found (held .how-many))
 
   pub take-left : take (gathered .count) (gathered .left) ≡ map (excess L R) found
-  take-left = rw (held .left-parts) (take-padded (map (excess L R) found) (held .how-many ∙ sym (length-map found (excess L R))))
+  take-left = rw (held .left-parts) (take-padded (map (excess L R) found)
+      (held .how-many ∙ sym (length-map found (excess L R))))
 
   pub take-right : take (gathered .count) (gathered .right) ≡ map (excess R L) found
-  take-right = rw (held .right-parts) (take-padded (map (excess R L) found) (held .how-many ∙ sym (length-map found (excess R L))))
+  take-right = rw (held .right-parts) (take-padded (map (excess R L) found)
+      (held .how-many ∙ sym (length-map found (excess R L))))
 
   -- and one by one
   pub left-at : (i : ℕ) → i < length found → getD (gathered .left) i 0 ≡ excess L R (getD found i 0)
@@ -51,7 +54,8 @@ pub record Within (limits : Limits) (M : Mode) (L R : List ℕ) : Type 0 where
   pub near-right : (atom : ℕ) → excess R L atom ≤ limits .net-count
 
 -- where 7 to 11 are not given
-pub within-limits : {limits : Limits} {M : Mode} {L R : List ℕ} → NoneOf (PairGiven limits M L R) partingNumbers → Within limits M L R
+pub within-limits : {limits : Limits} {M : Mode} {L R : List ℕ}
+    → NoneOf (PairGiven limits M L R) partingNumbers → Within limits M L R
 within-limits {limits} {M} {L} {R} (also not7 (also not8 (also not9 (also not10 (also not11 end))))) =
     record {
       few-variables = at-most (length (variables M L R)) (limits .variables) (λ many. not9 (many-variables many));
@@ -64,7 +68,8 @@ within-limits {limits} {M} {L} {R} (also not7 (also not8 (also not9 (also not10 
     near atom = at-most (natAbs (net L R atom)) (limits .net-count) (λ far. not10 (far-net-count atom far))
 
 -- The numbers that speak of the two sides are 7 to 12.
-pub sides-number : {limits : Limits} {M : Mode} {L R : List ℕ} {n : ℕ} → PairGiven limits M L R n → (7 ≤ n) × (n ≤ 12)
+pub sides-number : {limits : Limits} {M : Mode} {L R : List ℕ} {n : ℕ} → PairGiven limits M L R n
+    → (7 ≤ n) × (n ≤ 12)
 sides-number (side-length side wrong) = omega arith
 sides-number (no-atom side wrong) = omega arith
 sides-number (many-variables many) = omega arith

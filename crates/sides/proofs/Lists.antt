@@ -31,12 +31,14 @@ keep-append false x xs ys = refl
 
 filter-append : (p : ℕ → Bool) (xs ys : List ℕ) → filter p (xs ++ ys) ≡ filter p xs ++ filter p ys
 filter-append p [] ys = refl
-filter-append p (x ∷ xs) ys = ap (λ (l : List ℕ). keep (p x) x l) (filter-append p xs ys) ∙ sym (keep-append (p x) x (filter p xs) (filter p ys))
+filter-append p (x ∷ xs) ys = ap (λ (l : List ℕ). keep (p x) x l) (filter-append p xs ys)
+    ∙ sym (keep-append (p x) x (filter p xs) (filter p ys))
 
 -- the last of the numbers from a on
 pub from-last : (a n : ℕ) → from a (suc n) ≡ from a n ++ (a + n) ∷ []
 from-last a zero = ap (λ (m : ℕ). m ∷ []) (omega arith)
-from-last a (suc n) = ap (λ (l : List ℕ). a ∷ l) (from-last (suc a) n ∙ ap (λ (m : ℕ). from (suc a) n ++ m ∷ []) (omega arith))
+from-last a (suc n) =
+    ap (λ (l : List ℕ). a ∷ l) (from-last (suc a) n ∙ ap (λ (m : ℕ). from (suc a) n ++ m ∷ []) (omega arith))
 
 -- the members below one number more: those below it, and the number itself if it passes
 pub filter-below : (p : ℕ → Bool) (n : ℕ) → filter p (below (n + 1)) ≡ filter p (below n) ++ keep (p n) n []

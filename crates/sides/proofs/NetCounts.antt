@@ -26,18 +26,22 @@ natAbs-difference m (suc k) = go (ltb m (suc k)) refl
 
 -- how far the two tables are apart at an atom
 abbrev pub apart : Counts → ℕ → ℕ
-apart counts atom = getD (counts .left) atom 0 - getD (counts .right) atom 0 + (getD (counts .right) atom 0 - getD (counts .left) atom 0)
+apart counts atom = getD (counts .left) atom 0 - getD (counts .right) atom 0 +
+    (getD (counts .right) atom 0 - getD (counts .left) atom 0)
 
 module _ {M : Mode} {L R : List ℕ} {counts : Counts} (counted : CountsOf M L R counts) where
   -- a net count is as far from 0 as the two counts are apart
   net-apart : (atom : ℕ) → natAbs (net L R atom) ≡ apart counts atom
-  net-apart atom = natAbs-difference (count atom L) (count atom R) ∙ sym (rw (counted .on-left .entries atom, counted .on-right .entries atom))
+  net-apart atom = natAbs-difference (count atom L) (count atom R)
+      ∙ sym (rw (counted .on-left .entries atom, counted .on-right .entries atom))
 
   -- past the end the tables are not apart
   apart-beyond : (atom : ℕ) → 128 ≤ atom → apart counts atom ≡ 0
   apart-beyond atom beyond =
-      let left : getD (counts .left) atom 0 ≡ 0 = List·getD-eq-default (counts .left) 0 (omega (arith, counted .on-left .places)) in
-      let right : getD (counts .right) atom 0 ≡ 0 = List·getD-eq-default (counts .right) 0 (omega (arith, counted .on-right .places)) in
+      let left : getD (counts .left) atom 0 ≡ 0 =
+      List·getD-eq-default (counts .left) 0 (omega (arith, counted .on-left .places)) in
+      let right : getD (counts .right) atom 0 ≡ 0 =
+      List·getD-eq-default (counts .right) 0 (omega (arith, counted .on-right .places)) in
       omega (arith, left, right)
 
   -- where the counts are more than 8 apart, number 10 is given

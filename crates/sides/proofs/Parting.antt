@@ -23,7 +23,8 @@ use Rattle.sides.proofs.Telling.{tells-less, tells-either, tells-same, 
 
 module _ {numbers : List ℕ} {M : Mode} {L R : List ℕ} {parted : Parted} where
   -- a number that is given refuses
-  pub parted-refused : {refusal : Refusal} → parted .verdict ≡ Refused refusal → First (PairGiven limits M L R) numbers (numberOf refusal)
+  pub parted-refused : {refusal : Refusal} → parted .verdict ≡ Refused refusal
+      → First (PairGiven limits M L R) numbers (numberOf refusal)
       → PartedOf numbers M L R parted
   parted-refused {refusal} verdict first =
       record {
@@ -38,7 +39,8 @@ module _ {numbers : List ℕ} {M : Mode} {L R : List ℕ} {parted : Parted} wher
       not-both e = let z : _≡_ {A = ℕ} 0 1 = cc (verdict, e) in omega arith
 
   -- where none is, the pair is accepted
-  pub parted-accepted : parted .verdict ≡ Accepted → NoneOf (PairGiven limits M L R) numbers → PairOf M L R (parted .pair)
+  pub parted-accepted : parted .verdict ≡ Accepted → NoneOf (PairGiven limits M L R) numbers
+      → PairOf M L R (parted .pair)
       → PartedOf numbers M L R parted
   parted-accepted verdict none pair =
       record {
@@ -48,7 +50,8 @@ module _ {numbers : List ℕ} {M : Mode} {L R : List ℕ} {parted : Parted} wher
       }
 
   -- a number before the others that is not given
-  pub parted-later : {number : ℕ} → (PairGiven limits M L R number → ⊥) → PartedOf numbers M L R parted → PartedOf (number ∷ numbers) M L R parted
+  pub parted-later : {number : ℕ} → (PairGiven limits M L R number → ⊥) → PartedOf numbers M L R parted
+      → PartedOf (number ∷ numbers) M L R parted
   parted-later not-given settled =
       record {
         refused = λ refusal e. later not-given (settled .refused refusal e);
@@ -57,16 +60,19 @@ module _ {numbers : List ℕ} {M : Mode} {L R : List ℕ} {parted : Parted} wher
       }
 
 -- a number that is given where a side is wrong, by a test of each side
-tells-sides : {Wrong : List ℕ → Type 0} {Given : Type 0} {L R : List ℕ} {first second : Bool} → ((side : List ℕ) → Side L R side → Wrong side → Given)
+tells-sides : {Wrong : List ℕ → Type 0} {Given : Type 0} {L R : List ℕ} {first second : Bool}
+    → ((side : List ℕ) → Side L R side → Wrong side → Given)
     → (Given → Wrong L ⊎ Wrong R) → Tells (Wrong L) first → Tells (Wrong R) second → Tells Given (first || second)
 tells-sides {L = L} {R = R} {first = first} {second = second} given either of-left of-right =
     tells-same (⊎-elim (given L left) (given R right)) either (tells-either first second of-left of-right)
 
 -- a number that is given where more are found than the limit, by how many they are
-tells-many : {Given : Type 0} {limit number : ℕ} (found : List ℕ) → (limit < length found → Given) → (Given → limit < length found)
+tells-many : {Given : Type 0} {limit number : ℕ} (found : List ℕ) → (limit < length found → Given)
+    → (Given → limit < length found)
     → number ≡ length found → Tells Given (ltb limit number)
 tells-many {limit = limit} {number = number} found given many how-many =
-    tells-same (λ above. given (rw how-many at above)) (λ is-given. rw how-many (many is-given)) (tells-less limit number)
+    tells-same (λ above. given (rw how-many at above)) (λ is-given. rw how-many (many is-given))
+    (tells-less limit number)
 
 -- what tells of each number
 module _ {M : Mode} {L R : List ℕ} where
@@ -97,11 +103,13 @@ module _ {M : Mode} {L R : List ℕ} where
   pub tells-9 : {number : ℕ} → number ≡ length (variables M L R) → Tells (PairGiven limits M L R 9) (ltb 6 number)
   tells-9 = tells-many (variables M L R) many-variables more-variables
 
-  pub tells-11 : {number : ℕ} → number ≡ length (unbalanced M L R) → Tells (PairGiven limits M L R 11) (ltb 4 number)
+  pub tells-11 : {number : ℕ} → number ≡ length (unbalanced M L R)
+      → Tells (PairGiven limits M L R 11) (ltb 4 number)
   tells-11 = tells-many (unbalanced M L R) many-constants more-constants
 
   -- where no number refuses, all that was found is held
-  pub pair-held : {pair : Pair} → HeldIfRoom L R (variables M L R) (pair .variables) → HeldIfRoom L R (unbalanced M L R) (pair .constants)
+  pub pair-held : {pair : Pair} → HeldIfRoom L R (variables M L R) (pair .variables)
+      → HeldIfRoom L R (unbalanced M L R) (pair .constants)
       → (PairGiven limits M L R 9 → ⊥) → (PairGiven limits M L R 11 → ⊥) → PairOf M L R pair
   pair-held the-variables the-constants not9 not11 =
       let few : length (unbalanced M L R) ≤ 4 = at-most _ _ (λ many. not11 (many-constants many)) in

@@ -26,16 +26,19 @@ tells-less a b = record { if-true = ltb-true a b; if-false = λ e less. omega (a
 
 -- where the first is not so, the second tells of either
 pub tells-second : {A B : Type 0} {told : Bool} → (A → ⊥) → Tells B told → Tells (A ⊎ B) told
-tells-second not-first second = record { if-true = λ e. inr (second .if-true e); if-false = λ e. ⊎-elim not-first (second .if-false e) }
+tells-second not-first second =
+    record { if-true = λ e. inr (second .if-true e); if-false = λ e. ⊎-elim not-first (second .if-false e) }
 
 -- two tests tell of either
-pub tells-either : {A B : Type 0} (first second : Bool) → Tells A first → Tells B second → Tells (A ⊎ B) (first || second)
+pub tells-either : {A B : Type 0} (first second : Bool) → Tells A first → Tells B second
+    → Tells (A ⊎ B) (first || second)
 tells-either true second a b = tells-true (inl (a .if-true refl))
 tells-either false second a b = tells-second (a .if-false refl) b
 
 -- a truth value tells of what is so exactly where something else is
 pub tells-same : {A B : Type 0} {told : Bool} → (A → B) → (B → A) → Tells A told → Tells B told
-tells-same to from tells = record { if-true = λ e. to (tells .if-true e); if-false = λ e b. tells .if-false e (from b) }
+tells-same to from tells =
+    record { if-true = λ e. to (tells .if-true e); if-false = λ e b. tells .if-false e (from b) }
 
 -- what is not above a limit is at most the limit
 pub at-most : (m n : ℕ) → (n < m → ⊥) → m ≤ n

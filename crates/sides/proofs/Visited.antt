@@ -24,11 +24,13 @@ abbrev Stored : List ℕ → List ℕ → Type 0
 Stored list places = length list ≤ 6 → places ≡ padded list
 
 -- one more, stored behind the list
-stored-more : (list : List ℕ) {places places′ : List ℕ} (x : ℕ) → (length list < 6 → places′ ≡ set places (length list) x)
+stored-more : (list : List ℕ) {places places′ : List ℕ} (x : ℕ)
+    → (length list < 6 → places′ ≡ set places (length list) x)
     → Stored list places → Stored (list ++ x ∷ []) places′
 stored-more list x put stored fits =
     put (omega (arith, longer))
-    ∙ ap (λ (l : List ℕ). set l (length list) x) (stored (omega (arith, longer)) ∙ ap (λ (n : ℕ). list ++ replicate n 0) room)
+    ∙ ap (λ (l : List ℕ). set l (length list) x)
+    (stored (omega (arith, longer)) ∙ ap (λ (n : ℕ). list ++ replicate n 0) room)
     ∙ set-append-seam list 0 (replicate left 0) x
     ∙ sym (append-snoc list x (replicate left 0))
   where
@@ -52,9 +54,17 @@ pub record Visited (p : ℕ → Bool) (f g : ℕ → ℕ) (atom number : ℕ) (a
 module _ (p : ℕ → Bool) (f g : ℕ → ℕ) where
   -- before the first atom
   pub visited-none : Visited p f g 0 0 (replicate 6 0) (replicate 6 0) (replicate 6 0)
-  visited-none = record { how-many = refl; few = omega arith; the-atoms = λ fits. refl; left-numbers = λ fits. refl; right-numbers = λ fits. refl }
+  visited-none = record {
+    how-many = refl;
+    few = omega arith;
+    the-atoms = λ fits. refl;
+    left-numbers = λ fits.
+        refl;
+    right-numbers = λ fits. refl;
+  }
 
-  module _ (atom number : ℕ) (atoms lefts rights : List ℕ) (so-far : Visited p f g atom number atoms lefts rights) where
+  module _ (atom number : ℕ) (atoms lefts rights : List ℕ)
+      (so-far : Visited p f g atom number atoms lefts rights) where
     abbrev found : List ℕ
     found = filter p (below atom)
 
@@ -66,16 +76,20 @@ module _ (p : ℕ → Bool) (f g : ℕ → ℕ) where
           → Visited p f g (atom + 1) number′ atoms′ lefts′ rights′
       visited-more passes one-more in-atoms in-lefts in-rights =
           record {
-            how-many = rw (filter-below, passes) (omega (arith, one-more, so-far .how-many, length-snoc found atom));
+            how-many =
+                rw (filter-below, passes) (omega (arith, one-more, so-far .how-many, length-snoc found atom));
             few = omega (arith, so-far .few, one-more);
-            the-atoms = rw (filter-below, passes) (stored-more found atom (rw (so-far .how-many) at in-atoms) (so-far .the-atoms));
+            the-atoms = rw (filter-below, passes)
+                (stored-more found atom (rw (so-far .how-many) at in-atoms) (so-far .the-atoms));
             left-numbers = rw (filter-below, passes) (with-number f in-lefts (so-far .left-numbers));
             right-numbers = rw (filter-below, passes) (with-number g in-rights (so-far .right-numbers));
           }
         where
-          with-number : (h : ℕ → ℕ) {places places′ : List ℕ} → (number < 6 → places′ ≡ set places number (h atom)) → Stored (map h found) places
+          with-number : (h : ℕ → ℕ) {places places′ : List ℕ}
+              → (number < 6 → places′ ≡ set places number (h atom)) → Stored (map h found) places
               → Stored (map h (found ++ atom ∷ [])) places′
-          with-number h put stored = rw map-append (stored-more (map h found) (h atom) (rw (length-map, ← so-far .how-many) put) stored)
+          with-number h put stored = rw map-append
+              (stored-more (map h found) (h atom) (rw (length-map, ← so-far .how-many) put) stored)
 
       -- one that does not pass is left out
       pub visited-skip :
@@ -92,17 +106,20 @@ module _ (p : ℕ → Bool) (f g : ℕ → ℕ) where
 
 -- by the tables: whether an atom is one of the kind, and by how much one count exceeds the other
 abbrev pub isCounted : Kind → Counts → ℕ → Bool
-isCounted kind counts atom = isOf kind (getD (counts .moving) atom false) (getD (counts .left) atom 0) (getD (counts .right) atom 0)
+isCounted kind counts atom =
+    isOf kind (getD (counts .moving) atom false) (getD (counts .left) atom 0) (getD (counts .right) atom 0)
 
 abbrev pub exceeds : List ℕ → List ℕ → ℕ → ℕ
 exceeds table other atom = getD table atom 0 - getD other atom 0
 
 -- the counts in the tables are those of the sides
-exceeds-excess : {side other table table′ : List ℕ} → Occurrences side table → Occurrences other table′ → exceeds table table′ ≡ excess side other
+exceeds-excess : {side other table table′ : List ℕ} → Occurrences side table → Occurrences other table′
+    → exceeds table table′ ≡ excess side other
 exceeds-excess in-side in-other = fun-ext (λ a. rw (in-side .entries a, in-other .entries a))
 
 module _ {M : Mode} {L R : List ℕ} {counts : Counts} (counted : CountsOf M L R counts) where
-  counted-is : (kind : Kind) → filter (isCounted kind counts) atoms ≡ filter (λ a. isOf kind (M .moves a) (count a L) (count a R)) atoms
+  counted-is : (kind : Kind)
+      → filter (isCounted kind counts) atoms ≡ filter (λ a. isOf kind (M .moves a) (count a L) (count a R)) atoms
   counted-is kind =
       filter-same (isCounted kind counts) (λ a. isOf kind (M .moves a) (count a L) (count a R)) atoms
       (λ a. rw (counted .moves a, counted .on-left .entries a, counted .on-right .entries a))
@@ -114,7 +131,8 @@ module _ {M : Mode} {L R : List ℕ} {counts : Counts} (counted : CountsOf M L R
 
 -- once all atoms are visited, those of the kind are gathered
 pub visited-gathers : (kind : Kind) (counts : Counts) (gathered : Gathered)
-    → Visited (isCounted kind counts) (exceeds (counts .left) (counts .right)) (exceeds (counts .right) (counts .left)) 128
+    → Visited (isCounted kind counts) (exceeds (counts .left) (counts .right))
+    (exceeds (counts .right) (counts .left)) 128
     (gathered .count) (gathered .atoms) (gathered .left) (gathered .right)
     → Gathers kind counts gathered
 visited-gathers kind counts gathered visited M L R counted =
@@ -124,12 +142,15 @@ visited-gathers kind counts gathered visited M L R counted =
       held = λ fits. record {
         how-many = visited .how-many;
         the-atoms = visited .the-atoms fits;
-        left-parts = visited .left-numbers (rw length-map fits) ∙ numbers (exceeds-excess (counted .on-left) (counted .on-right));
-        right-parts = visited .right-numbers (rw length-map fits) ∙ numbers (exceeds-excess (counted .on-right) (counted .on-left));
+        left-parts = visited .left-numbers (rw length-map fits)
+            ∙ numbers (exceeds-excess (counted .on-left) (counted .on-right));
+        right-parts = visited .right-numbers (rw length-map fits)
+            ∙ numbers (exceeds-excess (counted .on-right) (counted .on-left));
       };
     })
   where
-    numbers : {f g : ℕ → ℕ} → f ≡ g → padded (map f (filter (isCounted kind counts) atoms)) ≡ padded (map g (filter (isCounted kind counts) atoms))
+    numbers : {f g : ℕ → ℕ} → f ≡ g → padded (map f (filter (isCounted kind counts) atoms))
+        ≡ padded (map g (filter (isCounted kind counts) atoms))
     numbers same = ap (λ (h : ℕ → ℕ). padded (map h (filter (isCounted kind counts) atoms))) same
 
 -- an atom that stands on a side occurs

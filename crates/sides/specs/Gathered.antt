@@ -47,4 +47,5 @@ allOf Constant M L R = unbalanced M L R
 
 -- the atoms of the kind are gathered of the sides whose atoms were counted
 abbrev pub Gathers : Kind → Counts → Gathered → Type 0
-Gathers kind counts gathered = (M : Mode) (L R : List ℕ) → CountsOf M L R counts → HeldIfRoom L R (allOf kind M L R) gathered
+Gathers kind counts gathered =
+    (M : Mode) (L R : List ℕ) → CountsOf M L R counts → HeldIfRoom L R (allOf kind M L R) gathered

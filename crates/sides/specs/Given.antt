@@ -30,9 +30,11 @@ Far limits L R atom = limits .net-count < natAbs (net L R atom)
 -- more than 16 balanced rows, or more than 16 for one constant
 pub data ManyRows (limits : Limits) (G : Groups) : Type 0 where
   balanced : limits .balanced-rows < length (G .balanced) → ManyRows limits G
-  of-a-constant : {g : Group} → List·Memᴰ g (G .constants) → limits .constant-rows < length (g .rows) → ManyRows limits G
+  of-a-constant : {g : Group} → List·Memᴰ g (G .constants) → limits .constant-rows < length (g .rows)
+      → ManyRows limits G
 
--- A constructor for each row of the table. Each says when its number is given, whatever else is wrong with the sides.
+-- A constructor for each row of the table. Each says when its number is given, whatever else is wrong with
+-- the sides.
 pub data PairGiven (limits : Limits) (M : Mode) (L R : List ℕ) : ℕ → Type 0 where
   -- a side has 0 or more than 64 atoms
   side-length : {side : List ℕ} → Side L R side → WrongLength limits side → PairGiven limits M L R 7

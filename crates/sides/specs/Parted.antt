@@ -21,9 +21,11 @@ pub record PairOf (M : Mode) (L R : List ℕ) (pair : Pair) : Type 0 where
   pub the-variables : Held L R (variables M L R) (pair .variables)
   pub the-constants : Held L R (unbalanced M L R) (pair .constants)
 
--- Refused with the first of the numbers that is given; accepted where none is, and then the pair is that of the sides.
+-- Refused with the first of the numbers that is given; accepted where none is, and then the pair is that of
+-- the sides.
 pub record PartedOf (numbers : List ℕ) (M : Mode) (L R : List ℕ) (parted : Parted) : Type 0 where
-  pub refused : (refusal : Refusal) → parted .verdict ≡ Refused refusal → First (PairGiven limits M L R) numbers (numberOf refusal)
+  pub refused : (refusal : Refusal) → parted .verdict ≡ Refused refusal
+      → First (PairGiven limits M L R) numbers (numberOf refusal)
   pub none-given : parted .verdict ≡ Accepted → NoneOf (PairGiven limits M L R) numbers
   pub the-pair : parted .verdict ≡ Accepted → PairOf M L R (parted .pair)
 

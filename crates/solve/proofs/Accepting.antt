@@ -25,8 +25,10 @@ pub groups-none : {Row : ℕ → List ℕ → Type 0} {places : ℕ} {rows sizes
 groups-none empty = record { sizes-fit = λ g. omega (arith, empty g); the-rows = λ g h. absurd (omega arith) }
 
 -- one group more
-pub groups-next : {Row : ℕ → List ℕ → Type 0} {places count group : ℕ} {bytes before after sizes : List ℕ} → group < length sizes → count ≤ 16
-    → FoundOf 16 (Row group) places bytes count → Spreads places group count bytes before after → GroupsUpto 16 Row places before sizes group
+pub groups-next : {Row : ℕ → List ℕ → Type 0} {places count group : ℕ} {bytes before after sizes : List ℕ}
+    → group < length sizes → count ≤ 16
+    → FoundOf 16 (Row group) places bytes count → Spreads places group count bytes before after
+    → GroupsUpto 16 Row places before sizes group
     → GroupsUpto 16 Row places after (set sizes group count) (group + 1)
 groups-next {Row} {places} {count} {group} {bytes} {before} {after} {sizes} there few found spread known =
     record { sizes-fit = λ g. fits g (ℕ-discrete g group); the-rows = λ g h. exact g h (ℕ-discrete g group) }
@@ -41,21 +43,25 @@ groups-next {Row} {places} {count} {group} {bytes} {before} {after} {sizes} ther
     fits g (yes e) = omega (arith, its-size g e)
     fits g (no differs) = omega (arith, other-size g differs, known .sizes-fit g)
 
-    exact : (g : ℕ) → g < group + 1 → Dec (g ≡ group) → Exactly (Row g) (groupIn places after g (getD (set sizes group count) g 0))
+    exact : (g : ℕ) → g < group + 1 → Dec (g ≡ group)
+        → Exactly (Row g) (groupIn places after g (getD (set sizes group count) g 0))
     exact g h (yes e) =
         subst (λ k. Exactly (Row k) (groupIn places after k (getD (set sizes group count) k 0))) (sym e)
         (subst (λ n. Exactly (Row group) (groupIn places after group n)) (sym (its-size group refl))
         (subst (Exactly (Row group)) (sym (spread .stored)) (found .few few)))
     exact g h (no differs) =
         subst (Exactly (Row g))
-        (sym (ap (groupIn places after g) (other-size g differs) ∙ spread .others g (getD sizes g 0) differs (known .sizes-fit g)))
+        (sym (ap (groupIn places after g) (other-size g differs)
+        ∙ spread .others g (getD sizes g 0) differs (known .sizes-fit g)))
         (known .the-rows g (omega (arith, differs)))
 
 -- a group with too many rows, and all groups put
 module _ {M : Mode} {L R : List ℕ} {places : ℕ} {groups : Groups} where
   -- number 12 is given
-  pub put-too-many : {g : ℕ} → groups .fits ≡ false → g ≤ length (unbalanced M L R) → More 16 (RowIn M L R g) → GroupsFound M L R places groups
-  put-too-many {g} told within more = record { if-true = λ e. absurd (false≢true (sym told ∙ e)); if-false = λ e. twelve-given g within more }
+  pub put-too-many : {g : ℕ} → groups .fits ≡ false → g ≤ length (unbalanced M L R) → More 16 (RowIn M L R g)
+      → GroupsFound M L R places groups
+  put-too-many {g} told within more =
+      record { if-true = λ e. absurd (false≢true (sym told ∙ e)); if-false = λ e. twelve-given g within more }
 
   -- all groups are found
   pub put-all : {upto : ℕ} → groups .fits ≡ true → upto ≡ suc (length (unbalanced M L R))
@@ -70,12 +76,15 @@ module _ {M : Mode} {L R : List ℕ} {places : ℕ} {groups : Groups} where
 pub record PutUpto (pair : Pair) (rows sizes : List ℕ) (group : ℕ) : Type 0 where
   pub rows-size : length rows ≡ 480
   pub sizes-size : length sizes ≡ 5
-  pub groups : (M : Mode) (L R : List ℕ) → PairOf M L R pair → GroupsUpto 16 (RowIn M L R) (pair .variables .count) rows sizes group
+  pub groups : (M : Mode) (L R : List ℕ) → PairOf M L R pair
+      → GroupsUpto 16 (RowIn M L R) (pair .variables .count) rows sizes group
 
 -- The table that holds the pair's atoms beside all its groups is that of the pair.
-module _ {M : Mode} {L R : List ℕ} {pair : Pair} (of : PairOf M L R pair) (roomy : Roomy pair) {four rows sizes : List ℕ}
+module _ {M : Mode} {L R : List ℕ} {pair : Pair} (of : PairOf M L R pair) (roomy : Roomy pair)
+    {four rows sizes : List ℕ}
     (first-four : four ≡ take 4 (pair .constants .atoms))
-    (known : GroupsUpto 16 (RowIn M L R) (pair .variables .count) rows sizes (suc (length (unbalanced M L R)))) where
+    (known : GroupsUpto 16 (RowIn M L R) (pair .variables .count) rows sizes
+    (suc (length (unbalanced M L R)))) where
   abbrev tableWith : Table
   tableWith =
       record {
@@ -95,9 +104,11 @@ module _ {M : Mode} {L R : List ℕ} {pair : Pair} (of : PairOf M L R pair) (roo
       ∙ take-atoms (of .the-constants)
 
   -- each of them has its own rows
-  rows-of-constant : (h : Group) → List·Memᴰ h (groupsIn tableWith .constants) → Exactly (RowOf M L R (h .constant)) (h .rows)
+  rows-of-constant : (h : Group) → List·Memᴰ h (groupsIn tableWith .constants)
+      → Exactly (RowOf M L R (h .constant)) (h .rows)
   rows-of-constant h member =
-      subst (λ c. Exactly (RowOf M L R c) (h .rows)) (sym (s .its-constant ∙ ap (λ cs. getD cs (s .place) 0) the-constants))
+      subst (λ c. Exactly (RowOf M L R c) (h .rows))
+      (sym (s .its-constant ∙ ap (λ cs. getD cs (s .place) 0) the-constants))
       (subst (Exactly (RowIn M L R (suc (s .place))))
       (sym (s .its-rows ∙ ap (groupAt tableWith) (let e : 1 + s .place ≡ suc (s .place) = omega arith in e)))
       (known .the-rows (suc (s .place)) (omega (arith, s .within, ap length the-constants))))

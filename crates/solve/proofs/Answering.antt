@@ -21,7 +21,13 @@ use Rattle.solve.specs.Rows.{refused, groups, size, sizesOf, allRows, by
 module _ {M : Mode} {L R out : List ℕ} where
   -- each row of Rows' table is the row of the sides or of the buffer
   made : MadeOf (RowsGiven M L R out) (PairGiven limits M L R) (λ n. ⊥) (length out) rowsBuffer ⊥
-  made = record { of-sides = of-the-sides; of-list = λ given. absurd given; of-buffer = short-buffer; row-of = row-of }
+  made = record {
+    of-sides = of-the-sides;
+    of-list = λ given. absurd given;
+    of-buffer = short-buffer;
+    row-of =
+        row-of;
+  }
     where
       row-of : {n : ℕ} → RowsGiven M L R out n → Row (PairGiven limits M L R) (λ n. ⊥) (length out) rowsBuffer ⊥ n
       row-of (of-the-sides given) = sides-row (sides-number given) given
@@ -33,13 +39,16 @@ module _ {M : Mode} {L R out : List ℕ} where
 
   module _ (long : rowsBuffer ≤ length out) where
     -- a number from 7 to 12
-    pub sides-refused : {n : ℕ} → First (PairGiven limits M L R) pairNumbers n → RowsPromise M L R out (refused n) out
+    pub sides-refused : {n : ℕ} → First (PairGiven limits M L R) pairNumbers n
+        → RowsPromise M L R out (refused n) out
     sides-refused first = is-refused (first-of-sides made long refl [] first)
 
     -- the rows, and the sizes of the groups
     pub rows-answered : {t : Table} {after : List ℕ} {next first second third fourth : ℕ} → TableOf M L R t
-        → NoneOf (PairGiven limits M L R) pairNumbers → Put out 0 (bytesOf (allRows (groupsIn t))) next after → next ≤ 480
-        → first ≡ size (groupsIn t) 0 → second ≡ size (groupsIn t) 1 → third ≡ size (groupsIn t) 2 → fourth ≡ size (groupsIn t) 3
+        → NoneOf (PairGiven limits M L R) pairNumbers → Put out 0 (bytesOf (allRows (groupsIn t))) next after
+        → next ≤ 480
+        → first ≡ size (groupsIn t) 0 → second ≡ size (groupsIn t) 1 → third ≡ size (groupsIn t) 2
+        → fourth ≡ size (groupsIn t) 3
         → RowsPromise M L R out (groups (getD (t .sizes) 0 0) (t .unbalanced) first second third fourth) after
     rows-answered {t} {after} {next} {first} {second} {third} {fourth} of none put within e₁ e₂ e₃ e₄ =
         subst (λ o. RowsPromise M L R out o after) sizes

@@ -28,14 +28,16 @@ module _ {M : Mode} {L R : List ℕ} where
   -- a group that is found to have more rows
   pub twelve-given : (g : ℕ) → g ≤ length (unbalanced M L R) → More 16 (RowIn M L R g) → PairGiven limits M L R 12
   twelve-given zero within m =
-      many-rows exist (balanced (subst (λ rows. 16 < length rows) (exactly-unique (m .exactly) (exist .balanced-rows)) (m .above)))
+      many-rows exist (balanced (subst (λ rows. 16 < length rows)
+      (exactly-unique (m .exactly) (exist .balanced-rows)) (m .above)))
     where
       exist : GroupsOf M L R (groups M L R)
       exist = groups-exist M L R
   twelve-given (suc g) within m =
       many-rows exist
       (of-a-constant member
-      (subst (λ rows. 16 < length rows) (exactly-unique (m .exactly) (exist .constant-rows (groupOf M L R c) member)) (m .above)))
+      (subst (λ rows. 16 < length rows) (exactly-unique (m .exactly)
+      (exist .constant-rows (groupOf M L R c) member)) (m .above)))
     where
       exist : GroupsOf M L R (groups M L R)
       exist = groups-exist M L R
@@ -48,4 +50,5 @@ module _ {M : Mode} {L R : List ℕ} where
 
   -- where a table holds the pair's groups, 12 is not given
   pub twelve-not-given : {t : Table} → Within t → GroupsOf M L R (groupsIn t) → PairGiven limits M L R 12 → ⊥
-  twelve-not-given {t} within of (many-rows {G} others many) = within-limit within (subst (ManyRows limits) (groups-unique M L R others of) many)
+  twelve-not-given {t} within of (many-rows {G} others many) =
+      within-limit within (subst (ManyRows limits) (groups-unique M L R others of) many)

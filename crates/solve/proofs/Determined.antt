@@ -21,7 +21,8 @@ told-one-to-one (Refused v) (Refused w) e =
     cc same
 
 -- Two outcomes, each with its buffer, that meet the promise are identical.
-pub rows-determined : {M : Mode} {L R out : List ℕ} {o o′ : RowsOutcome} {after after′ : List ℕ} → RowsPromise M L R out o after
+pub rows-determined : {M : Mode} {L R out : List ℕ} {o o′ : RowsOutcome} {after after′ : List ℕ}
+    → RowsPromise M L R out o after
     → RowsPromise M L R out o′ after′ → (o ≡ o′) × (after ≡ after′)
 rows-determined (is-refused f) (is-refused g) = (ap refused (first-unique f g), refl)
 rows-determined (is-refused f) (is-answered none of) = absurd (first-not-none f none)

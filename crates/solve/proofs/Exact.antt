@@ -21,7 +21,8 @@ use Rattle.solve.proofs.Lists.{flatMap-append, AllOf, length-bytes}
 -- Bytes of rows, cut again.
 
 -- rows of so many bytes each
-rows-again : (places : ℕ) (rows : List (List ℕ)) (rest : List ℕ) → AllOf places rows → rowsOf places (length rows) (bytesOf rows ++ rest) ≡ rows
+rows-again : (places : ℕ) (rows : List (List ℕ)) (rest : List ℕ) → AllOf places rows
+    → rowsOf places (length rows) (bytesOf rows ++ rest) ≡ rows
 rows-again places [] rest long = refl
 rows-again places (row ∷ rows) rest long =
     ap (rowsOf places (suc (length rows))) (append-assoc row (bytesOf rows) rest)
@@ -33,13 +34,15 @@ rows-again places (row ∷ rows) rest long =
     its = long row (List·Memᴰ·head refl)
 
 -- groups of such rows
-cut-again : (places : ℕ) (gs : List (List (List ℕ))) (rest : List ℕ) → ((rows : List (List ℕ)) → List·Memᴰ rows gs → AllOf places rows)
+cut-again : (places : ℕ) (gs : List (List (List ℕ))) (rest : List ℕ)
+    → ((rows : List (List ℕ)) → List·Memᴰ rows gs → AllOf places rows)
     → cut places (map length gs) (bytesOf (flatMap (λ rows. rows) gs) ++ rest) ≡ gs
 cut-again places [] rest long = refl
 cut-again places (rows ∷ gs) rest long =
     ap (cut places (length rows ∷ map length gs)) split
     ∙ ap₂ {C = List (List (List ℕ))} (λ r rs. r ∷ rs) (rows-again places rows others its)
-    (ap (cut places (map length gs)) (drop-at (bytesOf rows) others (length rows * places) (length-bytes places rows its))
+    (ap (cut places (map length gs)) (drop-at (bytesOf rows) others (length rows * places)
+    (length-bytes places rows its))
     ∙ cut-again places gs rest (λ r m. long r (List·Memᴰ·tail m)))
   where
     others : List ℕ
@@ -60,17 +63,20 @@ abbrev rowsOfEach : Groups → List (List (List ℕ))
 rowsOfEach G = G .balanced ∷ map (λ (g : Group). g .rows) (G .constants)
 
 -- all rows are those of each group
-all-rows-each : (gs : List Group) → flatMap (λ (g : Group). g .rows) gs ≡ flatMap (λ rows. rows) (map (λ (g : Group). g .rows) gs)
+all-rows-each : (gs : List Group)
+    → flatMap (λ (g : Group). g .rows) gs ≡ flatMap (λ rows. rows) (map (λ (g : Group). g .rows) gs)
 all-rows-each [] = refl
 all-rows-each (g ∷ gs) = ap (λ l. g .rows ++ l) (all-rows-each gs)
 
 -- and so are the sizes
-sizes-each : (gs : List Group) → map (λ (g : Group). length (g .rows)) gs ≡ map length (map (λ (g : Group). g .rows) gs)
+sizes-each : (gs : List Group)
+    → map (λ (g : Group). length (g .rows)) gs ≡ map length (map (λ (g : Group). g .rows) gs)
 sizes-each [] = refl
 sizes-each (g ∷ gs) = ap (λ l. length (g .rows) ∷ l) (sizes-each gs)
 
 -- of at most four numbers, as many as there are, by their places
-up-to-four : (ns : List ℕ) → length ns ≤ 4 → take (length ns) (getD ns 0 0 ∷ getD ns 1 0 ∷ getD ns 2 0 ∷ getD ns 3 0 ∷ []) ≡ ns
+up-to-four : (ns : List ℕ) → length ns ≤ 4
+    → take (length ns) (getD ns 0 0 ∷ getD ns 1 0 ∷ getD ns 2 0 ∷ getD ns 3 0 ∷ []) ≡ ns
 up-to-four [] few = refl
 up-to-four (a ∷ []) few = refl
 up-to-four (a ∷ b ∷ []) few = refl
@@ -92,7 +98,8 @@ constant-at M L R (g ∷ gs) (c ∷ cs) same exact (suc i) h =
 module _ {M : Mode} {L R : List ℕ} {G : Groups} (of : GroupsOf M L R G) where
   exact-each : (g : ℕ) → g ≤ length (unbalanced M L R) → Exactly (RowIn M L R g) (getD (rowsOfEach G) g [])
   exact-each zero within = of .balanced-rows
-  exact-each (suc g) within = constant-at M L R (G .constants) (unbalanced M L R) (of .the-constants) (of .constant-rows) g within
+  exact-each (suc g) within =
+      constant-at M L R (G .constants) (unbalanced M L R) (of .the-constants) (of .constant-rows) g within
 
   -- every row is a vector
   vectors-each : (rows : List (List ℕ)) → List·Memᴰ rows (rowsOfEach G) → AllOf (length (variables M L R)) rows
@@ -105,7 +112,8 @@ module _ {M : Mode} {L R : List ℕ} {G : Groups} (of : GroupsOf M L R G) where
   cut-buffer : length (G .constants) ≤ 4 → (out : List ℕ)
       → cut (length (variables M L R)) (groupSizes (sizesOf G)) (receives out (bytesOf (allRows G))) ≡ rowsOfEach G
   cut-buffer few out =
-      ap₂ (cut (length (variables M L R))) sizes (ap (λ rows. bytesOf (G .balanced ++ rows) ++ rest) (all-rows-each (G .constants)))
+      ap₂ (cut (length (variables M L R))) sizes
+      (ap (λ rows. bytesOf (G .balanced ++ rows) ++ rest) (all-rows-each (G .constants)))
       ∙ cut-again (length (variables M L R)) (rowsOfEach G) rest vectors-each
     where
       rest : List ℕ
@@ -124,7 +132,8 @@ module _ {M : Mode} {L R : List ℕ} {G : Groups} (of : GroupsOf M L R G) where
           ∙ up-to-four each (omega (arith, how-many)) ∙ sizes-each (G .constants))
 
 -- where no number is given there are at most four unbalanced constants
-few-constants : {M : Mode} {L R out : List ℕ} {G : Groups} → NoneOf (RowsGiven M L R out) rowsNumbers → GroupsOf M L R G → length (G .constants) ≤ 4
+few-constants : {M : Mode} {L R out : List ℕ} {G : Groups} → NoneOf (RowsGiven M L R out) rowsNumbers
+    → GroupsOf M L R G → length (G .constants) ≤ 4
 few-constants {M} {L} {R} {G = G} (also _ (also _ (also _ (also _ (also _ (also eleven _)))))) of =
     let few : length (unbalanced M L R) ≤ 4 = at-most _ _ (λ many. eleven (of-the-sides (many-constants many))) in
     omega (arith, ap length (of .the-constants), length-map (G .constants) (λ (g : Group). g .constant))
@@ -132,8 +141,10 @@ few-constants {M} {L} {R} {G = G} (also _ (also _ (also _ (also _ (also _ (also 
 -- After Rows has answered, the buffer cut by the sizes has the balanced rows as group 0 and those of each
 -- unbalanced constant, ascending, as the groups after it: exactly the vectors that are rows by the
 -- definition, which has no bound, and in ascending order.
-pub buffer-exact : {M : Mode} {L R out after : List ℕ} {b k s t u w : ℕ} → RowsPromise M L R out (groups b k s t u w) after
+pub buffer-exact : {M : Mode} {L R out after : List ℕ} {b k s t u w : ℕ}
+    → RowsPromise M L R out (groups b k s t u w) after
     → (g : ℕ) → g ≤ length (unbalanced M L R)
     → Exactly (RowIn M L R g) (getD (cut (length (variables M L R)) (groupSizes (groups b k s t u w)) after) g [])
 buffer-exact {M} {L} {R} {out} (is-answered {G} none of) g within =
-    subst (λ gs. Exactly (RowIn M L R g) (getD gs g [])) (sym (cut-buffer of (few-constants none of) out)) (exact-each of g within)
+    subst (λ gs. Exactly (RowIn M L R g) (getD gs g [])) (sym (cut-buffer of (few-constants none of) out))
+    (exact-each of g within)

@@ -26,7 +26,8 @@ beyond-map f g [] = refl
 beyond-map f g (x ∷ xs) = ap (λ l. (f x - g x) ∷ l) (beyond-map f g xs)
 
 -- what is found of an equation's minimal solutions is found of the rows that they are
-found-as : {limit n : ℕ} {E : Equation} {Row : List ℕ → Type 0} {bytes : List ℕ} {places : ℕ} → ((v : List ℕ) → Minimal E v ↔ Row v)
+found-as : {limit n : ℕ} {E : Equation} {Row : List ℕ → Type 0} {bytes : List ℕ} {places : ℕ}
+    → ((v : List ℕ) → Minimal E v ↔ Row v)
     → length (E .left) ≡ places → Finds limit E bytes n → FoundOf limit Row places bytes n
 found-as {n = n} {Row = Row} {bytes = bytes} same size (few within exact) =
     record {
@@ -34,7 +35,11 @@ found-as {n = n} {Row = Row} {bytes = bytes} same size (few within exact) =
       more = λ above. absurd (omega arith);
     }
 found-as same size (more {rows} exact above) =
-    record { few = λ h. absurd (omega arith); more = λ h. record { rows = rows; exactly = exactly-same same exact; above = above } }
+    record {
+      few = λ h. absurd (omega arith);
+      more = λ h. record
+          { rows = rows; exactly = exactly-same same exact; above = above };
+    }
 
 module _ {M : Mode} {L R : List ℕ} {pair : Pair} (of : PairOf M L R pair) where
   abbrev occurrencesOf : List ℕ → List ℕ
@@ -45,14 +50,16 @@ module _ {M : Mode} {L R : List ℕ} {pair : Pair} (of : PairOf M L R pair) wher
   whole = equation (occurrencesOf L) (occurrencesOf R)
 
   abbrev parts : ℕ → ℕ → Bool → Equation
-  parts = equation (take (pair .variables .count) (pair .variables .left)) (take (pair .variables .count) (pair .variables .right))
+  parts = equation (take (pair .variables .count) (pair .variables .left))
+      (take (pair .variables .count) (pair .variables .right))
 
   -- the coefficients of the variables are their net parts
   left-parts : take (pair .variables .count) (pair .variables .left) ≡ beyond (occurrencesOf L) (occurrencesOf R)
   left-parts = take-left (of .the-variables) ∙ sym (beyond-map (λ x. count x L) (λ x. count x R) (variables M L R))
 
   right-parts : take (pair .variables .count) (pair .variables .right) ≡ beyond (occurrencesOf R) (occurrencesOf L)
-  right-parts = take-right (of .the-variables) ∙ sym (beyond-map (λ x. count x R) (λ x. count x L) (variables M L R))
+  right-parts =
+      take-right (of .the-variables) ∙ sym (beyond-map (λ x. count x R) (λ x. count x L) (variables M L R))
 
   -- an equation with them, and with the net parts of two offsets, finds the rows that are its minimal solutions
   found-rows : {left-offset right-offset n : ℕ} {homogeneous : Bool} {bytes : List ℕ} {Row : List ℕ → Type 0}
@@ -60,13 +67,16 @@ module _ {M : Mode} {L R : List ℕ} {pair : Pair} (of : PairOf M L R pair) wher
       → Finds 16 (parts (left-offset - right-offset) (right-offset - left-offset) homogeneous) bytes n
       → FoundOf 16 Row (pair .variables .count) bytes n
   found-rows {left-offset} {right-offset} {n} {homogeneous} {bytes} rows found =
-      found-as (λ v. Iff·trans (netted-minimal (whole left-offset right-offset homogeneous) v) (Iff·symm (rows v))) size
+      found-as (λ v. Iff·trans (netted-minimal (whole left-offset right-offset homogeneous) v)
+      (Iff·symm (rows v))) size
       (subst (λ E. Finds 16 E bytes n) netted-parts found)
     where
       size : length (beyond (occurrencesOf L) (occurrencesOf R)) ≡ pair .variables .count
-      size = length-beyond (occurrencesOf L) (occurrencesOf R) ∙ length-map (variables M L R) (λ x. count x L) ∙ sym (of .the-variables .how-many)
+      size = length-beyond (occurrencesOf L) (occurrencesOf R) ∙ length-map (variables M L R) (λ x. count x L)
+          ∙ sym (of .the-variables .how-many)
 
-      netted-parts : parts (left-offset - right-offset) (right-offset - left-offset) homogeneous ≡ netted (whole left-offset right-offset homogeneous)
+      netted-parts : parts (left-offset - right-offset) (right-offset - left-offset) homogeneous
+          ≡ netted (whole left-offset right-offset homogeneous)
       netted-parts i =
           record {
             left = left-parts i;
@@ -96,5 +106,6 @@ module _ {M : Mode} {L R : List ℕ} {pair : Pair} (of : PairOf M L R pair) wher
       there : g < length (unbalanced M L R)
       there = omega (arith, within, of .the-constants .how-many)
 
-      offsets : _≡_ {A = ℕ × ℕ} (getD (pair .constants .left) g 0, getD (pair .constants .right) g 0) (excess L R constant, excess R L constant)
+      offsets : _≡_ {A = ℕ × ℕ} (getD (pair .constants .left) g 0, getD (pair .constants .right) g 0)
+          (excess L R constant, excess R L constant)
       offsets = ap₂ (λ l r. (l, r)) (left-at (of .the-constants) g there) (right-at (of .the-constants) g there)

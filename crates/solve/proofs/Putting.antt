@@ -23,17 +23,21 @@ use Rattle.ac.proofs.Members.{below-members}
 
 -- one row more
 bytes-next : (places group : ℕ) (rows : List ℕ) (i : ℕ)
-    → bytesOf (groupIn places rows group (suc i)) ≡ bytesOf (groupIn places rows group i) ++ rowIn places rows group i
+    → bytesOf (groupIn places rows group (suc i)) ≡ bytesOf (groupIn places rows group i)
+    ++ rowIn places rows group i
 bytes-next places group rows i =
     ap bytesOf (map-from-last (rowIn places rows group) 0 i)
     ∙ flatMap-append (λ row. row) (groupIn places rows group i) (rowIn places rows group (0 + i) ∷ [])
     ∙ ap (λ l. bytesOf (groupIn places rows group i) ++ l)
-    (append-nil (rowIn places rows group (0 + i)) ∙ ap (rowIn places rows group) (let e : 0 + i ≡ i = omega arith in e))
+    (append-nil (rowIn places rows group (0 + i))
+    ∙ ap (rowIn places rows group) (let e : 0 + i ≡ i = omega arith in e))
 
-module _ (rows : List ℕ) {places group : ℕ} (size : length rows ≡ 480) (narrow : places ≤ 6) (few-groups : group < 5) where
+module _ (rows : List ℕ) {places group : ℕ} (size : length rows ≡ 480) (narrow : places ≤ 6)
+    (few-groups : group < 5) where
   -- a row has a byte for each place
   row-length : (i : ℕ) → i < 16 → length (rowIn places rows group i) ≡ places
-  row-length i h = length-take-le places (drop (96 * group + 6 * i) rows) (omega (arith, length-drop (96 * group + 6 * i) rows))
+  row-length i h = length-take-le places (drop (96 * group + 6 * i) rows)
+      (omega (arith, length-drop (96 * group + 6 * i) rows))
 
   -- and a group as many bytes as rows times places
   pub bytes-length : (count : ℕ) → count ≤ 16 → length (bytesOf (groupIn places rows group count)) ≡ count * places
@@ -47,7 +51,8 @@ module _ (rows : List ℕ) {places group : ℕ} (size : length rows ≡ 480) (na
           ap length (sym (origin .2)) ∙ row-length (origin .0) (omega (arith, below-members count (origin .1)))
 
   -- a row behind those before it
-  pub row-fits : {i count at next : ℕ} {out mid : List ℕ} → i < count → count ≤ 16 → Put out at (bytesOf (groupIn places rows group i)) next mid
+  pub row-fits : {i count at next : ℕ} {out mid : List ℕ} → i < count → count ≤ 16
+      → Put out at (bytesOf (groupIn places rows group i)) next mid
       → at + count * places ≤ length out → next + length (rowIn places rows group i) ≤ length mid
   row-fits {i} {count} {at} {next} {out} {mid} within few put room =
       omega (
@@ -65,13 +70,17 @@ module _ (rows : List ℕ) {places group : ℕ} (size : length rows ≡ 480) (na
   group-room count few = mul-le-mul few narrow
 
   -- the part of the array that a row is
-  pub row-part : (i : ℕ) → take (96 * group + 6 * i + places - (96 * group + 6 * i)) (drop (96 * group + 6 * i) rows) ≡ rowIn places rows group i
+  pub row-part : (i : ℕ)
+      → take (96 * group + 6 * i + places - (96 * group + 6 * i)) (drop (96 * group + 6 * i) rows)
+      ≡ rowIn places rows group i
   row-part i =
-      ap (λ n. take n (drop (96 * group + 6 * i) rows)) (let e : 96 * group + 6 * i + places - (96 * group + 6 * i) ≡ places = omega arith in e)
+      ap (λ n. take n (drop (96 * group + 6 * i) rows))
+      (let e : 96 * group + 6 * i + places - (96 * group + 6 * i) ≡ places = omega arith in e)
 
 -- one row more is put
 pub put-row : (places group : ℕ) (rows : List ℕ) (i : ℕ) {at next n : ℕ} {out mid after bytes : List ℕ}
-    → Put out at (bytesOf (groupIn places rows group i)) next mid → bytes ≡ rowIn places rows group i → Put mid next bytes n after → Put out at (bytesOf (groupIn places rows group (i + 1))) n after
+    → Put out at (bytesOf (groupIn places rows group i)) next mid → bytes ≡ rowIn places rows group i
+    → Put mid next bytes n after → Put out at (bytesOf (groupIn places rows group (i + 1))) n after
 put-row places group rows i before same put =
     put-as
     (ap (λ l. bytesOf (groupIn places rows group i) ++ l) same ∙ sym (bytes-next places group rows i)
@@ -85,7 +94,8 @@ abbrev pub rowsBefore : Table → ℕ → List (List ℕ)
 rowsBefore t group = flatMap (groupAt t) (below group)
 
 -- one group more is put
-pub put-group : (t : Table) (group : ℕ) {at next n : ℕ} {out mid after : List ℕ} → Put out at (bytesOf (rowsBefore t group)) next mid
+pub put-group : (t : Table) (group : ℕ) {at next n : ℕ} {out mid after : List ℕ}
+    → Put out at (bytesOf (rowsBefore t group)) next mid
     → Put mid next (bytesOf (groupAt t group)) n after → Put out at (bytesOf (rowsBefore t (group + 1))) n after
 put-group t group before put =
     put-as
@@ -107,7 +117,8 @@ pub all-rows : {t : Table} → Within t → allRows (groupsIn t) ≡ rowsBefore 
 all-rows {t} within =
     ap (λ l. groupAt t 0 ++ l)
     (rows-groupsFrom t 1 (take (t .unbalanced) (t .constants))
-    ∙ ap (λ n. flatMap (groupAt t) (from 1 n)) (length-take-le (t .unbalanced) (t .constants) (within .constants-held)))
+    ∙ ap (λ n. flatMap (groupAt t) (from 1 n))
+    (length-take-le (t .unbalanced) (t .constants) (within .constants-held)))
     ∙ ap (rowsBefore t) (sym (add-one (t .unbalanced)))
 
 -- The sizes of the constants' groups.
@@ -116,9 +127,11 @@ all-rows {t} within =
 size-from : (t : Table) (first : ℕ) (cs : List ℕ) (i : ℕ) → i < length cs
     → getD (map (λ (g : Group). length (g .rows)) (groupsFrom t first cs)) i 0 ≡ getD (t .sizes) (first + i) 0
 size-from t first [] i h = absurd (omega arith)
-size-from t first (c ∷ cs) zero h = length-groupAt t first ∙ ap (λ g. getD (t .sizes) g 0) (let e : first ≡ first + 0 = omega arith in e)
+size-from t first (c ∷ cs) zero h =
+    length-groupAt t first ∙ ap (λ g. getD (t .sizes) g 0) (let e : first ≡ first + 0 = omega arith in e)
 size-from t first (c ∷ cs) (suc i) h =
-    size-from t (suc first) cs i (omega arith) ∙ ap (λ g. getD (t .sizes) g 0) (let e : suc first + i ≡ first + suc i = omega arith in e)
+    size-from t (suc first) cs i (omega arith)
+    ∙ ap (λ g. getD (t .sizes) g 0) (let e : suc first + i ≡ first + suc i = omega arith in e)
 
 module _ {t : Table} (within : Within t) where
   abbrev used : List ℕ
@@ -136,4 +149,8 @@ module _ {t : Table} (within : Within t) where
   size-beyond place h =
       sym
       (List·getD-eq-default (map (λ (g : Group). length (g .rows)) (groupsIn t .constants)) 0
-      (omega (arith, how-many-constants t within, length-map (groupsIn t .constants) (λ (g : Group). length (g .rows)))))
+      (omega (
+        arith,
+        how-many-constants t within,
+        length-map (groupsIn t .constants) (λ (g : Group). length (g .rows)),
+      )))

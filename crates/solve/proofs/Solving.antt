@@ -21,23 +21,32 @@ use Rattle.solve.specs.declared.Solved.{Solved}
 
 module _ {M : Mode} {L R : List ℕ} {solved : Solved} where
   -- a number that is given refuses
-  pub solved-refused : {numbers : List ℕ} {why : Refusal} → solved .verdict ≡ Refused why → First (PairGiven limits M L R) numbers (numberOf why)
+  pub solved-refused : {numbers : List ℕ} {why : Refusal} → solved .verdict ≡ Refused why
+      → First (PairGiven limits M L R) numbers (numberOf why)
       → SolvedOf numbers M L R solved
   solved-refused {numbers} {why} told first =
       record {
-        refused = λ refusal e. let same : why ≡ refusal = cc in subst (λ r. First (PairGiven limits M L R) numbers (numberOf r)) same first;
+        refused = λ refusal e. let same : why ≡ refusal =
+            cc in subst (λ r. First (PairGiven limits M L R) numbers (numberOf r)) same first;
         none-given = λ e. absurd (let z : _≡_ {A = ℕ} 0 1 = cc in omega arith);
         the-table = λ e. absurd (let z : _≡_ {A = ℕ} 0 1 = cc in omega arith);
       }
 
   -- where none is, the pair is accepted
-  pub solved-accepted : {numbers : List ℕ} → solved .verdict ≡ Accepted → NoneOf (PairGiven limits M L R) numbers → TableOf M L R (solved .table)
+  pub solved-accepted : {numbers : List ℕ} → solved .verdict ≡ Accepted
+      → NoneOf (PairGiven limits M L R) numbers → TableOf M L R (solved .table)
       → SolvedOf numbers M L R solved
   solved-accepted told none table =
-      record { refused = λ refusal e. absurd (let z : _≡_ {A = ℕ} 0 1 = cc in omega arith); none-given = λ e. none; the-table = λ e. table }
+      record {
+        refused = λ refusal e. absurd (let z : _≡_ {A = ℕ} 0 1 = cc in omega arith);
+        none-given = λ e.
+            none;
+        the-table = λ e. table;
+      }
 
   -- numbers that are not given may stand before those that are settled
-  pub solved-after : {before numbers : List ℕ} → NoneOf (PairGiven limits M L R) before → SolvedOf numbers M L R solved
+  pub solved-after : {before numbers : List ℕ} → NoneOf (PairGiven limits M L R) before
+      → SolvedOf numbers M L R solved
       → SolvedOf (before ++ numbers) M L R solved
   solved-after none solved =
       record {
@@ -47,7 +56,8 @@ module _ {M : Mode} {L R : List ℕ} {solved : Solved} where
       }
 
 -- a pair of which no number is given is within its room
-pub pair-roomy : {M : Mode} {L R : List ℕ} {pair : Pair} → NoneOf (PairGiven limits M L R) partingNumbers → PairOf M L R pair → Roomy pair
+pub pair-roomy : {M : Mode} {L R : List ℕ} {pair : Pair} → NoneOf (PairGiven limits M L R) partingNumbers
+    → PairOf M L R pair → Roomy pair
 pair-roomy none of =
     let within = within-limits none in
     record {

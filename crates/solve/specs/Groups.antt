@@ -41,15 +41,18 @@ pub record FoundOf (limit : ℕ) (Row : List ℕ → Type 0) (places : ℕ) (byt
 -- the rows of a group are found, for all sides that the pair is of
 abbrev pub FindsGroup : Pair → ℕ → Found → Type 0
 FindsGroup pair group found =
-    (M : Mode) (L R : List ℕ) → PairOf M L R pair → FoundOf 16 (RowIn M L R group) (pair .variables .count) (found .rows) (found .number)
+    (M : Mode) (L R : List ℕ) → PairOf M L R pair
+    → FoundOf 16 (RowIn M L R group) (pair .variables .count) (found .rows) (found .number)
 
 -- the group has the rows that were found one after the other, and every other group is as it was
 pub record Spreads (places group count : ℕ) (found before after : List ℕ) : Type 0 where
   pub stored : groupIn places after group count ≡ rowsOf places count found
-  pub others : (other n : ℕ) → (other ≡ group → ⊥) → n ≤ 16 → groupIn places after other n ≡ groupIn places before other n
+  pub others : (other n : ℕ) → (other ≡ group → ⊥) → n ≤ 16
+      → groupIn places after other n ≡ groupIn places before other n
 
 -- the groups from the first one on stand at their places, each with its size
-pub record GroupsUpto (limit : ℕ) (Row : ℕ → List ℕ → Type 0) (places : ℕ) (rows sizes : List ℕ) (upto : ℕ) : Type 0 where
+pub record GroupsUpto (limit : ℕ) (Row : ℕ → List ℕ → Type 0) (places : ℕ) (rows sizes : List ℕ) (upto : ℕ) :
+    Type 0 where
   pub sizes-fit : (g : ℕ) → getD sizes g 0 ≤ limit
   pub the-rows : (g : ℕ) → g < upto → Exactly (Row g) (groupIn places rows g (getD sizes g 0))
 
@@ -61,4 +64,5 @@ pub record GroupsFound (M : Mode) (L R : List ℕ) (places : ℕ) (groups : Grou
 
 -- all groups are found, for all sides that the pair is of
 abbrev pub FindsGroups : Pair → Groups → Type 0
-FindsGroups pair groups = (M : Mode) (L R : List ℕ) → PairOf M L R pair → GroupsFound M L R (pair .variables .count) groups
+FindsGroups pair groups =
+    (M : Mode) (L R : List ℕ) → PairOf M L R pair → GroupsFound M L R (pair .variables .count) groups

@@ -20,7 +20,8 @@ pub data RowsOutcome : Type 0 where
 
 -- document 01's number and values for each case of the answer
 abbrev pub told : RowsAnswer → RowsOutcome
-told (answer.Groups balanced constants first second third fourth) = groups balanced constants first second third fourth
+told (answer.Groups balanced constants first second third fourth) =
+    groups balanced constants first second third fourth
 told (answer.Refused refusal) = refused (numberOf refusal)
 
 -- the size of a constant's group, by the constant's place among the unbalanced ones

@@ -19,7 +19,8 @@ use Rattle.solve.specs.declared.Solved.{Solved}
 -- Refused with the first of the numbers that is given; accepted where none is, and then the table is that of
 -- the sides.
 pub record SolvedOf (numbers : List ℕ) (M : Mode) (L R : List ℕ) (solved : Solved) : Type 0 where
-  pub refused : (refusal : Refusal) → solved .verdict ≡ Refused refusal → First (PairGiven limits M L R) numbers (numberOf refusal)
+  pub refused : (refusal : Refusal) → solved .verdict ≡ Refused refusal
+      → First (PairGiven limits M L R) numbers (numberOf refusal)
   pub none-given : solved .verdict ≡ Accepted → NoneOf (PairGiven limits M L R) numbers
   pub the-table : solved .verdict ≡ Accepted → TableOf M L R (solved .table)
 

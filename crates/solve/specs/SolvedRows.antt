@@ -13,4 +13,5 @@ use Rattle.solve.specs.Rows.{RowsOutcome, RowsPromise}
 -- the promise of Rows, for all sides whose table it is and that give no number
 abbrev pub SolvedRowsPromise : Table → List ℕ → RowsOutcome → List ℕ → Type 0
 SolvedRowsPromise table out outcome out′ =
-    (M : Mode) (L R : List ℕ) → TableOf M L R table → NoneOf (PairGiven limits M L R) pairNumbers → RowsPromise M L R out outcome out′
+    (M : Mode) (L R : List ℕ) → TableOf M L R table → NoneOf (PairGiven limits M L R) pairNumbers
+    → RowsPromise M L R out outcome out′

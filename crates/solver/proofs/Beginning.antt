@@ -18,7 +18,8 @@ use Rattle.solver.specs.Steps.{SettledOf, to-refuse, to-answer}
 use Rattle.solver.specs.declared.Settled.the-variants.{FirstKey, Refused}
 
 -- a key that is not listed is refused with 13 or 14
-pub settled-unlisted : {listed : List ℕ} {key : ℕ} {why : Refusal} → First (ListGiven listed (after key)) (13 ∷ 14 ∷ []) (numberOf why)
+pub settled-unlisted : {listed : List ℕ} {key : ℕ} {why : Refusal}
+    → First (ListGiven listed (after key)) (13 ∷ 14 ∷ []) (numberOf why)
     → SettledOf listed (after key) (Refused why)
 settled-unlisted first = to-refuse (first-before (15 ∷ []) first)
 
@@ -28,12 +29,14 @@ module _ {listed : List ℕ} (ascending : Ascending _<_ listed) where
   settled-empty nothing = to-refuse (here (none-admissible (none-remains ascending start nothing)))
 
   -- where the key after which to begin, if any, is listed, the page begins with the least key that may come
-  settled-least : (begin : Begin) {first : ℕ} → ((k : ℕ) → begin ≡ after k → List·Memᴰ k listed) → LeastFrom listed (boundOf begin) first
+  settled-least : (begin : Begin) {first : ℕ} → ((k : ℕ) → begin ≡ after k → List·Memᴰ k listed)
+      → LeastFrom listed (boundOf begin) first
       → SettledOf listed begin (FirstKey first)
   settled-least begin {first} on-list least =
       let remains = least-first ascending begin least in
       to-answer
-      (none-of (λ n. list-gives-none on-list (subst (List·Memᴰ first) (sym remains) (List·Memᴰ·head refl))) (13 ∷ 14 ∷ 15 ∷ [])) remains
+      (none-of (λ n. list-gives-none on-list (subst (List·Memᴰ first) (sym remains) (List·Memᴰ·head refl)))
+      (13 ∷ 14 ∷ 15 ∷ [])) remains
 
   -- from the start, the least key
   pub settled-start : {first : ℕ} → LeastFrom listed 0 first → SettledOf listed start (FirstKey first)
@@ -41,8 +44,10 @@ module _ {listed : List ℕ} (ascending : Ascending _<_ listed) where
 
   -- after a listed key, the least above it; after the last one it is 15
   module _ {key : ℕ} (m : List·Memᴰ key listed) where
-    pub settled-next : {first : ℕ} → LeastFrom listed (key + 1) first → SettledOf listed (after key) (FirstKey first)
+    pub settled-next : {first : ℕ} → LeastFrom listed (key + 1) first
+        → SettledOf listed (after key) (FirstKey first)
     settled-next least = settled-least (after key) (listed-after m) least
 
     pub settled-last : NoneFrom listed (key + 1) → SettledOf listed (after key) (Refused LastKey)
-    settled-last nothing = to-refuse (first-after (not-refused m) (here (last-listed refl m (none-remains ascending (after key) nothing))))
+    settled-last nothing = to-refuse (first-after (not-refused m)
+        (here (last-listed refl m (none-remains ascending (after key) nothing))))

@@ -20,7 +20,8 @@ told-one-to-one (Refused r) (Refused s) e =
     cc same
 
 -- Two outcomes, each with its buffer, that meet the promise are identical.
-pub page-determined : {M : Mode} {L R : List ℕ} {begin : Begin} {wanted : ℕ} {out : List ℕ} {o o′ : PageOutcome} {b b′ : List ℕ}
+pub page-determined : {M : Mode} {L R : List ℕ} {begin : Begin} {wanted : ℕ} {out : List ℕ}
+    {o o′ : PageOutcome} {b b′ : List ℕ}
     → PagePromise M L R begin wanted out o b → PagePromise M L R begin wanted out o′ b′ → (o ≡ o′) × (b ≡ b′)
 page-determined (is-refused f) (is-refused g) = (ap refused (first-unique f g), refl)
 page-determined (is-refused f) (is-page none groups) = absurd (first-not-none f none)

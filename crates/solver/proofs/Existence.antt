@@ -55,29 +55,36 @@ module _ {M : Mode} {L R : List ℕ} (fine : WithinLimits M L R) {G : Groups} (o
   pub key-unifies : {key : ℕ} → List·Memᴰ key (keys M layout L R G) → Unifies M L R (replacementOf M L R G key)
   key-unifies m =
       let candidate = listed-candidates (fine .groups-fit G of) M L R .0 m in
-      sound M (layout .new) L R (fine .left-side) (fine .right-side) of (candidate-selection (fine .groups-fit G of) (candidate .0)) (candidate .1)
+      sound M (layout .new) L R (fine .left-side) (fine .right-side) of
+      (candidate-selection (fine .groups-fit G of) (candidate .0)) (candidate .1)
 
   pub unifier-listed : {θ : Replacement} → Unifies M L R θ
-      → (key : ℕ) × List·Memᴰ key (keys M layout L R G) × ComesFrom M (layout .new) L R (replacementOf M L R G key) θ
+      → (key : ℕ) × List·Memᴰ key (keys M layout L R G)
+      × ComesFrom M (layout .new) L R (replacementOf M L R G key) θ
   unifier-listed {θ} unifies =
       let found = complete M (layout .new) L R (fine .left-side) (fine .right-side) (lit≤ tt) of unifies in (
         keyOf layout (found .0),
         listed-exactly (fine .groups-fit G of) M L R .1
             (record { selection = found .0; of-the-groups = found .1; is-admissible = found .2; its-key = refl }),
-        subst (λ (s : Selection). ComesFrom M (layout .new) L R (value M (layout .new) L R G s) θ) (sym (taken-apart (fine .groups-fit G of) (found .1)))
+        subst (λ (s : Selection). ComesFrom M (layout .new) L R (value M (layout .new) L R G s) θ)
+            (sym (taken-apart (fine .groups-fit G of) (found .1)))
             (found .3),
       )
 
   pub empty-none : keys M layout L R G ≡ [] → NoneUnifies M L R
-  empty-none e θ unifies = let found = unifier-listed unifies in List·Memᴰ·not-nil (subst (List·Memᴰ (found .0)) e (found .1))
+  empty-none e θ unifies = let found =
+      unifier-listed unifies in List·Memᴰ·not-nil (subst (List·Memᴰ (found .0)) e (found .1))
 
   pub none-empty : NoneUnifies M L R → keys M layout L R G ≡ []
   none-empty nothing =
-      ⊎-elim (λ empty. empty) (λ some. absurd (nothing (replacementOf M L R G (some .0)) (key-unifies (some .1)))) (empty-or-member (keys M layout L R G))
+      ⊎-elim (λ empty. empty) (λ some. absurd
+      (nothing (replacementOf M L R G (some .0)) (key-unifies (some .1))))
+      (empty-or-member (keys M layout L R G))
 
   pub listed-some : (keys M layout L R G ≡ [] → ⊥) → SomeUnifies M L R
   listed-some some =
-      ⊎-elim (λ empty. absurd (some empty)) (λ one. (replacementOf M L R G (one .0), key-unifies (one .1))) (empty-or-member (keys M layout L R G))
+      ⊎-elim (λ empty. absurd (some empty)) (λ one. (replacementOf M L R G (one .0), key-unifies (one .1)))
+      (empty-or-member (keys M layout L R G))
 
 module _ {M : Mode} {L R : List ℕ} {begin : Begin} {wanted : ℕ} {out : List ℕ} where
   -- where nothing up to 12 is given, the sides and the groups are within the limits
@@ -92,11 +99,14 @@ module _ {M : Mode} {L R : List ℕ} {begin : Begin} {wanted : ℕ} {out : List 
       first-after none (here (of-the-list (groups-exist M L R) (none-admissible empty)))
 
   -- and something unifies where 13 is not given either
-  some-past-13 : NoneOf (PageGiven M L R begin wanted out) (16 ∷ 7 ∷ 8 ∷ 9 ∷ 10 ∷ 11 ∷ 12 ∷ 13 ∷ []) → SomeUnifies M L R
+  some-past-13 : NoneOf (PageGiven M L R begin wanted out) (16 ∷ 7 ∷ 8 ∷ 9 ∷ 10 ∷ 11 ∷ 12 ∷ 13 ∷ [])
+      → SomeUnifies M L R
   some-past-13 none =
-      listed-some (fine-sides (none-front (16 ∷ 7 ∷ 8 ∷ 9 ∷ 10 ∷ 11 ∷ 12 ∷ []) (13 ∷ []) none)) (groups-exist M L R) (λ e. last-skip none e)
+      listed-some (fine-sides (none-front (16 ∷ 7 ∷ 8 ∷ 9 ∷ 10 ∷ 11 ∷ 12 ∷ []) (13 ∷ []) none))
+      (groups-exist M L R) (λ e. last-skip none e)
     where
-      last-skip : NoneOf (PageGiven M L R begin wanted out) (16 ∷ 7 ∷ 8 ∷ 9 ∷ 10 ∷ 11 ∷ 12 ∷ 13 ∷ []) → keys M layout L R (groups M L R) ≡ [] → ⊥
+      last-skip : NoneOf (PageGiven M L R begin wanted out) (16 ∷ 7 ∷ 8 ∷ 9 ∷ 10 ∷ 11 ∷ 12 ∷ 13 ∷ [])
+          → keys M layout L R (groups M L R) ≡ [] → ⊥
       last-skip (also _ (also _ (also _ (also _ (also _ (also _ (also _ (also no-13 end)))))))) e =
           no-13 (of-the-list (groups-exist M L R) (none-admissible e))
 
@@ -133,18 +143,22 @@ module _ {M : Mode} {L R : List ℕ} {begin : Begin} {wanted : ℕ} {out : List 
         subst (λ key. Unifies M L R (replacementOf M L R G key)) (sym (at-place i h))
         (key-unifies fine-page of
         (remaining-members begin
-        (taken-member (wantedCount wanted) (remaining begin (keys M layout L R G)) (getD-member (nextKeys M L R G begin wanted) i 0 h)) .0))
+        (taken-member (wantedCount wanted) (remaining begin (keys M layout L R G))
+        (getD-member (nextKeys M L R G begin wanted) i 0 h)) .0))
 
     -- a page from the start after which no more follow is the whole list
     pub page-covers : begin ≡ start → moreFollow M L R G begin wanted ≡ false → (θ : Replacement) → Unifies M L R θ
         → (i : ℕ) × (i < length (nextKeys M L R G begin wanted))
-        × ComesFrom M (layout .new) L R (replacementOf M L R G (getD (receives out (nextKeys M L R G begin wanted)) i 0)) θ
+        × ComesFrom M (layout .new) L R (replacementOf M L R G
+        (getD (receives out (nextKeys M L R G begin wanted)) i 0)) θ
     page-covers from-start no-more θ unifies =
         let found = unifier-listed fine-page of unifies in
-        let place = member-place (nextKeys M L R G begin wanted) (subst (List·Memᴰ (found .0)) (sym whole) (found .1)) in (
+        let place = member-place (nextKeys M L R G begin wanted)
+        (subst (List·Memᴰ (found .0)) (sym whole) (found .1)) in (
           place .0,
           place .1,
-          subst (λ key. ComesFrom M (layout .new) L R (replacementOf M L R G key) θ) (sym (at-place (place .0) (place .1) ∙ place .2)) (found .2),
+          subst (λ key. ComesFrom M (layout .new) L R (replacementOf M L R G key) θ)
+              (sym (at-place (place .0) (place .1) ∙ place .2)) (found .2),
         )
       where
         whole : nextKeys M L R G begin wanted ≡ keys M layout L R G
@@ -166,7 +180,8 @@ page-more : {w w′ : ℕ} {m m′ : Bool} → page w m ≡ page w′ m′ → m
 page-more e = cc e
 
 -- Whatever meets Page's promise meets demand 3.
-pub page-existence : {M : Mode} {L R : List ℕ} {begin : Begin} {wanted : ℕ} {out : List ℕ} {outcome : PageOutcome} {out′ : List ℕ}
+pub page-existence : {M : Mode} {L R : List ℕ} {begin : Begin} {wanted : ℕ} {out : List ℕ}
+    {outcome : PageOutcome} {out′ : List ℕ}
     → PagePromise M L R begin wanted out outcome out′ → PageExistence M L R begin wanted out outcome out′
 page-existence (is-refused first) =
     record {
@@ -187,7 +202,8 @@ page-existence {M} {L} {R} {begin} {wanted} {out} (is-page {G = G} none of) =
       page-where-some = λ e. page-some none of;
       written-unify =
           λ i other e h.
-          subst (λ H. Unifies M L R (replacementOf M L R H (getD (receives out (nextKeys M L R G begin wanted)) i 0)))
+          subst (λ H. Unifies M L R (replacementOf M L R H
+          (getD (receives out (nextKeys M L R G begin wanted)) i 0)))
           (groups-unique M L R of other) (page-unifies none of i (omega (arith, page-count e)));
       written-cover =
           λ other from-start e θ unifies.
@@ -195,7 +211,8 @@ page-existence {M} {L} {R} {begin} {wanted} {out} (is-page {G = G} none of) =
             covered .0,
             omega (arith, covered .1, page-count e),
             subst
-                (λ H. ComesFrom M (layout .new) L R (replacementOf M L R H (getD (receives out (nextKeys M L R G begin wanted)) (covered .0) 0)) θ)
+                (λ H. ComesFrom M (layout .new) L R
+                (replacementOf M L R H (getD (receives out (nextKeys M L R G begin wanted)) (covered .0) 0)) θ)
                 (groups-unique M L R of other) (covered .2),
           );
     }

@@ -29,7 +29,8 @@ module _ {M : Mode} {L R : List ℕ} where
   -- where 8 is not given, a side holds atoms only
   pub atoms-only : {side : List ℕ} → (PairGiven limits M L R 8 → ⊥) → Side L R side → IsSide side
   atoms-only no-8 side a m =
-      let low : a ≤ 127 = kept 127 a (λ above. no-8 (no-atom side (record { byte = a; held = m; above = above }))) in
+      let low : a ≤ 127 =
+      kept 127 a (λ above. no-8 (no-atom side (record { byte = a; held = m; above = above }))) in
       omega arith
 
   pub within-limits : NoneOf (PairGiven limits M L R) (7 ∷ 8 ∷ 9 ∷ 10 ∷ 11 ∷ 12 ∷ []) → WithinLimits M L R

@@ -26,7 +26,8 @@ use Rattle.solver.proofs.Existence.{fine-page}
 
 module _ {M : Mode} {L R : List ℕ} {G : Groups} (of : GroupsOf M L R G) where
   -- what a page's promise says of it: the next keys, and whether more follow
-  pub page-written : {begin : Begin} {wanted written : ℕ} {more : Bool} {out out′ : List ℕ} → PagePromise M L R begin wanted out (page written more) out′
+  pub page-written : {begin : Begin} {wanted written : ℕ} {more : Bool} {out out′ : List ℕ}
+      → PagePromise M L R begin wanted out (page written more) out′
       → (take written out′ ≡ nextKeys M L R G begin wanted) × (more ≡ moreFollow M L R G begin wanted)
   page-written {begin} {wanted} {out = out} (is-page {G = H} none others) =
       let same : H ≡ G = groups-unique M L R others of in (
@@ -36,34 +37,40 @@ module _ {M : Mode} {L R : List ℕ} {G : Groups} (of : GroupsOf M L R G) where
       )
 
   -- together they are what remains from the beginning
-  pub pages-together : {begin : Begin} {pages : List (List ℕ)} → Ascending _<_ (keys M layout L R G) → PagesAsked M L R begin pages
+  pub pages-together : {begin : Begin} {pages : List (List ℕ)} → Ascending _<_ (keys M layout L R G)
+      → PagesAsked M L R begin pages
       → together pages ≡ remaining begin (keys M layout L R G)
-  pages-together ascending (one-more {begin = begin} {wanted = wanted} {pages = pages} before last promise ends rest) =
+  pages-together ascending (one-more {begin = begin} {wanted = wanted} {pages = pages} before last promise
+      ends rest) =
       let this = page-written promise in
       ap (λ (l : List ℕ). l ++ together pages) (this .0)
       ∙ ap (λ (l : List ℕ). nextKeys M L R G begin wanted ++ l)
-      (pages-together ascending rest ∙ remaining-after-page ascending begin (wantedCount wanted) before last (sym (this .0) ∙ ends))
+      (pages-together ascending rest ∙ remaining-after-page ascending begin (wantedCount wanted) before last
+      (sym (this .0) ∙ ends))
       ∙ take-append-drop (wantedCount wanted) (remaining begin (keys M layout L R G))
   pages-together ascending (no-more {begin = begin} {wanted = wanted} promise) =
       let this = page-written promise in
       append-nil _ ∙ this .0
       ∙ take-all (wantedCount wanted) (remaining begin (keys M layout L R G))
       (ltb-false (wantedCount wanted) (length (remaining begin (keys M layout L R G))) (sym (this .1)))
-  pages-together ascending (was-last (is-refused first)) = sym (given-15 refl (given-list of (omega arith) (first-given first)) .0)
+  pages-together ascending (was-last (is-refused first)) =
+      sym (given-15 refl (given-list of (omega arith) (first-given first)) .0)
 
 -- a page tells that the pair is within the limits
 page-within : {M : Mode} {L R : List ℕ} {begin : Begin} {wanted written : ℕ} {more : Bool} {out out′ : List ℕ}
     → PagePromise M L R begin wanted out (page written more) out′ → WithinLimits M L R
 page-within (is-page none of) = fine-page none of
 
-pub asked-within : {M : Mode} {L R : List ℕ} {begin : Begin} {pages : List (List ℕ)} → begin ≡ start → PagesAsked M L R begin pages → WithinLimits M L R
+pub asked-within : {M : Mode} {L R : List ℕ} {begin : Begin} {pages : List (List ℕ)} → begin ≡ start
+    → PagesAsked M L R begin pages → WithinLimits M L R
 asked-within from-start (one-more before last promise ends rest) = page-within promise
 asked-within from-start (no-more promise) = page-within promise
 asked-within {M} {L} {R} from-start (was-last (is-refused first)) =
     absurd (given-15 refl (given-list (groups-exist M L R) (omega arith) (first-given first)) .1 from-start)
 
 -- Pages asked for one after the other from the start hold together the whole list, no key twice.
-pub pages-hold-the-list : {M : Mode} {L R : List ℕ} {G : Groups} {pages : List (List ℕ)} → GroupsOf M L R G → PagesAsked M L R start pages
+pub pages-hold-the-list : {M : Mode} {L R : List ℕ} {G : Groups} {pages : List (List ℕ)} → GroupsOf M L R G
+    → PagesAsked M L R start pages
     → WholeList (keys M layout L R G) pages
 pages-hold-the-list {M} {L} {R} {G} of asked =
     let ascending = keys-ascending (asked-within refl asked .groups-fit G of) M L R in

@@ -29,7 +29,8 @@ pub record Writing (t : Table) (first last written wanted : ℕ) (out now : List
   pub enough : wanted ≤ length out
   pub a-key : last < 2 ^ 32
   pub the-buffer : now ≡ done ++ drop written out
-  pub the-rest : OfItsList t (λ listed. done ++ remaining (after last) listed ≡ first ∷ remaining (after first) listed)
+  pub the-rest : OfItsList t (λ listed. done ++ remaining (after last) listed ≡ first
+      ∷ remaining (after first) listed)
 
 set-first : (out : List ℕ) (key : ℕ) → 0 < length out → set out 0 key ≡ key ∷ drop 1 (set out 0 key)
 set-first [] key h = absurd (omega arith)
@@ -40,7 +41,8 @@ length-set-first [] key = refl
 length-set-first (a ∷ out) key = refl
 
 -- the first key is written
-pub writing-first : (t : Table) {first wanted : ℕ} (out : List ℕ) → 0 < wanted → wanted ≤ length out → first < 2 ^ 32
+pub writing-first : (t : Table) {first wanted : ℕ} (out : List ℕ) → 0 < wanted → wanted ≤ length out
+    → first < 2 ^ 32
     → Writing t first first 1 wanted (set out 0 first) (set out 0 first)
 writing-first t {first} out some enough fits =
     record {
@@ -54,15 +56,24 @@ writing-first t {first} out some enough fits =
       the-rest = λ M L R full of. refl;
     }
 
-module _ {t : Table} {first last written wanted : ℕ} {out now : List ℕ} (writing : Writing t first last written wanted out now) where
+module _ {t : Table} {first last written wanted : ℕ} {out now : List ℕ}
+    (writing : Writing t first last written wanted out now) where
   -- the buffer keeps its length
   pub writing-length : length now ≡ length out
   writing-length =
       ap length (writing .the-buffer)
-      ∙ omega (arith, length-append (writing .done) (drop written out), length-drop written out, writing .how-many, writing .not-too-many, writing .enough)
+      ∙ omega (
+        arith,
+        length-append (writing .done) (drop written out),
+        length-drop written out,
+        writing .how-many,
+        writing .not-too-many,
+        writing .enough,
+      )
 
   -- the least key above the last comes next
-  pub writing-next : {key : ℕ} → written < wanted → key < 2 ^ 32 → OfItsList t (λ listed. LeastFrom listed (last + 1) key)
+  pub writing-next : {key : ℕ} → written < wanted → key < 2 ^ 32
+      → OfItsList t (λ listed. LeastFrom listed (last + 1) key)
       → Writing t first key (written + 1) wanted out (set now written key)
   writing-next {key} less fits least =
       record {
@@ -81,25 +92,31 @@ module _ {t : Table} {first last written wanted : ℕ} {out now : List ℕ} (wri
 
       buffer : set now written key ≡ (writing .done ++ key ∷ []) ++ drop (written + 1) out
       buffer =
-          ap (λ b. set b written key) (writing .the-buffer ∙ ap (λ (b : List ℕ). writing .done ++ b) (drop-cons out written 0 room))
+          ap (λ b. set b written key) (writing .the-buffer
+          ∙ ap (λ (b : List ℕ). writing .done ++ b) (drop-cons out written 0 room))
           ∙ set-at (writing .done) (getD out written 0) (drop (suc written) out) key written (writing .how-many)
           ∙ sym (append-assoc (writing .done) (key ∷ []) (drop (suc written) out))
           ∙ ap (λ n. (writing .done ++ key ∷ []) ++ drop n out) (sym (add-one written))
 
-      rest : OfItsList t (λ listed. (writing .done ++ key ∷ []) ++ remaining (after key) listed ≡ first ∷ remaining (after first) listed)
+      rest : OfItsList t (λ listed. (writing .done ++ key ∷ []) ++ remaining (after key) listed ≡ first
+          ∷ remaining (after first) listed)
       rest M L R full of =
           append-assoc (writing .done) (key ∷ []) (remaining (after key) (keys M layout L R (groupsIn t)))
-          ∙ ap (λ (b : List ℕ). writing .done ++ b) (sym (least-first (table-ascending of) (after last) (least M L R full of)))
+          ∙ ap (λ (b : List ℕ). writing .done ++ b)
+          (sym (least-first (table-ascending of) (after last) (least M L R full of)))
           ∙ writing .the-rest M L R full of
 
-module _ {t : Table} {first last written wanted : ℕ} (out : List ℕ) {now : List ℕ} (writing : Writing t first last written wanted (set out 0 first) now) where
+module _ {t : Table} {first last written wanted : ℕ} (out : List ℕ) {now : List ℕ}
+    (writing : Writing t first last written wanted (set out 0 first) now) where
   -- what was written stands before what the buffer had
   received : now ≡ receives out (writing .done)
   received =
       writing .the-buffer ∙ ap (λ n. writing .done ++ drop n (set out 0 first)) (sym (writing .how-many))
-      ∙ ap (λ (b : List ℕ). writing .done ++ b) (drop-set-lt (length (writing .done)) out 0 first (omega (arith, writing .some, writing .how-many)))
+      ∙ ap (λ (b : List ℕ). writing .done ++ b)
+      (drop-set-lt (length (writing .done)) out 0 first (omega (arith, writing .some, writing .how-many)))
 
-  module _ (left : List ℕ) (more : Bool) (all : take wanted left ≡ writing .done) (told : ltb wanted (length left) ≡ more) where
+  module _ (left : List ℕ) (more : Bool) (all : take wanted left ≡ writing .done)
+      (told : ltb wanted (length left) ≡ more) where
     written-of : WrittenOf left wanted out (page written more) now
     written-of =
         record {
@@ -109,23 +126,29 @@ module _ {t : Table} {first last written wanted : ℕ} (out : List ℕ) {now : L
 
   -- nothing is left above the last key: all that remained is written
   pub written-all : OfItsList t (λ listed. NoneFrom listed (last + 1))
-      → OfItsList t (λ listed. WrittenOf (first ∷ remaining (after first) listed) wanted out (page written false) now)
+      → OfItsList t (λ listed. WrittenOf (first ∷ remaining (after first) listed) wanted out
+      (page written false) now)
   written-all nothing M L R full of =
-      subst (λ left. WrittenOf left wanted out (page written false) now) (sym whole ∙ writing .the-rest M L R full of)
-      (written-of (writing .done) false (take-all wanted (writing .done) (omega (arith, writing .how-many, writing .not-too-many)))
+      subst (λ left. WrittenOf left wanted out (page written false) now)
+      (sym whole ∙ writing .the-rest M L R full of)
+      (written-of (writing .done) false (take-all wanted (writing .done)
+      (omega (arith, writing .how-many, writing .not-too-many)))
       (le-ltb wanted (length (writing .done)) (omega (arith, writing .how-many, writing .not-too-many))))
     where
       whole : writing .done ++ remaining (after last) (keys M layout L R (groupsIn t)) ≡ writing .done
       whole =
-          ap (λ (b : List ℕ). writing .done ++ b) (none-remains (table-ascending of) (after last) (nothing M L R full of)) ∙ append-nil (writing .done)
+          ap (λ (b : List ℕ). writing .done ++ b)
+          (none-remains (table-ascending of) (after last) (nothing M L R full of)) ∙ append-nil (writing .done)
 
   -- as many are written as are wanted, and another is left
   pub written-more : {key : ℕ} → wanted ≤ written → OfItsList t (λ listed. LeastFrom listed (last + 1) key)
-      → OfItsList t (λ listed. WrittenOf (first ∷ remaining (after first) listed) wanted out (page written true) now)
+      → OfItsList t (λ listed. WrittenOf (first ∷ remaining (after first) listed) wanted out
+      (page written true) now)
   written-more {key} full-page least M L R full of =
       subst (λ left. WrittenOf left wanted out (page written true) now) (writing .the-rest M L R full of)
       (written-of (writing .done ++ remaining (after last) listed) true
-      (take-at (writing .done) (remaining (after last) listed) wanted (omega (arith, writing .how-many, writing .not-too-many)))
+      (take-at (writing .done) (remaining (after last) listed) wanted
+      (omega (arith, writing .how-many, writing .not-too-many)))
       (lt-ltb wanted (length (writing .done ++ remaining (after last) listed)) longer))
     where
       listed : List ℕ

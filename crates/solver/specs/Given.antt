@@ -1,4 +1,5 @@
--- The numbers that Page gives (document 01, "Numbers given in place of a result"): when each is given, whatever else is wrong.
+-- The numbers that Page gives (document 01, "Numbers given in place of a result"): when each is given,
+-- whatever else is wrong.
 use Prim.Native.Nat.{ℕ, _<_}
 use mathlib.Core.List.{List, [], _∷_}
 use lib.ListN.{length}
@@ -15,7 +16,8 @@ pub data PageGiven (M : Mode) (L R : List ℕ) (begin : Begin) (wanted : ℕ) (o
   -- 7 to 12 speak of the two sides
   of-the-sides : {n : ℕ} → PairGiven limits M L R n → PageGiven M L R begin wanted out n
   -- 13 to 15 of the list of the pair's groups
-  of-the-list : {n : ℕ} {G : Groups} → GroupsOf M L R G → ListGiven (keys M layout L R G) begin n → PageGiven M L R begin wanted out n
+  of-the-list : {n : ℕ} {G : Groups} → GroupsOf M L R G → ListGiven (keys M layout L R G) begin n
+      → PageGiven M L R begin wanted out n
   -- a lent buffer is too short
   short-buffer : length out < wantedCount wanted → PageGiven M L R begin wanted out 16
 

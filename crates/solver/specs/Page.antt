@@ -35,10 +35,13 @@ module _ (M : Mode) (L R : List ℕ) (G : Groups) (begin : Begin) (wanted : ℕ)
   moreFollow = more begin (wantedCount wanted) (keys M layout L R G)
 
 -- What Page promises of its outcome and of the lent buffer at exit.
-pub data PagePromise (M : Mode) (L R : List ℕ) (begin : Begin) (wanted : ℕ) (out : List ℕ) : PageOutcome → List ℕ → Type 0 where
+pub data PagePromise (M : Mode) (L R : List ℕ) (begin : Begin) (wanted : ℕ) (out : List ℕ) : PageOutcome
+    → List ℕ → Type 0 where
   -- Each returns its number alone and changes no buffer.
-  is-refused : {n : ℕ} → First (PageGiven M L R begin wanted out) pageNumbers n → PagePromise M L R begin wanted out (refused n) out
+  is-refused : {n : ℕ} → First (PageGiven M L R begin wanted out) pageNumbers n
+      → PagePromise M L R begin wanted out (refused n) out
   -- The buffer receives the next keys. The number written and whether more follow are returned.
   is-page : {G : Groups} → NoneOf (PageGiven M L R begin wanted out) pageNumbers → GroupsOf M L R G
-      → PagePromise M L R begin wanted out (page (length (nextKeys M L R G begin wanted)) (moreFollow M L R G begin wanted))
+      → PagePromise M L R begin wanted out
+      (page (length (nextKeys M L R G begin wanted)) (moreFollow M L R G begin wanted))
       (receives out (nextKeys M L R G begin wanted))

@@ -22,12 +22,16 @@ use Rattle.solver.specs.declared.Settled.the-variants.{FirstKey, Refused
 
 -- 13, 14 or 15, or the first of the keys that remain
 pub data SettledOf (listed : List ℕ) (begin : Begin) : Settled → Type 0 where
-  to-refuse : {why : Refusal} → First (ListGiven listed begin) (13 ∷ 14 ∷ 15 ∷ []) (numberOf why) → SettledOf listed begin (Refused why)
-  to-answer : {key : ℕ} → NoneOf (ListGiven listed begin) (13 ∷ 14 ∷ 15 ∷ []) → remaining begin listed ≡ key ∷ remaining (after key) listed
+  to-refuse : {why : Refusal} → First (ListGiven listed begin) (13 ∷ 14 ∷ 15 ∷ []) (numberOf why)
+      → SettledOf listed begin (Refused why)
+  to-answer : {key : ℕ} → NoneOf (ListGiven listed begin) (13 ∷ 14 ∷ 15 ∷ [])
+      → remaining begin listed ≡ key ∷ remaining (after key) listed
       → SettledOf listed begin (FirstKey key)
 
--- of the keys that remain as many are written as are wanted, and it is told how many they are and whether more follow
-pub record WrittenOf (left : List ℕ) (wanted : ℕ) (out : List ℕ) (outcome : PageOutcome) (out′ : List ℕ) : Type 0 where
+-- of the keys that remain as many are written as are wanted, and it is told how many they are and whether
+-- more follow
+pub record WrittenOf (left : List ℕ) (wanted : ℕ) (out : List ℕ) (outcome : PageOutcome) (out′ : List ℕ) :
+    Type 0 where
   pub the-outcome : outcome ≡ page (length (take wanted left)) (ltb wanted (length left))
   pub the-buffer : out′ ≡ receives out (take wanted left)
 

@@ -28,7 +28,8 @@ module _ (t : Table) where
   -- there is a group for each unbalanced constant
   pub how-many-constants : Within t → length (groupsIn t .constants) ≡ t .unbalanced
   how-many-constants within =
-      length-groupsFrom 1 (take (t .unbalanced) (t .constants)) ∙ length-take-le (t .unbalanced) (t .constants) (within .constants-held)
+      length-groupsFrom 1 (take (t .unbalanced) (t .constants))
+      ∙ length-take-le (t .unbalanced) (t .constants) (within .constants-held)
 
   -- where one of the constants' groups stands: its constant's place, and its group in the table
   pub record Stands (first : ℕ) (cs : List ℕ) (h : Group) : Type 0 where
@@ -38,7 +39,8 @@ module _ (t : Table) where
     pub its-rows : h .rows ≡ groupAt t (first + place)
 
   -- each of them stands somewhere
-  pub groupsFrom-stands : (first : ℕ) (cs : List ℕ) {h : Group} → List·Memᴰ h (groupsFrom t first cs) → Stands first cs h
+  pub groupsFrom-stands : (first : ℕ) (cs : List ℕ) {h : Group} → List·Memᴰ h (groupsFrom t first cs)
+      → Stands first cs h
   groupsFrom-stands first (c ∷ cs) (List·Memᴰ·head e) =
       record {
         place = 0;
@@ -54,5 +56,6 @@ module _ (t : Table) where
             place = suc (s .place);
             within = omega (arith, s .within);
             its-constant = s .its-constant;
-            its-rows = s .its-rows ∙ ap (groupAt t) (let z : suc first + s .place ≡ first + suc (s .place) = omega arith in z);
+            its-rows = s .its-rows ∙ ap (groupAt t)
+                (let z : suc first + s .place ≡ first + suc (s .place) = omega arith in z);
           }

@@ -12,9 +12,11 @@ tallied c returned = record { place = c .blocks; line = lineOf returned; counts 
 tallies-one : {c : Counts} {returned : Returned} (r : Tallied) → Tallies c returned r → r ≡ tallied c returned
 unfolding tallied
 tallies-one {c} {returned} r p =
-    let whole : record { place = r .place; line = r .line; counts = r .counts } ≡ tallied c returned = cc (p .the-place, p .the-line, p .the-counts) in
+    let whole : record { place = r .place; line = r .line; counts = r .counts } ≡ tallied c returned =
+    cc (p .the-place, p .the-line, p .the-counts) in
     whole
 
 -- Two results that meet the contract are identical.
-pub tally-determined : {c : Counts} {returned : Returned} (r s : Tallied) → Tallies c returned r → Tallies c returned s → r ≡ s
+pub tally-determined : {c : Counts} {returned : Returned} (r s : Tallied) → Tallies c returned r
+    → Tallies c returned s → r ≡ s
 tally-determined r s p q = tallies-one r p ∙ sym (tallies-one s q)

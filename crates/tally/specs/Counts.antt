@@ -19,8 +19,10 @@ oneMore n = min (n + 1) (2 ^ 64 - 1)
 abbrev pub counted : Counts → Line → Counts
 counted c (Listed balanced constants lines more) =
     record { blocks = oneMore (c .blocks); listed = oneMore (c .listed); none = c .none; refused = c .refused }
-counted c NoUnifier = record { blocks = oneMore (c .blocks); listed = c .listed; none = oneMore (c .none); refused = c .refused }
-counted c (Refused n) = record { blocks = oneMore (c .blocks); listed = c .listed; none = c .none; refused = oneMore (c .refused) }
+counted c NoUnifier =
+    record { blocks = oneMore (c .blocks); listed = c .listed; none = oneMore (c .none); refused = c .refused }
+counted c (Refused n) =
+    record { blocks = oneMore (c .blocks); listed = c .listed; none = c .none; refused = oneMore (c .refused) }
 
 -- What is said of a block, from the counts so far and what the questions returned for it.
 pub record Tallies (c : Counts) (returned : Returned) (r : Tallied) : Type 0 where

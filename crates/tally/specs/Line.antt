@@ -30,7 +30,8 @@ constantsRows first second third fourth = min (first + second + third + fourth) 
 abbrev pub told : ReadAnswer → RowsAnswer → PageAnswer → Returned
 told (read.Refused refusal) rows page = refused (numberOf refusal)
 told (Sides left right) (rows.Refused refusal) page = refused (numberOf refusal)
-told (Sides left right) (Groups balanced constants first second third fourth) (page.Refused refusal) = refused (numberOf refusal)
+told (Sides left right) (Groups balanced constants first second third fourth) (page.Refused refusal) =
+    refused (numberOf refusal)
 told (Sides left right) (Groups balanced constants first second third fourth) (Page written more) =
     gave balanced (constantsRows first second third fourth) written more
 

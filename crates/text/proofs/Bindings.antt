@@ -24,31 +24,44 @@ joined-short (a ∷ atoms) bytes =
     )
 
 -- a binding's text is at most five bytes for each of its bytes
-pub bound-short : (bytes : List ℕ) → ((i : ℕ) → getD bytes i 0 < 256) → 0 < length bytes → length (bound (bindingOf bytes)) ≤ 5 * length bytes
+pub bound-short : (bytes : List ℕ) → ((i : ℕ) → getD bytes i 0 < 256) → 0 < length bytes
+    → length (bound (bindingOf bytes)) ≤ 5 * length bytes
 bound-short [] small some = absurd (omega arith)
 bound-short (x ∷ []) small some = omega (arith, length-append (name x) (61 ∷ []), name-short x (small 0))
 bound-short (x ∷ n ∷ atoms) small some =
-    omega
-    (arith, length-append (name x) (61 ∷ joined atoms), name-short x (small 0), joined-short atoms (λ i. small (suc (suc i))))
+    omega (
+      arith,
+      length-append (name x) (61 ∷ joined atoms),
+      name-short x (small 0),
+      joined-short atoms (λ i. small (suc (suc i))),
+    )
 
 -- what stands behind a binding's first two bytes, however many of them there are
-pub after-two : (bytes : List ℕ) (skipped : ℕ) → skipped ≡ min 2 (length bytes) → take (length bytes - skipped) (drop skipped bytes) ≡ drop 2 bytes
+pub after-two : (bytes : List ℕ) (skipped : ℕ) → skipped ≡ min 2 (length bytes)
+    → take (length bytes - skipped) (drop skipped bytes) ≡ drop 2 bytes
 after-two bytes skipped e = go bytes skipped e
   where
-    go : (bytes : List ℕ) (skipped : ℕ) → skipped ≡ min 2 (length bytes) → take (length bytes - skipped) (drop skipped bytes) ≡ drop 2 bytes
+    go : (bytes : List ℕ) (skipped : ℕ) → skipped ≡ min 2 (length bytes)
+        → take (length bytes - skipped) (drop skipped bytes) ≡ drop 2 bytes
     go [] skipped e = ap (λ (k : ℕ). take (0 - k) (drop k [])) (let e₀ : skipped ≡ 0 = omega arith in e₀)
-    go (x ∷ []) skipped e = ap (λ (k : ℕ). take (1 - k) (drop k (x ∷ []))) (let e₁ : skipped ≡ 1 = omega arith in e₁)
+    go (x ∷ []) skipped e =
+        ap (λ (k : ℕ). take (1 - k) (drop k (x ∷ []))) (let e₁ : skipped ≡ 1 = omega arith in e₁)
     go (x ∷ n ∷ atoms) skipped e =
-        ap (λ (k : ℕ). take (suc (suc (length atoms)) - k) (drop k (x ∷ n ∷ atoms))) (let e₂ : skipped ≡ 2 = omega arith in e₂)
+        ap (λ (k : ℕ). take (suc (suc (length atoms)) - k) (drop k (x ∷ n ∷ atoms)))
+        (let e₂ : skipped ≡ 2 = omega arith in e₂)
         ∙ take-all (suc (suc (length atoms)) - 2) atoms (omega arith)
 
 -- a part is as long as its end is after its start
-pub length-part : (values : List ℕ) (from end : ℕ) → end ≤ length values → length (take (end - from) (drop from values)) ≡ end - from
-length-part values from end h = length-take-le (end - from) (drop from values) (omega (arith, length-drop from values))
+pub length-part : (values : List ℕ) (from end : ℕ) → end ≤ length values
+    → length (take (end - from) (drop from values)) ≡ end - from
+length-part values from end h =
+    length-take-le (end - from) (drop from values) (omega (arith, length-drop from values))
 
 -- a part of bytes holds bytes
-pub part-small : (values : List ℕ) (from n : ℕ) → ((i : ℕ) → getD values i 0 < 256) → (i : ℕ) → getD (take n (drop from values)) i 0 < 256
-part-small values from n small i = take-small (drop from values) n i (subst (λ (b : ℕ). b < 256) (sym (getD-drop from values i 0)) (small (from + i)))
+pub part-small : (values : List ℕ) (from n : ℕ) → ((i : ℕ) → getD values i 0 < 256) → (i : ℕ)
+    → getD (take n (drop from values)) i 0 < 256
+part-small values from n small i = take-small (drop from values) n i
+    (subst (λ (b : ℕ). b < 256) (sym (getD-drop from values i 0)) (small (from + i)))
   where
     take-small : (s : List ℕ) (n i : ℕ) → getD s i 0 < 256 → getD (take n s) i 0 < 256
     take-small s zero i h = omega arith
@@ -68,7 +81,8 @@ first-short values end some within small =
 abbrev bytesOf : Binding → List ℕ
 bytesOf b = b .variable ∷ length (b .value) ∷ b .value
 
--- what the bytes from a place on say, where they are bindings: the first binding, where it ends, its bytes, and the rest
+-- what the bytes from a place on say, where they are bindings: the first binding, where it ends, its bytes,
+-- and the rest
 pub record FirstOf (values : List ℕ) (from end : ℕ) (left : List Binding) : Type 0 where
   pub binding : Binding
   pub others : List Binding
@@ -76,14 +90,17 @@ pub record FirstOf (values : List ℕ) (from end : ℕ) (left : List Binding) : 
   pub its-bytes : bindingOf (take (end - from) (drop from values)) ≡ binding
   pub the-rest : laidOut others ≡ drop end values
 
-pub first-of : (values : List ℕ) (from : ℕ) (left : List Binding) → from < length values → laidOut left ≡ drop from values →
+pub first-of : (values : List ℕ) (from : ℕ) (left : List Binding) → from < length values
+    → laidOut left ≡ drop from values →
     FirstOf values from (min (from + (2 + getD values (from + 1) 0)) (length values)) left
 first-of values from [] h e = absurd (omega (arith, ap length e, length-drop from values))
 first-of values from (b ∷ others) h e =
     let long : length (bytesOf b) + length (laidOut others) ≡ length values - from =
     sym (length-append (bytesOf b) (laidOut others)) ∙ ap length e ∙ length-drop from values in
-    let count : getD values (from + 1) 0 ≡ length (b .value) = sym (getD-drop from values 1 0) ∙ ap (λ (l : List ℕ). getD l 1 0) (sym e) in
-    let ends : min (from + (2 + getD values (from + 1) 0)) (length values) ≡ from + length (bytesOf b) = omega (arith, count) in
+    let count : getD values (from + 1) 0 ≡ length (b .value) =
+    sym (getD-drop from values 1 0) ∙ ap (λ (l : List ℕ). getD l 1 0) (sym e) in
+    let ends : min (from + (2 + getD values (from + 1) 0)) (length values) ≡ from + length (bytesOf b) =
+    omega (arith, count) in
     let size : (from + length (bytesOf b)) - from ≡ length (bytesOf b) = omega arith in
     subst (λ (end : ℕ). FirstOf values from end (b ∷ others)) (sym ends)
     (record {
@@ -95,11 +112,13 @@ first-of values from (b ∷ others) h e =
           (ap (λ (n : ℕ). take n (drop from values)) size
           ∙ ap (take (length (bytesOf b))) (sym e)
           ∙ take-append-seam (bytesOf b) (laidOut others));
-      the-rest = sym (drop-append-seam (bytesOf b) (laidOut others)) ∙ ap (drop (length (bytesOf b))) e ∙ drop-drop (length (bytesOf b)) from values;
+      the-rest = sym (drop-append-seam (bytesOf b) (laidOut others)) ∙ ap (drop (length (bytesOf b))) e
+          ∙ drop-drop (length (bytesOf b)) from values;
     })
 
 -- how far a row of bindings has been put: of the bindings bs that the bytes are, those before the place `from`
-pub record Told (bs : List Binding) (out₀ : List ℕ) (at : ℕ) (values : List ℕ) (next from : ℕ) (out : List ℕ) : Type 0 where
+pub record Told (bs : List Binding) (out₀ : List ℕ) (at : ℕ) (values : List ℕ) (next from : ℕ)
+    (out : List ℕ) : Type 0 where
   pub done : List ℕ
   pub left : List Binding
   pub put : Put out₀ at done next out
@@ -107,7 +126,8 @@ pub record Told (bs : List Binding) (out₀ : List ℕ) (at : ℕ) (values : Lis
   pub rest : laidOut left ≡ drop from values
 
 -- nothing is put yet
-pub told-none : (bs : List Binding) (out : List ℕ) (at : ℕ) (values : List ℕ) → Put out at [] at out → laidOut bs ≡ values →
+pub told-none : (bs : List Binding) (out : List ℕ) (at : ℕ) (values : List ℕ) → Put out at [] at out
+    → laidOut bs ≡ values →
     Told bs out at values at 0 out
 told-none bs out at values p e = record { done = []; left = bs; put = p; whole = refl; rest = e }
 
@@ -118,7 +138,8 @@ pub told-next : {bs : List Binding} {out₀ out after : List ℕ} {at next n : �
     Told bs out₀ at values next from out → Told bs out₀ at values n end after
 told-next {bs} {out₀} {out} {after} {at} {next} {n} {values} {from} {end} h ends more told =
     let first : FirstOf values from end (told .left) =
-    subst (λ (e : ℕ). FirstOf values from e (told .left)) (sym ends) (first-of values from (told .left) h (told .rest)) in
+    subst (λ (e : ℕ). FirstOf values from e (told .left)) (sym ends)
+    (first-of values from (told .left) h (told .rest)) in
     record {
       done = told .done ++ (32 ∷ bound (first .binding));
       left = first .others;
@@ -134,28 +155,35 @@ told-next {bs} {out₀} {out} {after} {at} {next} {n} {values} {from} {end} h en
 pub told-all : {bs : List Binding} {out₀ out : List ℕ} {at next from : ℕ} {values : List ℕ} → length values ≤ from →
     Told bs out₀ at values next from out → Put out₀ at (spaced bs) next out
 told-all {bs} {out₀} {out} {at} {next} {from} {values} h told =
-    put-as (ap (λ (l : List Binding). told .done ++ spaced l) (sym (none (told .left) (told .rest))) ∙ told .whole) (put-as (sym (append-nil (told .done))) (told .put))
+    put-as (ap (λ (l : List Binding). told .done ++ spaced l) (sym (none (told .left) (told .rest)))
+    ∙ told .whole) (put-as (sym (append-nil (told .done))) (told .put))
   where
     none : (left : List Binding) → laidOut left ≡ drop from values → left ≡ []
     none [] e = refl
     none (b ∷ others) e = absurd (omega (arith, ap length e, length-drop from values))
 
 -- bytes of no length are the substitution without variables
-pub substitution-none : (bs : List Binding) (values : List ℕ) → length values ≡ 0 → laidOut bs ≡ values → 45 ∷ [] ≡ substitution bs
+pub substitution-none : (bs : List Binding) (values : List ℕ) → length values ≡ 0 → laidOut bs ≡ values
+    → 45 ∷ [] ≡ substitution bs
 substitution-none [] values h e = refl
 substitution-none (b ∷ bs) values h e = absurd (omega (arith, ap length e))
 
 -- the first binding is put, and the others, from their bytes, behind it
-pub substitution-first : {out mid after : List ℕ} {at m n : ℕ} {values : List ℕ} {end : ℕ} (bs : List Binding) → 0 < length values →
+pub substitution-first : {out mid after : List ℕ} {at m n : ℕ} {values : List ℕ} {end : ℕ} (bs : List Binding)
+    → 0 < length values →
     end ≡ min (0 + (2 + getD values 1 0)) (length values) → laidOut bs ≡ values →
     Put out at (bound (bindingOf (take end values))) m mid →
-    ((others : List Binding) → laidOut others ≡ take (length values - end) (drop end values) → Put mid m (spaced others) n after) →
+    ((others : List Binding) → laidOut others ≡ take (length values - end) (drop end values)
+    → Put mid m (spaced others) n after) →
     Put out at (substitution bs) n after
 substitution-first {out} {mid} {after} {at} {m} {n} {values} {end} bs some ends e one others =
-    let first : FirstOf values 0 end bs = subst (λ (k : ℕ). FirstOf values 0 k bs) (sym ends) (first-of values 0 bs some e) in
+    let first : FirstOf values 0 end bs =
+    subst (λ (k : ℕ). FirstOf values 0 k bs) (sym ends) (first-of values 0 bs some e) in
     put-as (ap substitution (sym (first .all)))
     (put-then
     (put-as
-    (ap bound (ap (λ (k : ℕ). bindingOf (take k values)) (let same : end ≡ end - 0 = omega arith in same) ∙ first .its-bytes))
+    (ap bound (ap (λ (k : ℕ). bindingOf (take k values)) (let same : end ≡ end - 0 = omega arith in same)
+    ∙ first .its-bytes))
     one)
-    (others (first .others) (first .the-rest ∙ sym (take-all (length values - end) (drop end values) (omega (arith, length-drop end values))))))
+    (others (first .others) (first .the-rest
+    ∙ sym (take-all (length values - end) (drop end values) (omega (arith, length-drop end values))))))

@@ -15,11 +15,13 @@ use Rattle.text.specs.Decimal.{digit, digitsWithin, decimal}
 within-digit : (places n : ℕ) → n < 10 → digitsWithin (suc places) n ≡ digit n ∷ []
 within-digit places n h =
     subst
-    (λ (b : Bool). elim b as (λ _. List ℕ) [ true ↦ digit n ∷ [] | false ↦ digitsWithin places (n / 10) ++ (digit (n % 10) ∷ []) ] ≡ digit n ∷ [])
+    (λ (b : Bool). elim b as (λ _. List ℕ)
+    [ true ↦ digit n ∷ [] | false ↦ digitsWithin places (n / 10) ++ (digit (n % 10) ∷ []) ] ≡ digit n ∷ [])
     (sym (lt-ltb n 10 h)) refl
 
 -- any other number is the digits of its tenth with its last digit behind
-within-more : (places n : ℕ) → 10 ≤ n → digitsWithin (suc places) n ≡ digitsWithin places (n / 10) ++ (digit (n % 10) ∷ [])
+within-more : (places n : ℕ) → 10 ≤ n
+    → digitsWithin (suc places) n ≡ digitsWithin places (n / 10) ++ (digit (n % 10) ∷ [])
 within-more places n h =
     subst
     (λ (b : Bool).
@@ -32,7 +34,8 @@ glyph-digit : (d : ℕ) → d < 10 → glyph d ≡ digit d
 glyph-digit d h = ap (λ (b : Bool). cond b (48 + d) (87 + d)) (lt-ltb d 10 h)
 
 -- as many digits as `io` finds are the digits within any places that hold them
-digits-within : (k places n : ℕ) → n < 10 ^ suc k → (0 < k → 10 ^ k ≤ n) → k ≤ places → digits 10 (suc k) n ≡ digitsWithin (suc places) n
+digits-within : (k places n : ℕ) → n < 10 ^ suc k → (0 < k → 10 ^ k ≤ n) → k ≤ places
+    → digits 10 (suc k) n ≡ digitsWithin (suc places) n
 digits-within zero places n small large fit =
     let small′ : n < 10 = small in
     let e : n % 10 ≡ n = omega arith in
@@ -48,7 +51,8 @@ digits-within (suc k) (suc places) n small large fit =
     let tenth-small : n / 10 < p = omega arith in
     let tenth-large : 10 ^ k ≤ n / 10 = omega arith in
     let last : n % 10 < 10 = omega arith in
-    ap₂ {C = List ℕ} (λ a b. a ++ (b ∷ [])) (digits-within k places (n / 10) tenth-small (λ _. tenth-large) (omega arith)) (glyph-digit (n % 10) last)
+    ap₂ {C = List ℕ} (λ a b. a ++ (b ∷ []))
+    (digits-within k places (n / 10) tenth-small (λ _. tenth-large) (omega arith)) (glyph-digit (n % 10) last)
     ∙ sym (within-more (suc places) n ten)
   where
     pow-above-zero : (j : ℕ) → 0 < 10 ^ j
@@ -85,22 +89,26 @@ within-enough zero q n hp hq = within-digit zero n (omega arith) ∙ sym (within
 within-enough (suc p) zero n hp hq = within-digit (suc p) n (omega arith) ∙ sym (within-digit zero n (omega arith))
 within-enough (suc p) (suc q) n hp hq = go (decLt n 10) (within-enough p q (n / 10) (omega arith) (omega arith))
   where
-    go : Dec (n < 10) → digitsWithin (suc p) (n / 10) ≡ digitsWithin (suc q) (n / 10) → digitsWithin (suc (suc p)) n ≡ digitsWithin (suc (suc q)) n
+    go : Dec (n < 10) → digitsWithin (suc p) (n / 10) ≡ digitsWithin (suc q) (n / 10)
+        → digitsWithin (suc (suc p)) n ≡ digitsWithin (suc (suc q)) n
     go (yes h) same = within-digit (suc p) n h ∙ sym (within-digit (suc q) n h)
     go (no h) same =
         let ten : 10 ≤ n = omega arith in
-        within-more (suc p) n ten ∙ ap (λ (l : List ℕ). l ++ (digit (n % 10) ∷ [])) same ∙ sym (within-more (suc q) n ten)
+        within-more (suc p) n ten ∙ ap (λ (l : List ℕ). l ++ (digit (n % 10) ∷ [])) same
+        ∙ sym (within-more (suc q) n ten)
 
 pub decimal-more : (n : ℕ) → 10 ≤ n → decimal n ≡ decimal (n / 10) ++ (digit (n % 10) ∷ [])
 unfolding decimal
 decimal-more zero h = absurd (omega arith)
 decimal-more (suc m) h =
     within-more (suc m) (suc m) h
-    ∙ ap (λ (l : List ℕ). l ++ (digit (suc m % 10) ∷ [])) (within-enough m (suc m / 10) (suc m / 10) (omega arith) (omega arith))
+    ∙ ap (λ (l : List ℕ). l ++ (digit (suc m % 10) ∷ []))
+    (within-enough m (suc m / 10) (suc m / 10) (omega arith) (omega arith))
 
 -- the decimal of a number with at least two digits is one longer than that of its tenth
 decimal-longer : (n : ℕ) → 10 ≤ n → length (decimal n) ≡ suc (length (decimal (n / 10)))
-decimal-longer n ten = omega (arith, ap length (decimal-more n ten), length-append (decimal (n / 10)) (digit (n % 10) ∷ []))
+decimal-longer n ten =
+    omega (arith, ap length (decimal-more n ten), length-append (decimal (n / 10)) (digit (n % 10) ∷ []))
 
 -- a number below 10 ^ k has at most k digits
 pub decimal-short : (k n : ℕ) → n < 10 ^ suc k → length (decimal n) ≤ suc k

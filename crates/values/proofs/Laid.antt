@@ -16,9 +16,12 @@ laidOut-append (b ∷ bs) cs =
 
 -- the next variable is laid out behind those before it
 pub laidOut-next : (variables : List ℕ) (atoms : ℕ → List ℕ) {count : ℕ} (n : ℕ) → length (atoms n) ≡ count
-    → laidOut (bindingsBelow variables atoms n) ++ (getD variables n 0 ∷ count ∷ atoms n) ≡ laidOut (bindingsBelow variables atoms (n + 1))
+    → laidOut (bindingsBelow variables atoms n) ++ (getD variables n 0 ∷ count ∷ atoms n)
+    ≡ laidOut (bindingsBelow variables atoms (n + 1))
 laidOut-next variables atoms n e =
     ap (λ k. laidOut (bindingsBelow variables atoms n) ++ (getD variables n 0 ∷ k ∷ atoms n)) (sym e)
-    ∙ ap (λ l. laidOut (bindingsBelow variables atoms n) ++ l) (sym (append-nil (getD variables n 0 ∷ length (atoms n) ∷ atoms n)))
-    ∙ sym (laidOut-append (bindingsBelow variables atoms n) (record { variable = getD variables n 0; value = atoms n } ∷ []))
+    ∙ ap (λ l. laidOut (bindingsBelow variables atoms n) ++ l)
+    (sym (append-nil (getD variables n 0 ∷ length (atoms n) ∷ atoms n)))
+    ∙ sym (laidOut-append (bindingsBelow variables atoms n)
+    (record { variable = getD variables n 0; value = atoms n } ∷ []))
     ∙ ap (λ k. laidOut (bindingsBelow variables atoms k)) (sym (add-one n))

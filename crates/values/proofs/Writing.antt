@@ -1,4 +1,5 @@
--- What is written of a listed key are its values, and a value is too long exactly where the code counts more than 200 atoms.
+-- What is written of a listed key are its values, and a value is too long exactly where the code counts more
+-- than 200 atoms.
 use Prim.Native.Nat.{ℕ, _<_, _≤_}
 use native.Mathlib.Omega.{arith}
 use mathlib.Core.Path.{_≡_, sym, _∙_, ap, subst, subst₂}
@@ -38,10 +39,12 @@ module _ {M : Mode} {L R : List ℕ} {t : Table} {key : ℕ} (of : TableOf M L R
 
   same : (p : ℕ) → p < length (variables M L R) → getD (t .variables) p 0 ≡ getD (variables M L R) p 0
   same p h =
-      sym (getD-take (t .places) (t .variables) p 0 (omega (arith, of .the-places))) ∙ ap (λ l. getD l p 0) (of .the-variables)
+      sym (getD-take (t .places) (t .variables) p 0 (omega (arith, of .the-places)))
+      ∙ ap (λ l. getD l p 0) (of .the-variables)
 
   holds : Holds (t .rows) (length (variables M L R)) (selectionIn t key) (groupsIn t)
-  holds = subst (λ n. Holds (t .rows) n (selectionIn t key) (groupsIn t)) (of .the-places) (table-holds (of .within) key)
+  holds = subst (λ n. Holds (t .rows) n (selectionIn t key) (groupsIn t)) (of .the-places)
+      (table-holds (of .within) key)
 
   -- what is laid out are the key's values
   laid : laidOut (bindingsBelow (t .variables) (atomsAt (t .rows) (selectionIn t key)) (t .places))
@@ -54,7 +57,8 @@ module _ {M : Mode} {L R : List ℕ} {t : Table} {key : ℕ} (of : TableOf M L R
   counted : (p : ℕ) → p < length (variables M L R) → lengthAt (t .rows) (selectionIn t key) p
       ≡ length (valueAt (taken (layout .new) (groupsIn t) (selectionAt layout (groupsIn t) key)) p)
   counted p h =
-      sym (length-runs (runCount (selectionIn t key)) (timesAt (t .rows) (selectionIn t key) p) (atomOf (selectionIn t key)))
+      sym (length-runs (runCount (selectionIn t key)) (timesAt (t .rows) (selectionIn t key) p)
+      (atomOf (selectionIn t key)))
       ∙ ap length (atoms-value holds (table-fits (of .within)) candidate p h)
 
   -- a place where more than 200 atoms are counted is that of a variable with a long value
@@ -67,8 +71,10 @@ module _ {M : Mode} {L R : List ℕ} {t : Table} {key : ℕ} (of : TableOf M L R
         variable = getD (variables M L R) p 0;
         of-the-pair = getD-member (variables M L R) p 0 h;
         long =
-            subst (λ i. 200 < length (valueAt (taken (layout .new) (groupsIn t) (selectionAt layout (groupsIn t) key)) i))
-            (sym (placeOf-getD (variables-ascending M L R) p h)) (subst (λ n. 200 < n) (counted p h) (ltb-true 200 _ (found .2)));
+            subst (λ i. 200 < length (valueAt
+            (taken (layout .new) (groupsIn t) (selectionAt layout (groupsIn t) key)) i))
+            (sym (placeOf-getD (variables-ascending M L R) p h))
+            (subst (λ n. 200 < n) (counted p h) (ltb-true 200 _ (found .2)));
       }
 
   -- and the other way round
@@ -77,11 +83,17 @@ module _ {M : Mode} {L R : List ℕ} {t : Table} {key : ℕ} (of : TableOf M L R
       let p = placeOf (long .variable) (variables M L R) in
       let h : p < length (variables M L R) = placeOf-lt (variables M L R) (long .variable) (long .of-the-pair) in
       let within : p < t .places = omega (arith, of .the-places) in
-      omega (arith, not-above (lengthAt (t .rows) (selectionIn t key)) (t .places) e within, counted p h, long .long)
+      omega (
+        arith,
+        not-above (lengthAt (t .rows) (selectionIn t key)) (t .places) e within,
+        counted p h,
+        long .long,
+      )
 
   -- What is told of the selection and put of it is told and put of the key.
   module _ {selection : Selection} (its : selection ≡ selectionIn t key) {out : List ℕ} where
-    pub writes-long : true ≡ tooLong (t .rows) (t .places) selection → Writes M L R (groupsIn t) key out (refused 17) out
+    pub writes-long : true ≡ tooLong (t .rows) (t .places) selection
+        → Writes M L R (groupsIn t) key out (refused 17) out
     writes-long e = too-long (long-counted (sym (e ∙ ap (tooLong (t .rows) (t .places)) its)))
 
     pub writes-values : {after : List ℕ} {n : ℕ} → false ≡ tooLong (t .rows) (t .places) selection → n ≤ length out
@@ -89,7 +101,8 @@ module _ {M : Mode} {L R : List ℕ} {t : Table} {key : ℕ} (of : TableOf M L R
         → Writes M L R (groupsIn t) key out (written n) after
     writes-values {after} {n} e space put =
         let mine : Put out 0 (valuesOf M L R (groupsIn t) key) n after =
-        put-as (ap (λ s. laidOut (bindingsBelow (t .variables) (atomsAt (t .rows) s) (t .places))) its ∙ laid) put in
+        put-as (ap (λ s. laidOut (bindingsBelow (t .variables) (atomsAt (t .rows) s) (t .places))) its ∙ laid)
+        put in
         let size : length (valuesOf M L R (groupsIn t) key) ≡ n = omega (arith, mine .place) in
         subst₂ (λ k l. Writes M L R (groupsIn t) key out (written k) l) size (sym (put-received mine space))
         (fits (counted-long (sym (e ∙ ap (tooLong (t .rows) (t .places)) its))))

@@ -16,4 +16,5 @@ tooLong rows places s = any places (λ p. ltb 200 (lengthAt rows s p))
 -- the variables before place n, each with the atoms at its place
 abbrev pub bindingsBelow : List ℕ → (ℕ → List ℕ) → ℕ → List Binding
 bindingsBelow variables atoms zero = []
-bindingsBelow variables atoms (suc n) = bindingsBelow variables atoms n ++ (record { variable = getD variables n 0; value = atoms n } ∷ [])
+bindingsBelow variables atoms (suc n) =
+    bindingsBelow variables atoms n ++ (record { variable = getD variables n 0; value = atoms n } ∷ [])

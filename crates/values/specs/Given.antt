@@ -1,4 +1,5 @@
--- The numbers that Values gives (document 01, "Numbers given in place of a result"): when each is given, whatever else is wrong.
+-- The numbers that Values gives (document 01, "Numbers given in place of a result"): when each is given,
+-- whatever else is wrong.
 use Prim.Native.Nat.{ℕ, _<_}
 use mathlib.Core.List.{List, [], _∷_, List·Memᴰ}
 use lib.ListN.{length}
@@ -21,7 +22,8 @@ pub data ValuesGiven (M : Mode) (L R : List ℕ) (key : ℕ) (out : List ℕ) : 
   -- 7 to 12 speak of the two sides
   of-the-sides : {n : ℕ} → PairGiven limits M L R n → ValuesGiven M L R key out n
   -- 13 and 14 of the list of the pair's groups; that the key is the last, 15, is none of the numbers of Values
-  of-the-list : {n : ℕ} {G : Groups} → GroupsOf M L R G → ListGiven (keys M layout L R G) (after key) n → ValuesGiven M L R key out n
+  of-the-list : {n : ℕ} {G : Groups} → GroupsOf M L R G → ListGiven (keys M layout L R G) (after key) n
+      → ValuesGiven M L R key out n
   -- a lent buffer is too short
   short-buffer : length out < 1212 → ValuesGiven M L R key out 16
   -- a value would have more than 200 atoms

@@ -31,7 +31,9 @@ valuesOf M L R G key = laidOut (bindings (value M (layout .new) L R G (selection
 -- What Values promises of its outcome and of the lent buffer at exit.
 pub data ValuesPromise (M : Mode) (L R : List ℕ) (key : ℕ) (out : List ℕ) : ValuesOutcome → List ℕ → Type 0 where
   -- Each returns its number alone and changes no buffer.
-  is-refused : {n : ℕ} → First (ValuesGiven M L R key out) valuesNumbers n → ValuesPromise M L R key out (refused n) out
-  -- A lent buffer receives, for each variable ascending, its byte, a byte count and the atoms; the length is returned.
+  is-refused : {n : ℕ} → First (ValuesGiven M L R key out) valuesNumbers n
+      → ValuesPromise M L R key out (refused n) out
+  -- A lent buffer receives, for each variable ascending, its byte, a byte count and the atoms; the length is
+  -- returned.
   is-written : {G : Groups} → NoneOf (ValuesGiven M L R key out) valuesNumbers → GroupsOf M L R G
       → ValuesPromise M L R key out (written (length (valuesOf M L R G key))) (receives out (valuesOf M L R G key))

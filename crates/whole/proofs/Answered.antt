@@ -52,16 +52,19 @@ module _ {M : Mode} {L R : List ℕ} {pages answers : List (List ℕ)} (asked : 
   at-key i h = omega (arith, as-many-answers answered)
 
   listed : (i : ℕ) → i < length answers → List·Memᴰ (getD (together pages) i 0) (keys M layout L R (groups M L R))
-  listed i h = subst (List·Memᴰ (getD (together pages) i 0)) (list .whole) (getD-member (together pages) i 0 (at-key i h))
+  listed i h = subst (List·Memᴰ (getD (together pages) i 0)) (list .whole)
+      (getD-member (together pages) i 0 (at-key i h))
 
   named : (i : ℕ) → i < length answers
-      → Agree (variables M L R) (replacementAt answers i) (replacementOf M L R (groups M L R) (getD (together pages) i 0))
+      → Agree (variables M L R) (replacementAt answers i)
+      (replacementOf M L R (groups M L R) (getD (together pages) i 0))
   named = answers-name (groups-exist M L R) answered
 
   each-unifies : (i : ℕ) → i < length answers → Unifies M L R (replacementAt answers i)
   each-unifies i h =
       let fine = asked-within refl asked in
-      unifies-alike M L R (fine .left-side) (fine .right-side) (λ x m. sym (named i h x m)) (key-unifies fine (groups-exist M L R) (listed i h))
+      unifies-alike M L R (fine .left-side) (fine .right-side) (λ x m. sym (named i h x m))
+      (key-unifies fine (groups-exist M L R) (listed i h))
 
   every-comes-from-one : (θ : Replacement) → Unifies M L R θ
       → (i : ℕ) × (i < length answers) × ComesFrom M (layout .new) L R (replacementAt answers i) θ
@@ -72,7 +75,8 @@ module _ {M : Mode} {L R : List ℕ} {pages answers : List (List ℕ)} (asked : 
         place .0,
         within,
         comes-alike M (layout .new) L R
-            (λ x m. ap (λ key. replacementOf M L R (groups M L R) key x) (sym (place .2)) ∙ sym (named (place .0) within x m)) (λ x m. refl) (found .2),
+            (λ x m. ap (λ key. replacementOf M L R (groups M L R) key x) (sym (place .2))
+            ∙ sym (named (place .0) within x m)) (λ x m. refl) (found .2),
       )
 
   none-from-another : (i j : ℕ) → i < length answers → j < length answers
@@ -80,7 +84,8 @@ module _ {M : Mode} {L R : List ℕ} {pages answers : List (List ℕ)} (asked : 
   none-from-another i j h h′ comes =
       let same = keys-independent (groups-exist M L R) (asked-within refl asked) (listed i h) (listed j h′)
       (comes-alike M (layout .new) L R (named i h) (named j h′) comes) in
-      sym (placeOf-getD (list .none-twice) i (at-key i h)) ∙ ap (λ key. placeOf key (together pages)) same ∙ placeOf-getD (list .none-twice) j (at-key j h′)
+      sym (placeOf-getD (list .none-twice) i (at-key i h)) ∙ ap (λ key. placeOf key (together pages)) same
+      ∙ placeOf-getD (list .none-twice) j (at-key j h′)
 
   pub whole-set : WholeSet M L R answers
   whole-set =

@@ -1,4 +1,5 @@
--- The pages and answers that `whole` speaks of exist for every pair within the limits that has a unifier: one page with all keys is enough.
+-- The pages and answers that `whole` speaks of exist for every pair within the limits that has a unifier: one
+-- page with all keys is enough.
 use Prim.Native.Nat.{ℕ, suc, _≤_}
 use native.Mathlib.Omega.{arith}
 use mathlib.Core.Path.{_≡_, refl, subst}
@@ -38,16 +39,20 @@ room-enough n = omega (arith, length-replicate {A = ℕ} n 0)
 module _ {M : Mode} {L R : List ℕ} where
   -- a page after which no more follow is the last one
   last-page : {begin : Begin} {wanted written : ℕ} {more : Bool} {out out′ : List ℕ} → more ≡ false
-      → PagePromise M L R begin wanted out (page written more) out′ → PagesAsked M L R begin (take written out′ ∷ [])
+      → PagePromise M L R begin wanted out (page written more) out′
+      → PagesAsked M L R begin (take written out′ ∷ [])
   last-page {begin} {wanted} {written} {out = out} {out′ = out′} ends promise =
       no-more-pages (subst (λ more. PagePromise M L R begin wanted out (page written more) out′) ends promise)
 
-module _ {M : Mode} {L R : List ℕ} (none : NoneOf (PairGiven limits M L R) (7 ∷ 8 ∷ 9 ∷ 10 ∷ 11 ∷ 12 ∷ [])) {G : Groups} (of : GroupsOf M L R G) where
+module _ {M : Mode} {L R : List ℕ} (none : NoneOf (PairGiven limits M L R) (7 ∷ 8 ∷ 9 ∷ 10 ∷ 11 ∷ 12 ∷ []))
+    {G : Groups} (of : GroupsOf M L R G) where
   -- one page from the start, with room for more than all keys
-  all-keys : {key : ℕ} → List·Memᴰ key (keys M layout L R G) → (pages : List (List ℕ)) × PagesAsked M L R start pages
+  all-keys : {key : ℕ} → List·Memᴰ key (keys M layout L R G)
+      → (pages : List (List ℕ)) × PagesAsked M L R start pages
   all-keys m =
       let wanted = suc (length (keys M layout L R G)) in
-      let nothing = none-of (λ n. list-gives-none (λ k same. absurd (start-not-after same)) m) (13 ∷ 14 ∷ 15 ∷ []) in (
+      let nothing =
+      none-of (λ n. list-gives-none (λ k same. absurd (start-not-after same)) m) (13 ∷ 14 ∷ 15 ∷ []) in (
         _,
         last-page {wanted = wanted} {out = room wanted} (le-ltb wanted (length (keys M layout L R G)) (omega arith))
             (is-page (none-of-list (room-enough wanted) of none nothing) of),
@@ -59,11 +64,15 @@ module _ {M : Mode} {L R : List ℕ} (none : NoneOf (PairGiven limits M L R) (7 
   all-answered [] listed = ([], no-more)
   all-answered (key ∷ asked) listed =
       let m = listed key (List·Memᴰ·head refl) in
-      let others = all-answered asked (λ other m. listed other (List·Memᴰ·tail m)) in
-      (_, one-more {out = room 1212} (is-written (none-at-all (room-enough 1212) of none m (not-long none of m)) of) (others .1))
+      let others = all-answered asked (λ other m. listed other (List·Memᴰ·tail m)) in (
+        _,
+        one-more {out = room 1212} (is-written
+            (none-at-all (room-enough 1212) of none m (not-long none of m)) of) (others .1),
+      )
 
 -- Sides that give none of 7 to 12 and have a unifier have pages, and answers to their keys.
-pub pages-and-answers : {M : Mode} {L R : List ℕ} → NoneOf (PairGiven limits M L R) (7 ∷ 8 ∷ 9 ∷ 10 ∷ 11 ∷ 12 ∷ []) → SomeUnifies M L R
+pub pages-and-answers : {M : Mode} {L R : List ℕ}
+    → NoneOf (PairGiven limits M L R) (7 ∷ 8 ∷ 9 ∷ 10 ∷ 11 ∷ 12 ∷ []) → SomeUnifies M L R
     → (pages answers : List (List ℕ)) × PagesAsked M L R start pages × ValuesAsked M L R (together pages) answers
 pages-and-answers {M} {L} {R} none some =
     let of = groups-exist M L R in

@@ -19,7 +19,8 @@ atoms-passed (a ∷ value) bytes = atoms-passed value bytes
 pub takenApart-laidOut : (bs : List Binding) → takenApart 0 (laidOut bs) ≡ bs
 takenApart-laidOut [] = refl
 takenApart-laidOut (b ∷ bs) =
-    ap₂ {C = List Binding} (λ (value : List ℕ) (rest : List Binding). record { variable = b .variable; value = value } ∷ rest)
+    ap₂ {C = List Binding} (λ (value : List ℕ) (rest : List Binding). record
+    { variable = b .variable; value = value } ∷ rest)
     (take-append-seam (b .value) (laidOut bs)) (atoms-passed (b .value) (laidOut bs) ∙ takenApart-laidOut bs)
 
 -- Two lists of variables with their values that are laid out alike are the same.
@@ -27,7 +28,8 @@ pub laidOut-one-to-one : (bs cs : List Binding) → laidOut bs ≡ laidOut cs �
 laidOut-one-to-one bs cs e = sym (takenApart-laidOut bs) ∙ ap (takenApart 0) e ∙ takenApart-laidOut cs
 
 valueIn-bindings : (θ : Replacement) {xs : List ℕ} {x : ℕ} → List·Memᴰ x xs → valueIn (bindings θ xs) x ≡ θ x
-valueIn-bindings θ {xs = y ∷ ys} {x} (List·Memᴰ·head e) = ap (λ t. cond t (θ y) (valueIn (bindings θ ys) x)) (eq-eqb x y e) ∙ ap θ (sym e)
+valueIn-bindings θ {xs = y ∷ ys} {x} (List·Memᴰ·head e) =
+    ap (λ t. cond t (θ y) (valueIn (bindings θ ys) x)) (eq-eqb x y e) ∙ ap θ (sym e)
 valueIn-bindings θ {xs = y ∷ ys} {x} (List·Memᴰ·tail m) = go (eqb x y) refl (valueIn-bindings θ m)
   where
     go : (t : Bool) → eqb x y ≡ t → valueIn (bindings θ ys) x ≡ θ x → cond t (θ y) (valueIn (bindings θ ys) x) ≡ θ x
@@ -35,7 +37,8 @@ valueIn-bindings θ {xs = y ∷ ys} {x} (List·Memᴰ·tail m) = go (eqb x y) re
     go false e later = later
 
 -- What is read back gives each variable the value that was laid out with it.
-pub readBack-laidOut : (θ : Replacement) {xs : List ℕ} {x : ℕ} → List·Memᴰ x xs → readBack (laidOut (bindings θ xs)) x ≡ θ x
+pub readBack-laidOut : (θ : Replacement) {xs : List ℕ} {x : ℕ} → List·Memᴰ x xs
+    → readBack (laidOut (bindings θ xs)) x ≡ θ x
 readBack-laidOut θ {xs} {x} m = ap (λ bs. valueIn bs x) (takenApart-laidOut (bindings θ xs)) ∙ valueIn-bindings θ m
 
 -- Pair 1 of document 01, v0=c0+n0 v1=n0, from its seven bytes.

@@ -1,5 +1,5 @@
--- The values of a pair within the limits. None has more than 160 atoms: an entry of a row is at most 8, and at most 4 + 16 rows
--- are taken. Their atoms are unbalanced constants and n0 to n15.
+-- The values of a pair within the limits. None has more than 160 atoms: an entry of a row is at most 8, and
+-- at most 4 + 16 rows are taken. Their atoms are unbalanced constants and n0 to n15.
 use Prim.Native.Nat.{ℕ, zero, suc, _+_, _*_, _≤_}
 use native.Mathlib.Omega.{arith}
 use mathlib.Core.Path.{_≡_, refl}
@@ -34,16 +34,23 @@ near-places f g near (x ∷ xs) zero = near x
 near-places f g near (x ∷ xs) (suc i) = near-places f g near xs i
 
 -- Where no net count is further than 8 from 0, no entry of a row is above 8.
-module _ {M : Mode} {L R : List ℕ} (near : (x : ℕ) → (count x L ≤ count x R + 8) × (count x R ≤ count x L + 8)) {G : Groups}
+module _ {M : Mode} {L R : List ℕ} (near : (x : ℕ) → (count x L ≤ count x R + 8)
+    × (count x R ≤ count x L + 8)) {G : Groups}
     (of : GroupsOf M L R G) where
   balanced-entry : {v : List ℕ} → List·Memᴰ v (G .balanced) → (i : ℕ) → getD v i 0 ≤ 8
   balanced-entry {v} m =
       huet-bound (balancedEquation M L R) (balanced-row-is-minimal M L R v .0 (of .balanced-rows .only v m))
-      (record { some = omega arith; places = near-places (λ x. count x L) (λ x. count x R) near (variables M L R); offsets = omega arith })
+      (record {
+        some = omega arith;
+        places = near-places (λ x. count x L) (λ x. count x R) near (variables M L R);
+        offsets = omega arith;
+      })
 
-  constant-entry : {g : Group} → List·Memᴰ g (G .constants) → {v : List ℕ} → List·Memᴰ v (g .rows) → (i : ℕ) → getD v i 0 ≤ 8
+  constant-entry : {g : Group} → List·Memᴰ g (G .constants) → {v : List ℕ} → List·Memᴰ v (g .rows) → (i : ℕ)
+      → getD v i 0 ≤ 8
   constant-entry {g} of-g {v} m =
-      huet-bound (equationOf M L R (g .constant)) (row-of-constant-is-minimal M L R (g .constant) v .0 (of .constant-rows g of-g .only v m))
+      huet-bound (equationOf M L R (g .constant))
+      (row-of-constant-is-minimal M L R (g .constant) v .0 (of .constant-rows g of-g .only v m))
       (record {
         some = omega arith;
         places = near-places (λ x. count x L) (λ x. count x R) near (variables M L R);
@@ -52,27 +59,40 @@ module _ {M : Mode} {L R : List ℕ} (near : (x : ℕ) → (count x L ≤ count 
 
 -- how many atoms the taken rows give at a place
 module _ (i : ℕ) where
-  length-valueAt : (ts us : List Taken) → length (valueAt (ts ++ us) i) ≡ length (valueAt ts i) + length (valueAt us i)
+  length-valueAt : (ts us : List Taken)
+      → length (valueAt (ts ++ us) i) ≡ length (valueAt ts i) + length (valueAt us i)
   length-valueAt [] us = omega arith
   length-valueAt (t ∷ ts) us = simp (length-append, length-replicate) (omega (arith, length-valueAt ts us))
 
-  constants-short : {gs : List Group} {is : List ℕ} → ((g : Group) → List·Memᴰ g gs → (v : List ℕ) → List·Memᴰ v (g .rows) → getD v i 0 ≤ 8)
+  constants-short : {gs : List Group} {is : List ℕ}
+      → ((g : Group) → List·Memᴰ g gs → (v : List ℕ) → List·Memᴰ v (g .rows) → getD v i 0 ≤ 8)
       → Within gs is → length (valueAt (takenRows gs is) i) ≤ 8 * length gs
   constants-short small none = omega arith
   constants-short small (index {g = g} {i = k} h within) =
       simp (length-append, length-replicate)
-      (omega (arith, small g (List·Memᴰ·head refl) (getD (g .rows) k []) (getD-member (g .rows) k [] h), constants-short (λ g m. small g (List·Memᴰ·tail m)) within))
+      (omega (
+        arith,
+        small g (List·Memᴰ·head refl) (getD (g .rows) k []) (getD-member (g .rows) k [] h),
+        constants-short (λ g m. small g (List·Memᴰ·tail m)) within,
+      ))
 
-  balanced-short : (n : ℕ) (rows : List (List ℕ)) (ts : List Bool) → ((v : List ℕ) → List·Memᴰ v rows → getD v i 0 ≤ 8)
+  balanced-short : (n : ℕ) (rows : List (List ℕ)) (ts : List Bool)
+      → ((v : List ℕ) → List·Memᴰ v rows → getD v i 0 ≤ 8)
       → length (valueAt (takenBalanced n rows ts) i) ≤ 8 * length rows
   balanced-short n [] ts small = omega arith
   balanced-short n (r ∷ rows) [] small = omega arith
   balanced-short n (r ∷ rows) (true ∷ ts) small =
       simp (length-append, length-replicate)
-      (omega (arith, small r (List·Memᴰ·head refl), balanced-short (suc n) rows ts (λ v m. small v (List·Memᴰ·tail m))))
-  balanced-short n (r ∷ rows) (false ∷ ts) small = omega (arith, balanced-short (suc n) rows ts (λ v m. small v (List·Memᴰ·tail m)))
+      (omega (
+        arith,
+        small r (List·Memᴰ·head refl),
+        balanced-short (suc n) rows ts (λ v m. small v (List·Memᴰ·tail m)),
+      ))
+  balanced-short n (r ∷ rows) (false ∷ ts) small =
+      omega (arith, balanced-short (suc n) rows ts (λ v m. small v (List·Memᴰ·tail m)))
 
-module _ {M : Mode} {L R : List ℕ} (none : NoneOf (PairGiven limits M L R) (7 ∷ 8 ∷ 9 ∷ 10 ∷ 11 ∷ 12 ∷ [])) {G : Groups} (of : GroupsOf M L R G) where
+module _ {M : Mode} {L R : List ℕ} (none : NoneOf (PairGiven limits M L R) (7 ∷ 8 ∷ 9 ∷ 10 ∷ 11 ∷ 12 ∷ []))
+    {G : Groups} (of : GroupsOf M L R G) where
   near : (x : ℕ) → (count x L ≤ count x R + 8) × (count x R ≤ count x L + 8)
   near x =
       let within = within-the-limits (none-front (7 ∷ 8 ∷ 9 ∷ 10 ∷ 11 ∷ []) (12 ∷ []) none) in
@@ -85,7 +105,8 @@ module _ {M : Mode} {L R : List ℕ} (none : NoneOf (PairGiven limits M L R) (7 
       let fits = within-limits none .groups-fit G of in
       omega (
         arith,
-        length-valueAt i (takenRows (G .constants) (s .indexes)) (takenBalanced (layout .new) (G .balanced) (s .takes)),
+        length-valueAt i (takenRows (G .constants) (s .indexes))
+            (takenBalanced (layout .new) (G .balanced) (s .takes)),
         constants-short i (λ g of-g v m. constant-entry near of of-g m i) (selection .a-row-each),
         balanced-short i (layout .new) (G .balanced) (s .takes) (λ v m. balanced-entry near of m i),
         fits .few-constants,
@@ -96,10 +117,15 @@ module _ {M : Mode} {L R : List ℕ} (none : NoneOf (PairGiven limits M L R) (7 
   pub not-long : {key : ℕ} → List·Memᴰ key (keys M layout L R G) → LongValue M L R G key → ⊥
   not-long m long =
       let fits = within-limits none .groups-fit G of in
-      omega (arith, long .long, value-short (candidate-selection fits (listed-candidates fits M L R .0 m .0)) (long .variable))
+      omega (
+        arith,
+        long .long,
+        value-short (candidate-selection fits (listed-candidates fits M L R .0 m .0)) (long .variable),
+      )
 
   -- In answers 192 to 207 are new variables n0 to n15; the other atoms of a value are unbalanced constants.
-  pub answer-atoms : {s : Selection} → SelectionOf G s → (x : ℕ) {a : ℕ} → List·Memᴰ a (value M (layout .new) L R G s x)
+  pub answer-atoms : {s : Selection} → SelectionOf G s → (x : ℕ) {a : ℕ}
+      → List·Memᴰ a (value M (layout .new) L R G s x)
       → List·Memᴰ a (unbalanced M L R) ⊎ ((192 ≤ a) × (a ≤ 207))
   answer-atoms selection x m =
       let few = within-limits none .groups-fit G of .few-balanced in

@@ -1,10 +1,13 @@
--- What Page and Values give together (document 01, "What every promise has to say", demand 3). This is the file to read first; the words of the
--- statement stand in specs/Whole.antt. It speaks of promises and bytes alone, not of code.
+-- What Page and Values give together (document 01, "What every promise has to say", demand 3). This is the
+-- file to read first; the words of the statement stand in specs/Whole.antt. It speaks of promises and bytes
+-- alone, not of code.
 --
--- For all sides, whatever lists of bytes they are: let pages be asked for one after the other from the start until no more follow, each after the
--- last key of the one before, with any counts and any lent buffers; and let Values be asked for each key on them, with any lent buffer, and answer.
--- If all of these meet the promises, the replacements read back from the bytes each unify, every unifier comes from one of them, none comes from
--- another, and none stands twice. That there are such pages and answers wherever there is a unifier is `pages-and-answers` of Exist.antt.
+-- For all sides, whatever lists of bytes they are: let pages be asked for one after the other from the start
+-- until no more follow, each after the last key of the one before, with any counts and any lent buffers; and
+-- let Values be asked for each key on them, with any lent buffer, and answer. If all of these meet the
+-- promises, the replacements read back from the bytes each unify, every unifier comes from one of them, none
+-- comes from another, and none stands twice. That there are such pages and answers wherever there is a
+-- unifier is `pages-and-answers` of Exist.antt.
 use Prim.Native.Nat.{ℕ}
 use native.Mathlib.Omega.{arith}
 use mathlib.Core.Path.{_≡_, refl, subst}
@@ -23,21 +26,27 @@ use Rattle.solver.proofs.Existence.{page-existence}
 use Rattle.whole.specs.Whole.{ValuesAsked, WholeSet}
 use Rattle.whole.proofs.Answered.{whole-set}
 
-pub whole : {L R : List ℕ} {pages answers : List (List ℕ)} → PagesAsked unifying L R start pages → ValuesAsked unifying L R (together pages) answers
+pub whole : {L R : List ℕ} {pages answers : List (List ℕ)} → PagesAsked unifying L R start pages
+    → ValuesAsked unifying L R (together pages) answers
     → WholeSet unifying L R answers
 whole asked answered = whole-set asked answered
 
 -- The other end: Page gives 13 exactly where no replacement unifies, unless a number that comes before it is given.
 module _ {L R : List ℕ} {begin : Begin} {wanted : ℕ} {out : List ℕ} where
-  none-before-13 : {outcome : PageOutcome} {out′ : List ℕ} → PagePromise unifying L R begin wanted out outcome out′ → outcome ≡ refused 13
+  none-before-13 : {outcome : PageOutcome} {out′ : List ℕ}
+      → PagePromise unifying L R begin wanted out outcome out′ → outcome ≡ refused 13
       → NoneOf (PageGiven unifying L R begin wanted out) (16 ∷ 7 ∷ 8 ∷ 9 ∷ 10 ∷ 11 ∷ 12 ∷ [])
   none-before-13 (is-refused {n = n} first) e =
       let thirteen : n ≡ 13 = cc e in
-      first-past (16 ∷ 7 ∷ 8 ∷ 9 ∷ 10 ∷ 11 ∷ 12 ∷ []) (13 ∷ 14 ∷ 15 ∷ []) refl (subst (First (PageGiven unifying L R begin wanted out) pageNumbers) thirteen first)
+      first-past (16 ∷ 7 ∷ 8 ∷ 9 ∷ 10 ∷ 11 ∷ 12 ∷ []) (13 ∷ 14 ∷ 15 ∷ []) refl
+      (subst (First (PageGiven unifying L R begin wanted out) pageNumbers) thirteen first)
   none-before-13 (is-page none of) e = absurd (let z : _≡_ {A = ℕ} 0 1 = cc e in omega arith)
 
   pub none-at-all : {outcome : PageOutcome} {out′ : List ℕ} → PagePromise unifying L R begin wanted out outcome out′
-      → (outcome ≡ refused 13) ↔ (NoneOf (PageGiven unifying L R begin wanted out) (16 ∷ 7 ∷ 8 ∷ 9 ∷ 10 ∷ 11 ∷ 12 ∷ []) × NoneUnifies unifying L R)
+      → (outcome ≡ refused 13) ↔ (NoneOf (PageGiven unifying L R begin wanted out)
+      (16 ∷ 7 ∷ 8 ∷ 9 ∷ 10 ∷ 11 ∷ 12 ∷ []) × NoneUnifies unifying L R)
   none-at-all promise =
-      let exists = page-existence promise in
-      (λ e. (none-before-13 promise e, exists .only-where-none e), λ none. exists .always-where-none (none .0) (none .1))
+      let exists = page-existence promise in (
+        λ e. (none-before-13 promise e, exists .only-where-none e),
+        λ none. exists .always-where-none (none .0) (none .1),
+      )

@@ -55,10 +55,13 @@ module _ {L R : List ℕ} {G : Groups}
 
   -- where keys remain after the beginning, at most 200 of them, they are the page
   pub page-from : (begin : Begin) → ((k : ℕ) → begin ≡ after k → List·Memᴰ k (keys unifying layout L R G))
-      → (key : ℕ) (others : List ℕ) → remaining begin (keys unifying layout L R G) ≡ key ∷ others → length (key ∷ others) ≤ 200
+      → (key : ℕ) (others : List ℕ) → remaining begin (keys unifying layout L R G) ≡ key ∷ others
+      → length (key ∷ others) ≤ 200
       → (out : List ℕ) → 200 ≤ length out
-      → Answers pageQuestion (record { left = L; right = R; also = record { begin = begin; wanted = 0 } }) out (page (length (key ∷ others)) false) (receives out (key ∷ others))
-  page-from begin on-list key others e few out enough = record { meets = met; alone = λ other exit p. page-determined p met }
+      → Answers pageQuestion (record { left = L; right = R; also = record { begin = begin; wanted = 0 } }) out
+      (page (length (key ∷ others)) false) (receives out (key ∷ others))
+  page-from begin on-list key others e few out enough =
+      record { meets = met; alone = λ other exit p. page-determined p met }
     where
       whole : take 200 (remaining begin (keys unifying layout L R G)) ≡ key ∷ others
       whole = ap (take 200) e ∙ take-all 200 (key ∷ others) few
@@ -68,35 +71,46 @@ module _ {L R : List ℕ} {G : Groups}
 
       met : PagePromise unifying L R begin 0 out (page (length (key ∷ others)) false) (receives out (key ∷ others))
       met =
-          subst₂ (λ ks more. PagePromise unifying L R begin 0 out (page (length ks) more) (receives out ks)) whole no-more
-          (is-page (none-of-list enough groups nothing (none-of (λ n. list-gives-none on-list (subst (List·Memᴰ key) (sym e) (List·Memᴰ·head refl))) (13 ∷ 14 ∷ 15 ∷ []))) groups)
+          subst₂ (λ ks more. PagePromise unifying L R begin 0 out (page (length ks) more) (receives out ks))
+          whole no-more (is-page (none-of-list enough groups nothing
+          (none-of (λ n. list-gives-none on-list (subst (List·Memᴰ key) (sym e) (List·Memᴰ·head refl)))
+          (13 ∷ 14 ∷ 15 ∷ []))) groups)
 
   -- a list of at most 200 keys is one page; an empty one is 13
   pub page-of-list : (ks : List ℕ) → keys unifying layout L R G ≡ ks → length ks ≤ 200 → PageGives L R ks
   page-of-list [] e few out enough =
       let met = is-refused (first-of-list enough groups nothing (here (none-admissible e))) in
       record { meets = met; alone = λ other exit p. page-determined p met }
-  page-of-list (key ∷ others) e few out enough = page-from start (λ k same. absurd (start-not-after same)) key others e few out enough
+  page-of-list (key ∷ others) e few out enough =
+      page-from start (λ k same. absurd (start-not-after same)) key others e few out enough
 
   -- a listed key has its values, since none is long
-  pub values-of-key : (key : ℕ) → List·Memᴰ key (keys unifying layout L R G) → ValuesGives L R key (valuesOf unifying L R G key)
+  pub values-of-key : (key : ℕ) → List·Memᴰ key (keys unifying layout L R G)
+      → ValuesGives L R key (valuesOf unifying L R G key)
   values-of-key key listed-key out enough =
-      let met = is-written (none-at-all enough groups nothing listed-key (not-long nothing groups listed-key)) groups in
+      let met = is-written (none-at-all enough groups nothing listed-key (not-long nothing groups listed-key))
+      groups in
       record { meets = met; alone = λ other exit p. values-determined p met }
 
   fits : Fits layout G
   fits = within-limits nothing .groups-fit G groups
 
   -- of the keys of listed selections in turn, the values of those selections
-  pub in-turn : (ss : List Selection) → ((s : Selection) → List·Memᴰ s ss → List·Memᴰ s (listed unifying layout L R G))
-      → ValuesGiveInTurn L R (map (keyOf layout) ss) (map (λ s. bindings (value unifying (layout .new) L R G s) (variables unifying L R)) ss)
+  pub in-turn : (ss : List Selection)
+      → ((s : Selection) → List·Memᴰ s ss → List·Memᴰ s (listed unifying layout L R G))
+      → ValuesGiveInTurn L R (map (keyOf layout) ss)
+      (map (λ s. bindings (value unifying (layout .new) L R G s) (variables unifying L R)) ss)
   in-turn [] from = none
   in-turn (s ∷ ss) from = next first (in-turn ss (λ t m. from t (List·Memᴰ·tail m)))
     where
       of-groups : SelectionOf G s
-      of-groups = selections-are G .0 (filter-member (admissible unifying (layout .new) L R G) (selections G) (from s (List·Memᴰ·head refl)) .0)
+      of-groups = selections-are G .0 (filter-member (admissible unifying (layout .new) L R G) (selections G)
+          (from s (List·Memᴰ·head refl)) .0)
 
-      first : ValuesGives L R (keyOf layout s) (laidOut (bindings (value unifying (layout .new) L R G s) (variables unifying L R)))
+      first : ValuesGives L R (keyOf layout s)
+          (laidOut (bindings (value unifying (layout .new) L R G s) (variables unifying L R)))
       first =
-          subst (λ t. ValuesGives L R (keyOf layout s) (laidOut (bindings (value unifying (layout .new) L R G t) (variables unifying L R))))
-          (taken-apart fits of-groups) (values-of-key (keyOf layout s) (members-map (keyOf layout) (from s (List·Memᴰ·head refl))))
+          subst (λ t. ValuesGives L R (keyOf layout s)
+          (laidOut (bindings (value unifying (layout .new) L R G t) (variables unifying L R))))
+          (taken-apart fits of-groups) (values-of-key (keyOf layout s)
+          (members-map (keyOf layout) (from s (List·Memᴰ·head refl))))

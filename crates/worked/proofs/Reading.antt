@@ -17,11 +17,13 @@ use Rattle.worked.specs.Answers.{ReadGives}
 use Rattle.worked.specs.Example.{block-0, block-1}
 
 -- a block of a good header, with two terms and zeros after them, is read as their sides
-block-gives : {block : List ℕ} {number : ℕ} {s t : Term} → GoodHeader block number → Writes (leftTerm block) s → Writes (rightTerm block) t
+block-gives : {block : List ℕ} {number : ℕ} {s t : Term} → GoodHeader block number → Writes (leftTerm block) s
+    → Writes (rightTerm block) t
     → allZero (filler block) ≡ true → ReadGives block number (leftSide s) (rightSide t)
 block-gives good left right zeros lent left-fits right-fits =
     let met =
-    is-read (also (not-16 left-fits right-fits) (none-given good left right zeros (lent .left) (lent .right))) left right in
+    is-read (also (not-16 left-fits right-fits) (none-given good left right zeros (lent .left) (lent .right)))
+    left right in
     record {
       meets = met;
       alone = λ other exit p.
@@ -33,7 +35,13 @@ block-gives good left right zeros lent left-fits right-fits =
 pub block-0-gives : ReadGives block-0 0 (0 ∷ 1 ∷ []) (64 ∷ 65 ∷ [])
 block-0-gives =
     block-gives {s = plus (atom 0) (atom 1)} {t = plus (atom 64) (atom 65)}
-    (record { whole = refl; checked = refl; numbered = refl; left-length = (omega arith, omega arith); right-length = (omega arith, omega arith) })
+    (record {
+      whole = refl;
+      checked = refl;
+      numbered = refl;
+      left-length = (omega arith, omega arith);
+      right-length = (omega arith, omega arith);
+    })
     (record { exactly = refl; writable = two (one (omega arith)) (one (omega arith)) })
     (record { exactly = refl; writable = two (one (omega arith)) (one (omega arith)) })
     refl
@@ -42,7 +50,13 @@ block-0-gives =
 pub block-1-gives : ReadGives block-1 1 (0 ∷ 0 ∷ []) (64 ∷ [])
 block-1-gives =
     block-gives {s = plus (atom 0) (atom 0)} {t = atom 64}
-    (record { whole = refl; checked = refl; numbered = refl; left-length = (omega arith, omega arith); right-length = (omega arith, omega arith) })
+    (record {
+      whole = refl;
+      checked = refl;
+      numbered = refl;
+      left-length = (omega arith, omega arith);
+      right-length = (omega arith, omega arith);
+    })
     (record { exactly = refl; writable = two (one (omega arith)) (one (omega arith)) })
     (record { exactly = refl; writable = one (omega arith) })
     refl

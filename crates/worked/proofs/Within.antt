@@ -39,7 +39,8 @@ sideTests side = leb 1 (length side) ∷ leb (length side) 64 ∷ every (λ a. l
 abbrev rowTests : Groups → List Bool
 rowTests G = leb (length (G .balanced)) 16 ∷ every (λ g. leb (length (g .rows)) 16) (G .constants) ∷ []
 
--- so each side and the rows; at most 6 variables; no atom with a net count further than 8 from 0; at most 4 unbalanced constants
+-- so each side and the rows; at most 6 variables; no atom with a net count further than 8 from 0; at most 4
+-- unbalanced constants
 abbrev pairTests : List ℕ → List ℕ → List Bool
 pairTests L R =
     all (sideTests L)
@@ -62,17 +63,24 @@ module _ (side : List ℕ) (passes : all (sideTests side) ≡ true) where
   byte-within {byte} m = leb-true byte 127 (every-member (λ a. leb a 127) (each (sideTests side) passes 2) m)
 
 rows-within : {G : Groups} → all (rowTests G) ≡ true → ManyRows limits G → ⊥
-rows-within {G} passes (balanced many) = omega (arith, leb-true (length (G .balanced)) 16 (each (rowTests G) passes 0))
+rows-within {G} passes (balanced many) =
+    omega (arith, leb-true (length (G .balanced)) 16 (each (rowTests G) passes 0))
 rows-within {G} passes (of-a-constant {g = g} m many) =
-    omega (arith, leb-true (length (g .rows)) 16 (every-member (λ (h : Group). leb (length (h .rows)) 16) (each (rowTests G) passes 1) m))
+    omega (
+      arith,
+      leb-true (length (g .rows)) 16
+          (every-member (λ (h : Group). leb (length (h .rows)) 16) (each (rowTests G) passes 1) m),
+    )
 
 -- an atom that stands on neither side has net count 0
-near-zero : (L R : List ℕ) → every (λ a. leb (natAbs (net L R a)) 8) (L ++ R) ≡ true → (atom : ℕ) → natAbs (net L R atom) ≤ 8
+near-zero : (L R : List ℕ) → every (λ a. leb (natAbs (net L R a)) 8) (L ++ R) ≡ true → (atom : ℕ)
+    → natAbs (net L R atom) ≤ 8
 near-zero L R passes atom = go (decLt 0 (count atom (L ++ R)))
   where
     go : Dec (0 < count atom (L ++ R)) → natAbs (net L R atom) ≤ 8
     go (yes stands) =
-        leb-true (natAbs (net L R atom)) 8 (every-member (λ a. leb (natAbs (net L R a)) 8) passes (count-member atom (L ++ R) stands))
+        leb-true (natAbs (net L R atom)) 8
+        (every-member (λ a. leb (natAbs (net L R a)) 8) passes (count-member atom (L ++ R) stands))
     go (no absent) = omega (arith, count-append atom L R, natAbs-difference (count atom L) (count atom R))
 
 module _ (L R : List ℕ) (passes : within L R ≡ true) where
@@ -86,9 +94,11 @@ module _ (L R : List ℕ) (passes : within L R ≡ true) where
   -- no row of the table is given
   pub never-given : {n : ℕ} → PairGiven limits unifying L R n → ⊥
   never-given (side-length {side} one wrong) = length-within side (side-within one) wrong
-  never-given (no-atom {side} one wrong) = omega (arith, wrong .above, byte-within side (side-within one) (wrong .held))
+  never-given (no-atom {side} one wrong) =
+      omega (arith, wrong .above, byte-within side (side-within one) (wrong .held))
   never-given (many-variables many) = omega (arith, leb-true (length (variables unifying L R)) 6 (passed 2))
   never-given (far-net-count atom far) = omega (arith, near-zero L R (passed 3) atom)
   never-given (many-constants many) = omega (arith, leb-true (length (unbalanced unifying L R)) 4 (passed 4))
   never-given (many-rows groups-of many) =
-      rows-within (passed 5) (subst (ManyRows limits) (groups-unique unifying L R groups-of (groups-exist unifying L R)) many)
+      rows-within (passed 5) (subst (ManyRows limits)
+      (groups-unique unifying L R groups-of (groups-exist unifying L R)) many)

@@ -1,4 +1,5 @@
--- Pairs 1 to 12 of document 01: one test, computed over the table, and the law that turns it into what the questions answer of each pair.
+-- Pairs 1 to 12 of document 01: one test, computed over the table, and the law that turns it into what the
+-- questions answer of each pair.
 use Prim.Native.Nat.{ℕ, _-_, _≤_}
 use native.Mathlib.Omega.{arith}
 use mathlib.Core.Path.{_≡_, refl, subst}
@@ -45,7 +46,8 @@ module _ (L R : List ℕ) (passes : all (tests L R) ≡ true) where
   computed =
       record {
         the-rows = rows-of-groups (groups-exist unifying L R) never;
-        the-list = page-of-list (groups-exist unifying L R) never (list L R) refl (leb-true (length (list L R)) 200 (each (tests L R) passes 1));
+        the-list = page-of-list (groups-exist unifying L R) never (list L R) refl
+            (leb-true (length (list L R)) 200 (each (tests L R) passes 1));
         the-values = values-of-key (groups-exist unifying L R) never;
       }
 
@@ -66,8 +68,10 @@ module _ (L R : List ℕ) (passes : all (tests L R) ≡ true) where
 pub worked-questions : (pair : Pair) → List·Memᴰ pair pairs → Worked pair
 worked-questions pair member =
     record {
-      as-printed = λ what m. printed L R passed what (worked-pairs pair member (groups unifying L R) (groups-exist unifying L R) what m);
-      by-groups = λ G groups-of. subst (AnswersBy L R) (groups-unique unifying L R (groups-exist unifying L R) groups-of) (computed L R passed);
+      as-printed = λ what m. printed L R passed what
+          (worked-pairs pair member (groups unifying L R) (groups-exist unifying L R) what m);
+      by-groups = λ G groups-of. subst (AnswersBy L R)
+          (groups-unique unifying L R (groups-exist unifying L R) groups-of) (computed L R passed);
     }
   where
     L : List ℕ
@@ -82,7 +86,8 @@ worked-questions pair member =
 -- and so of the pair of each number
 pub worked-number : (n : ℕ) → 1 ≤ n → n ≤ 12 → Worked (numbered n)
 worked-number n low high =
-    worked-questions (numbered n) (getD-member pairs (n - 1) (record { left = []; right = []; printed = [] }) (omega arith))
+    worked-questions (numbered n) (getD-member pairs (n - 1) (record { left = []; right = []; printed = [] })
+    (omega arith))
 
 -- by its groups
 pub worked-groups : (n : ℕ) → 1 ≤ n → n ≤ 12

@@ -6,17 +6,21 @@ use Rattle.worked.specs.Answers.{Answers}
 use Rattle.worked.specs.Programs.{Program, MeetsAt, RefusesEverything, ConstantResult, WritesNothing}
 
 module _ {Q : Question} (program : Program Q) where
-  module _ {asked : Q .Asked} {lent : Q .Lent} {outcome : Q .Outcome} {exit : Q .Lent} (right : Answers Q asked lent outcome exit) where
+  module _ {asked : Q .Asked} {lent : Q .Lent} {outcome : Q .Outcome} {exit : Q .Lent}
+      (right : Answers Q asked lent outcome exit) where
     -- another outcome
     pub other-outcome-fails : (program asked lent .outcome ≡ outcome → ⊥) → MeetsAt program asked lent → ⊥
-    other-outcome-fails differs meets = differs (right .alone (program asked lent .outcome) (program asked lent .exit) meets .0)
+    other-outcome-fails differs meets =
+        differs (right .alone (program asked lent .outcome) (program asked lent .exit) meets .0)
 
     -- other buffers at exit
     pub other-exit-fails : (program asked lent .exit ≡ exit → ⊥) → MeetsAt program asked lent → ⊥
-    other-exit-fails differs meets = differs (right .alone (program asked lent .outcome) (program asked lent .exit) meets .1)
+    other-exit-fails differs meets =
+        differs (right .alone (program asked lent .outcome) (program asked lent .exit) meets .1)
 
     -- a number where the answer is none
-    pub refusing-fails : ((n : ℕ) → Q .refused n ≡ outcome → ⊥) → RefusesEverything program → MeetsAt program asked lent → ⊥
+    pub refusing-fails : ((n : ℕ) → Q .refused n ≡ outcome → ⊥) → RefusesEverything program
+        → MeetsAt program asked lent → ⊥
     refusing-fails answers refuses =
         let refusal = refuses asked lent in
         other-outcome-fails (λ same. answers (refusal .0) (sym (refusal .1) ∙ same))
@@ -26,8 +30,10 @@ module _ {Q : Question} (program : Program Q) where
     writing-nothing-fails written nothing = other-exit-fails (λ same. written (sym (nothing asked lent) ∙ same))
 
   -- one result for two questions with different answers
-  pub constant-fails : {asked asked′ : Q .Asked} {lent lent′ : Q .Lent} {outcome outcome′ : Q .Outcome} {exit exit′ : Q .Lent}
-      → Answers Q asked lent outcome exit → Answers Q asked′ lent′ outcome′ exit′ → (outcome ≡ outcome′ → ⊥) → ConstantResult program
+  pub constant-fails : {asked asked′ : Q .Asked} {lent lent′ : Q .Lent} {outcome outcome′ : Q .Outcome}
+      {exit exit′ : Q .Lent}
+      → Answers Q asked lent outcome exit → Answers Q asked′ lent′ outcome′ exit′ → (outcome ≡ outcome′ → ⊥)
+      → ConstantResult program
       → MeetsAt program asked lent → MeetsAt program asked′ lent′ → ⊥
   constant-fails {asked} {asked′} {lent} {lent′} right right′ differs constant meets meets′ =
       differs

@@ -26,15 +26,18 @@ asked n begin = ofPair n (record { begin = begin; wanted = 0 })
 
 -- pair 2: keys 6, 7, 9, 11, 13, 14, 15
 seven-keys : PageGives (numbered 2 .left) (numbered 2 .right) (6 ∷ 7 ∷ 9 ∷ 11 ∷ 13 ∷ 14 ∷ 15 ∷ [])
-seven-keys = worked-number 2 (omega arith) (omega arith) .as-printed (the-keys _) (List·Memᴰ·tail (List·Memᴰ·head refl))
+seven-keys =
+    worked-number 2 (omega arith) (omega arith) .as-printed (the-keys _) (List·Memᴰ·tail (List·Memᴰ·head refl))
 
 -- pair 7: one, key 1
 one-key : PageGives (numbered 7 .left) (numbered 7 .right) (1 ∷ [])
 one-key = worked-number 7 (omega arith) (omega arith) .as-printed (the-keys _) (List·Memᴰ·head refl)
 
 -- pair 2: after key 6, six follow
-six-follow : (out : List ℕ) → 200 ≤ length out → Answers pageQuestion (asked 2 (after 6)) out (page 6 false) (receives out (7 ∷ 9 ∷ 11 ∷ 13 ∷ 14 ∷ 15 ∷ []))
-six-follow = page-from (groups-exist unifying L R) (λ n. never-given L R refl) (after 6) on-list 7 (9 ∷ 11 ∷ 13 ∷ 14 ∷ 15 ∷ []) refl (omega arith)
+six-follow : (out : List ℕ) → 200 ≤ length out
+    → Answers pageQuestion (asked 2 (after 6)) out (page 6 false) (receives out (7 ∷ 9 ∷ 11 ∷ 13 ∷ 14 ∷ 15 ∷ []))
+six-follow = page-from (groups-exist unifying L R) (λ n. never-given L R refl) (after 6) on-list 7
+    (9 ∷ 11 ∷ 13 ∷ 14 ∷ 15 ∷ []) refl (omega arith)
   where
     L : List ℕ
     L = numbered 2 .left
@@ -43,18 +46,22 @@ six-follow = page-from (groups-exist unifying L R) (λ n. never-given L R refl) 
     R = numbered 2 .right
 
     on-list : (key : ℕ) → after 6 ≡ after key → List·Memᴰ key (keys unifying layout L R (groups unifying L R))
-    on-list key e = let six : 6 ≡ key = cc e in subst (λ k. List·Memᴰ k (keys unifying layout L R (groups unifying L R))) six (List·Memᴰ·head refl)
+    on-list key e = let six : 6 ≡ key = cc e in subst
+        (λ k. List·Memᴰ k (keys unifying layout L R (groups unifying L R))) six (List·Memᴰ·head refl)
 
 module _ (program : Program pageQuestion) where
   module _ {out : List ℕ} (enough : 200 ≤ length out) where
     -- It refuses everything: pair 2 has seven unifiers.
     pub refusing-fails : RefusesEverything program → MeetsAt program (asked 2 start) out → ⊥
-    refusing-fails = wrong.refusing-fails program (seven-keys out enough) (λ n e. let z : _≡_ {A = ℕ} 0 1 = cc e in omega arith)
+    refusing-fails = wrong.refusing-fails program (seven-keys out enough)
+        (λ n e. let z : _≡_ {A = ℕ} 0 1 = cc e in omega arith)
 
     -- It has a constant result: pair 2 has seven keys, pair 7 has one.
-    pub constant-fails : ConstantResult program → MeetsAt program (asked 2 start) out → MeetsAt program (asked 7 start) out → ⊥
+    pub constant-fails : ConstantResult program → MeetsAt program (asked 2 start) out
+        → MeetsAt program (asked 7 start) out → ⊥
     constant-fails =
-        wrong.constant-fails program (seven-keys out enough) (one-key out enough) (λ e. let z : _≡_ {A = ℕ} 7 1 = cc e in omega arith)
+        wrong.constant-fails program (seven-keys out enough) (one-key out enough)
+        (λ e. let z : _≡_ {A = ℕ} 7 1 = cc e in omega arith)
 
     -- It finds the first key and then claims 15: after key 6 of pair 2 others follow.
     pub then-fifteen-fails : ThenFifteen program → MeetsAt program (asked 2 (after 6)) out → ⊥

@@ -25,16 +25,19 @@ module _ (program : Program readQuestion) where
   module _ {lent : TwoBuffers} (left-fits : 64 ≤ length (lent .left)) (right-fits : 64 ≤ length (lent .right)) where
     -- It refuses everything: block 0 has two sides.
     pub refusing-fails : RefusesEverything program → MeetsAt program first lent → ⊥
-    refusing-fails = wrong.refusing-fails program (block-0-gives lent left-fits right-fits) (λ n e. let z : _≡_ {A = ℕ} 0 1 = cc e in omega arith)
+    refusing-fails = wrong.refusing-fails program (block-0-gives lent left-fits right-fits)
+        (λ n e. let z : _≡_ {A = ℕ} 0 1 = cc e in omega arith)
 
     -- It has a constant result: the right side of block 0 has two atoms, that of block 1 has one.
     pub constant-fails : ConstantResult program → MeetsAt program first lent → MeetsAt program second lent → ⊥
     constant-fails =
-        wrong.constant-fails program (block-0-gives lent left-fits right-fits) (block-1-gives lent left-fits right-fits)
+        wrong.constant-fails program (block-0-gives lent left-fits right-fits)
+        (block-1-gives lent left-fits right-fits)
         (λ e. let z : _≡_ {A = ℕ} 2 1 = cc e in omega arith)
 
     -- It invents the lengths: both sides of block 0 have two atoms.
-    pub invented-lengths-fail : (m n : ℕ) → program first lent .outcome ≡ lengths m n → ((m ≡ 2) × (n ≡ 2) → ⊥) → MeetsAt program first lent → ⊥
+    pub invented-lengths-fail : (m n : ℕ) → program first lent .outcome ≡ lengths m n
+        → ((m ≡ 2) × (n ≡ 2) → ⊥) → MeetsAt program first lent → ⊥
     invented-lengths-fail m n returns others =
         wrong.other-outcome-fails program (block-0-gives lent left-fits right-fits)
         (λ e. let same : lengths m n ≡ lengths 2 2 = cc (e, returns) in others (cc same, cc same))

@@ -1,4 +1,5 @@
--- Document 01's wrong programs, as programs for Rows: at a pair worked by hand none of them meets the promise. Rows never gives 15.
+-- Document 01's wrong programs, as programs for Rows: at a pair worked by hand none of them meets the
+-- promise. Rows never gives 15.
 use Prim.Native.Nat.{ℕ, _≤_}
 use native.Mathlib.Omega.{arith}
 use mathlib.Core.Path.{_≡_, ap}
@@ -17,7 +18,8 @@ asked n = ofPair n tt
 
 -- pair 2: rows 0101, 0110, 1001, 1010
 four-rows : RowsGives (numbered 2 .left) (numbered 2 .right)
-    (sizes 4 0 0 0 0 0) ((0 ∷ 1 ∷ 0 ∷ 1 ∷ []) ∷ (0 ∷ 1 ∷ 1 ∷ 0 ∷ []) ∷ (1 ∷ 0 ∷ 0 ∷ 1 ∷ []) ∷ (1 ∷ 0 ∷ 1 ∷ 0 ∷ []) ∷ [])
+    (sizes 4 0 0 0 0 0) ((0 ∷ 1 ∷ 0 ∷ 1 ∷ []) ∷ (0 ∷ 1 ∷ 1 ∷ 0 ∷ []) ∷ (1 ∷ 0 ∷ 0 ∷ 1 ∷ [])
+    ∷ (1 ∷ 0 ∷ 1 ∷ 0 ∷ []) ∷ [])
 four-rows = worked-groups 2 (omega arith) (omega arith) .the-rows
 
 -- pair 10: c0 has two rows
@@ -28,17 +30,20 @@ module _ (program : Program rowsQuestion) where
   module _ {out : List ℕ} (enough : 480 ≤ length out) where
     -- It refuses everything: pair 2 has four rows.
     pub refusing-fails : RefusesEverything program → MeetsAt program (asked 2) out → ⊥
-    refusing-fails = wrong.refusing-fails program (four-rows out enough) (λ n e. let z : _≡_ {A = ℕ} 0 1 = cc e in omega arith)
+    refusing-fails = wrong.refusing-fails program (four-rows out enough)
+        (λ n e. let z : _≡_ {A = ℕ} 0 1 = cc e in omega arith)
 
     -- It has a constant result: pair 2 has four balanced rows, pair 10 has none.
     pub constant-fails : ConstantResult program → MeetsAt program (asked 2) out → MeetsAt program (asked 10) out → ⊥
     constant-fails =
-        wrong.constant-fails program (four-rows out enough) (two-rows out enough) (λ e. let z : _≡_ {A = ℕ} 4 0 = cc e in omega arith)
+        wrong.constant-fails program (four-rows out enough) (two-rows out enough)
+        (λ e. let z : _≡_ {A = ℕ} 4 0 = cc e in omega arith)
 
     -- It invents row counts: pair 10 has no balanced row and one unbalanced constant, which has two.
     pub invented-sizes-fail : (balanced constants first second third fourth : ℕ)
         → program (asked 10) out .outcome ≡ sizes balanced constants first second third fourth
-        → (sizes balanced constants first second third fourth ≡ sizes 0 1 2 0 0 0 → ⊥) → MeetsAt program (asked 10) out → ⊥
+        → (sizes balanced constants first second third fourth ≡ sizes 0 1 2 0 0 0 → ⊥)
+        → MeetsAt program (asked 10) out → ⊥
     invented-sizes-fail balanced constants first second third fourth returns others =
         wrong.other-outcome-fails program (two-rows out enough) (λ e. others (cc (e, returns)))
 

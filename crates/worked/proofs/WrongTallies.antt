@@ -45,7 +45,8 @@ module _ (program : Tally) where
   MeetsSecond = MeetsAt (counts 1 1 0 0) (Sides 2 1) (Groups 0 1 0 0 0 0) (Refused refusal.NoUnifier)
 
   -- It invents the numbers of a line: block 0 has `rows 0 4`, and `end 2` after its page.
-  pub invented-line-fails : (balanced constants lines : ℕ) (more : Bool) → first .line ≡ Listed balanced constants lines more
+  pub invented-line-fails : (balanced constants lines : ℕ) (more : Bool)
+      → first .line ≡ Listed balanced constants lines more
       → ((balanced ≡ 0) × (constants ≡ 4) × (lines ≡ 2) × (more ≡ false) → ⊥) → MeetsFirst → ⊥
   invented-line-fails balanced constants lines more says others meets =
       let same : Listed balanced constants lines more ≡ Listed 0 4 2 false = sym says ∙ meets .the-line in

@@ -1,4 +1,5 @@
--- Document 01's wrong programs, as programs for Values: at a pair worked by hand none of them meets the promise. Values never gives 15.
+-- Document 01's wrong programs, as programs for Values: at a pair worked by hand none of them meets the
+-- promise. Values never gives 15.
 use Prim.Native.Nat.{ℕ, _≤_}
 use native.Mathlib.Omega.{arith}
 use mathlib.Core.Path.{_≡_, refl, ap}
@@ -23,15 +24,19 @@ module _ (program : Program valuesQuestion) where
   module _ {out : List ℕ} (enough : 1212 ≤ length out) where
     -- It refuses everything: key 0 of pair 4 has its values.
     pub refusing-fails : RefusesEverything program → MeetsAt program (ofPair 4 0) out → ⊥
-    refusing-fails = wrong.refusing-fails program (two-values out enough) (λ n e. let z : _≡_ {A = ℕ} 0 1 = cc e in omega arith)
+    refusing-fails = wrong.refusing-fails program (two-values out enough)
+        (λ n e. let z : _≡_ {A = ℕ} 0 1 = cc e in omega arith)
 
     -- It has a constant result: the values take six bytes at pair 4, three at pair 7.
-    pub constant-fails : ConstantResult program → MeetsAt program (ofPair 4 0) out → MeetsAt program (ofPair 7 1) out → ⊥
+    pub constant-fails : ConstantResult program → MeetsAt program (ofPair 4 0) out
+        → MeetsAt program (ofPair 7 1) out → ⊥
     constant-fails =
-        wrong.constant-fails program (two-values out enough) (one-value out enough) (λ e. let z : _≡_ {A = ℕ} 6 3 = cc e in omega arith)
+        wrong.constant-fails program (two-values out enough) (one-value out enough)
+        (λ e. let z : _≡_ {A = ℕ} 6 3 = cc e in omega arith)
 
     -- It invents the length: at pair 4 it is six.
-    pub invented-length-fails : (number : ℕ) → program (ofPair 4 0) out .outcome ≡ written number → (number ≡ 6 → ⊥) → MeetsAt program (ofPair 4 0) out → ⊥
+    pub invented-length-fails : (number : ℕ) → program (ofPair 4 0) out .outcome ≡ written number
+        → (number ≡ 6 → ⊥) → MeetsAt program (ofPair 4 0) out → ⊥
     invented-length-fails number returns others =
         wrong.other-outcome-fails program (two-values out enough)
         (λ e. let same : written number ≡ written 6 = cc (e, returns) in others (cc same))

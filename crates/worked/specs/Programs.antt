@@ -1,4 +1,5 @@
--- Document 01, "What every promise has to say": the wrong programs, which must be unable to meet a question's promise.
+-- Document 01, "What every promise has to say": the wrong programs, which must be unable to meet a question's
+-- promise.
 use Prim.Native.Nat.{ℕ}
 use mathlib.Core.Path.{_≡_}
 use Rattle.ac.specs.Keys.{after}
@@ -25,7 +26,8 @@ module _ {Q : Question} (program : Program Q) where
 
   -- one with a constant result, whatever it is
   abbrev pub ConstantResult : Type 0
-  ConstantResult = (asked asked′ : Q .Asked) (lent lent′ : Q .Lent) → program asked lent .outcome ≡ program asked′ lent′ .outcome
+  ConstantResult = (asked asked′ : Q .Asked) (lent lent′ : Q .Lent)
+      → program asked lent .outcome ≡ program asked′ lent′ .outcome
 
   -- one that writes nothing, whatever it returns
   abbrev pub WritesNothing : Type 0

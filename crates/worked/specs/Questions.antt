@@ -70,7 +70,8 @@ pub record Request : Type 0 where
   pub wanted : ℕ
 
 abbrev pub pageQuestion : Question
-pageQuestion = ofSides Request page.refused (λ L R request. PagePromise unifying L R (request .begin) (request .wanted))
+pageQuestion =
+    ofSides Request page.refused (λ L R request. PagePromise unifying L R (request .begin) (request .wanted))
 
 -- Values: and a key
 abbrev pub valuesQuestion : Question

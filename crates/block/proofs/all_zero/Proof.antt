@@ -43,7 +43,8 @@ shared-slice-read-if1 c = omega arith
 returns : tie.Need-returns Inv-loop μ-loop
 returns c =
     let at-loop = c .before .before .before in
-    other-than-zero (at-loop .before .args .bytes .now) (at-loop .loop .i) (omega arith) (c .if1 .taken) ∙ at-loop .loop .inv .2
+    other-than-zero (at-loop .before .args .bytes .now) (at-loop .loop .i) (omega arith) (c .if1 .taken)
+    ∙ at-loop .loop .inv .2
 
 add-i : tie.Need-add-i Inv-loop μ-loop
 add-i c = omega arith
@@ -53,11 +54,17 @@ loop-less c = omega arith
 
 loop-again : tie.Need-loop-again Inv-loop μ-loop
 loop-again c =
-    let at-loop = c .before .before .before in
-    (omega arith, refl, another-zero (at-loop .before .args .bytes .now) (at-loop .loop .i) (omega arith) (c .if1 .left) ∙ at-loop .loop .inv .2)
+    let at-loop = c .before .before .before in (
+      omega arith,
+      refl,
+      another-zero (at-loop .before .args .bytes .now) (at-loop .loop .i) (omega arith)
+          (c .if1 .left) ∙ at-loop .loop .inv .2,
+    )
 
 returns-2 : tie.Need-returns-2 Inv-loop μ-loop
-returns-2 c = none-left (c .before .before .args .bytes .now) (c .before .loop .i) (omega arith) ∙ c .before .loop .inv .2
+returns-2 c =
+    none-left (c .before .before .args .bytes .now) (c .before .loop .i) (omega arith) ∙ c .before .loop .inv .2
 
 pub all-zero-spec : {M : Type 1} → statement M
-all-zero-spec = tie.close (tie.spec Inv-loop μ-loop loop-holds shared-slice-read-if1 returns add-i loop-less loop-again returns-2)
+all-zero-spec = tie.close (tie.spec Inv-loop μ-loop loop-holds shared-slice-read-if1 returns add-i loop-less
+    loop-again returns-2)

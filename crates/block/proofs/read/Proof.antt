@@ -14,7 +14,8 @@ returns c = short-buffer-first (omega (arith, c .before .lesser .ensures, c .if1
 returns-2 : tie.Need-returns-2
 returns-2 c =
     let room = c .before .before .lesser .ensures in
-    promised-refusal (omega (arith, room, c .before .if1 .left)) (omega (arith, room, c .before .if1 .left)) (block-length-first (c .if2 .taken))
+    promised-refusal (omega (arith, room, c .before .if1 .left)) (omega (arith, room, c .before .if1 .left))
+    (block-length-first (c .if2 .taken))
 
 slice-aggregate-read-block : tie.Need-slice-aggregate-read-block
 slice-aggregate-read-block c = search needs

@@ -28,7 +28,8 @@ entry c = c .before .before .before .before .before .before .before .before .bef
 
 lengths :
     (c : tie.After-known-told2) →
-    HeaderLengths (entry c .args .block .now) (entry c .args .number) (c .before .header2 .given .0 .0) (c .before .header2 .given .0 .1 .0)
+    HeaderLengths (entry c .args .block .now) (entry c .args .number) (c .before .header2 .given .0 .0)
+    (c .before .header2 .given .0 .1 .0)
 lengths c = when-lengths (c .before .before .before .read-header .ensures) (c .before .header2 .given .1)
 
 left-term :
@@ -39,7 +40,8 @@ left-term :
     (take (4 + left - 4) (drop 4 (entry at-lengths .args .block .now)))
     (c .before .left-side .given .0 .0)
     (c .before .before .before .before .before .take-apart .last .1 .0)
-left-term c = when-atoms (c .before .before .before .before .before .take-apart .ensures) (c .before .left-side .given .1)
+left-term c =
+    when-atoms (c .before .before .before .before .before .take-apart .ensures) (c .before .left-side .given .1)
 
 right-term :
     (c : tie.After-known-told4) →
@@ -50,14 +52,16 @@ right-term :
     (take (4 + left + right - (4 + left)) (drop (4 + left) (entry at-lengths .args .block .now)))
     (c .before .right-side .given .0 .0)
     (c .before .before .before .before .before .take-apart2 .last .1 .0)
-right-term c = when-atoms (c .before .before .before .before .before .take-apart2 .ensures) (c .before .right-side .given .1)
+right-term c = when-atoms (c .before .before .before .before .before .take-apart2 .ensures)
+    (c .before .right-side .given .1)
 
 -- a refusal after the header
 refused :
     (c : tie.After-known-told2) {why : Refusal} →
     let a = entry c .args in
     Refuses (a .block .now) (a .number) why →
-    ReadPromise (a .block .now) (a .number) (a .left .now) (a .right .now) (outcome.refused (numberOf why)) (a .left .now) (a .right .now)
+    ReadPromise (a .block .now) (a .number) (a .left .now) (a .right .now) (outcome.refused (numberOf why))
+    (a .left .now) (a .right .now)
 refused c = promised-refusal (entry c .pre .1 .1 .0) (entry c .pre .1 .1 .1)
 
 read-header-requires : tie.Need-read-header-requires
@@ -85,7 +89,8 @@ part-take-apart-end : tie.Need-part-take-apart-end
 part-take-apart-end c = omega (arith, terms-fit (lengths c))
 
 take-apart-requires : tie.Need-take-apart-requires
-take-apart-requires c κs = omega (arith, left-short (lengths (c .before .before)), entry (c .before .before) .pre .1 .0)
+take-apart-requires c κs =
+    omega (arith, left-short (lengths (c .before .before)), entry (c .before .before) .pre .1 .0)
 
 enum-known-left-side : tie.Need-enum-known-left-side
 enum-known-left-side c = search needs
@@ -157,22 +162,29 @@ returns-3 c =
     let at-right = c .before .before .before in
     let at-left = left-known at-right in
     let at-lengths = lengths-known at-left in
-    refused at-lengths (filler-wrong (lengths at-lengths) (left-term at-left) (right-term at-right) (c .before .all-zero .ensures) (c .if1 .taken))
+    refused at-lengths (filler-wrong (lengths at-lengths) (left-term at-left) (right-term at-right)
+    (c .before .all-zero .ensures) (c .if1 .taken))
 
 slice-reshare-prefix-copy : tie.Need-slice-reshare-prefix-copy
 slice-reshare-prefix-copy c = omega (arith, count-within (left-term (left-known (c .before .before .before))))
 
 slice-aggregate-copy : tie.Need-slice-aggregate-copy
-slice-aggregate-copy c = simp length-take (omega (arith, count-within (left-term (left-known (c .before .before .before .before)))))
+slice-aggregate-copy c =
+    simp length-take (omega (arith, count-within (left-term (left-known (c .before .before .before .before)))))
 
 copy-requires : tie.Need-copy-requires
 copy-requires c κs =
     let at-left = left-known (c .before .before .before .before .before) in
     let at-lengths = lengths-known at-left in
-    simp length-take (omega (arith, count-fits (left-term at-left) (left-short (lengths at-lengths)), entry at-lengths .pre .1 .1))
+    simp length-take (omega (
+      arith,
+      count-fits (left-term at-left) (left-short (lengths at-lengths)),
+      entry at-lengths .pre .1 .1,
+    ))
 
 slice-reshare-prefix-copy-2 : tie.Need-slice-reshare-prefix-copy-2
-slice-reshare-prefix-copy-2 c = omega (arith, count-within (right-term (c .before .before .before .before .before .before .before .before)))
+slice-reshare-prefix-copy-2 c =
+    omega (arith, count-within (right-term (c .before .before .before .before .before .before .before .before)))
 
 slice-aggregate-copy-2 : tie.Need-slice-aggregate-copy-2
 slice-aggregate-copy-2 c =
@@ -183,7 +195,11 @@ copy-requires-2 : tie.Need-copy-requires-2
 copy-requires-2 c κs =
     let at-right = c .before .before .before .before .before .before .before .before .before .before in
     let at-lengths = lengths-known (left-known at-right) in
-    simp length-take (omega (arith, count-fits (right-term at-right) (right-short (lengths at-lengths)), entry at-lengths .pre .1 .1))
+    simp length-take (omega (
+      arith,
+      count-fits (right-term at-right) (right-short (lengths at-lengths)),
+      entry at-lengths .pre .1 .1,
+    ))
 
 returns-4 : tie.Need-returns-4
 returns-4 c =
@@ -214,7 +230,8 @@ returns-5 c =
     (entry at-lengths .pre .1 .1 .1)
     (at-copies .before .all-zero .ensures)
     (at-copies .if1 .left)
-    (c .before .before .before .before .before .before .before .copy .ensures .1 ∙ copied (left-term at-left) (entry at-lengths .args .left .now))
+    (c .before .before .before .before .before .before .before .copy .ensures .1
+    ∙ copied (left-term at-left) (entry at-lengths .args .left .now))
     (c .before .before .copy2 .ensures .1 ∙ copied (right-term at-right) (entry at-lengths .args .right .now))
 
 pub read-block-spec : {M : Type 1} → statement M

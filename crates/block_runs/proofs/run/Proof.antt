@@ -85,12 +85,14 @@ slice-aggregate-put-answer c = search needs
 slice-aggregate-put-answer-2 : tie.Need-slice-aggregate-put-answer-2
 slice-aggregate-put-answer-2 c =
     let at-read = c .before .before .before .before .before .before .before .before in
-    sym (length-front (replicate 256 200) (at-read .read .last .1 .1 .0) (at-read .before .before .before .before .before .before .wide .result) (at-read .read .kept .1 .1 .0))
+    sym (length-front (replicate 256 200) (at-read .read .last .1 .1 .0)
+    (at-read .before .before .before .before .before .before .wide .result) (at-read .read .kept .1 .1 .0))
 
 slice-aggregate-put-answer-3 : tie.Need-slice-aggregate-put-answer-3
 slice-aggregate-put-answer-3 c =
     let at-read = c .before .before .before .before .before .before .before .before .before in
-    sym (length-front (replicate 256 200) (at-read .read .last .1 .1 .1 .0) (at-read .before .before .before .before .wide2 .result) (at-read .read .kept .1 .1 .1 .0))
+    sym (length-front (replicate 256 200) (at-read .read .last .1 .1 .1 .0)
+    (at-read .before .before .before .before .wide2 .result) (at-read .read .kept .1 .1 .1 .0))
 
 put-answer-requires : tie.Need-put-answer-requires
 put-answer-requires c κs = search needs

@@ -17,7 +17,8 @@ shl-result : tie.Need-shl-result
 shl-result c = search needs
 
 returns : tie.Need-returns
-returns c = mod-eq-of-lt (omega (arith, block-end-within (c .args .key) (c .args .bits) (c .fits .key .fits) (c .pre)))
+returns c =
+    mod-eq-of-lt (omega (arith, block-end-within (c .args .key) (c .args .bits) (c .fits .key .fits) (c .pre)))
 
 pub block-end-spec : {M : Type 1} → statement M
 block-end-spec = tie.close (tie.spec shr-result add-result shl-result returns)

@@ -1,4 +1,5 @@
--- `keys::find_key` meets its contract: the least listed key from it on is the key itself, another, or none; then the first one decides.
+-- `keys::find_key` meets its contract: the least listed key from it on is the key itself, another, or none;
+-- then the first one decides.
 use borrow.Author.Needs.{needs}
 use Rattle.keys.proofs.Table.{table-ascending}
 use Rattle.keys.proofs.Walk.{next-key, next-none}
@@ -27,12 +28,14 @@ enum-told-3 c = search needs
 returns : tie.Need-returns
 returns c = λ M L R full of.
     let told = c .before .before in
-    found-itself (next-key (told .before .before .least-listed .ensures M L R full of) (told .least .given .1)) (c .if1 .taken)
+    found-itself (next-key (told .before .before .least-listed .ensures M L R full of)
+    (told .least .given .1)) (c .if1 .taken)
 
 returns-2 : tie.Need-returns-2
 returns-2 c = λ M L R full of.
     let told = c .before .before in
-    found-other (next-key (told .before .before .least-listed .ensures M L R full of) (told .least .given .1)) (c .if1 .left)
+    found-other (next-key (told .before .before .least-listed .ensures M L R full of) (told .least .given .1))
+    (c .if1 .left)
 
 returns-3 : tie.Need-returns-3
 returns-3 c = λ M L R full of.
@@ -42,7 +45,8 @@ returns-3 c = λ M L R full of.
 
 returns-4 : tie.Need-returns-4
 returns-4 c = λ M L R full of.
-    found-nothing (table-ascending of) (next-none (c .before .before .least-listed2 .ensures M L R full of) (c .enum-told3 .given .1))
+    found-nothing (table-ascending of) (next-none (c .before .before .least-listed2 .ensures M L R full of)
+    (c .enum-told3 .given .1))
 
 pub find-key-spec : {M : Type 1} → statement M
 find-key-spec =

@@ -1,5 +1,5 @@
--- `keys::least_listed` meets its contract. The invariant: no listed key stands from `from` to before the number that the walk has come to.
--- The measure is what is left of the keys.
+-- `keys::least_listed` meets its contract. The invariant: no listed key stands from `from` to before the
+-- number that the walk has come to. The measure is what is left of the keys.
 use Prim.Native.Nat.{_-_, _^_}
 use native.Mathlib.Omega.{arith}
 use native.Mathlib.Nat.{le-refl}
@@ -37,7 +37,8 @@ loop-less c =
     let turn = stood .before .before .before in
     omega (
       arith,
-      step-between (turn .before .before .pre) (turn .before .loop .inv) (stood .stands .ensures) (c .before .standing .given .1) .0,
+      step-between (turn .before .before .pre) (turn .before .loop .inv) (stood .stands .ensures)
+          (c .before .standing .given .1) .0,
       turn .loop-test .taken,
     )
 
@@ -45,7 +46,8 @@ loop-again : tie.Need-loop-again Inv-loop μ-loop
 loop-again c =
     let stood = c .before .before .before in
     let turn = stood .before .before .before in
-    step-between (turn .before .before .pre) (turn .before .loop .inv) (stood .stands .ensures) (c .before .standing .given .1) .1
+    step-between (turn .before .before .pre) (turn .before .loop .inv) (stood .stands .ensures)
+    (c .before .standing .given .1) .1
 
 enum-told : tie.Need-enum-told Inv-loop μ-loop
 enum-told c = search needs
@@ -58,8 +60,11 @@ shr-least-of-tuple c = search needs
 
 least-of-tuple-requires : tie.Need-least-of-tuple-requires Inv-loop μ-loop
 least-of-tuple-requires c κs =
-    let turn = c .before .before .before .before .before in
-    (c .before .before .before .before .before .before .before .pre, omega (arith, turn .loop-test .taken), mask-lt (turn .before .loop .at) 16)
+    let turn = c .before .before .before .before .before in (
+      c .before .before .before .before .before .before .before .pre,
+      omega (arith, turn .loop-test .taken),
+      mask-lt (turn .before .loop .at) 16,
+    )
 
 enum-known-least : tie.Need-enum-known-least Inv-loop μ-loop
 enum-known-least c = search needs
@@ -69,8 +74,10 @@ returns c =
     let candidate = c .before .before .before .before in
     let stood = candidate .before .before in
     let turn = stood .before .before .before in
-    step-found (turn .before .before .pre) (turn .before .loop .inv) (stood .stands .ensures) (candidate .enum-told .given .1) refl
-    (and-mask (turn .before .loop .at) 16) (c .before .before .before .least-of-tuple .ensures) (c .before .least .given .1)
+    step-found (turn .before .before .pre) (turn .before .loop .inv) (stood .stands .ensures)
+    (candidate .enum-told .given .1) refl
+    (and-mask (turn .before .loop .at) 16) (c .before .before .before .least-of-tuple .ensures)
+    (c .before .least .given .1)
 
 enum-told-2 : tie.Need-enum-told-2 Inv-loop μ-loop
 enum-told-2 c = search needs
@@ -89,8 +96,10 @@ loop-again-2 c =
     let stood = candidate .before .before in
     let turn = stood .before .before .before in
     subst (Walked _ _) (sym (c .block-end .ensures))
-    (step-over (turn .before .before .pre) (turn .before .loop .inv) (stood .stands .ensures) (candidate .enum-told .given .1) refl
-    (and-mask (turn .before .loop .at) 16) (c .before .before .before .least-of-tuple .ensures) (c .before .enum-told2 .given .1))
+    (step-over (turn .before .before .pre) (turn .before .loop .inv) (stood .stands .ensures)
+    (candidate .enum-told .given .1) refl
+    (and-mask (turn .before .loop .at) 16) (c .before .before .before .least-of-tuple .ensures)
+    (c .before .enum-told2 .given .1))
 
 returns-2 : tie.Need-returns-2 Inv-loop μ-loop
 returns-2 c = step-end (c .before .loop .inv) (c .loop-test .left)

@@ -11,7 +11,8 @@ use Rattle.keys.proofs.reached.Statement.{statement}
 use Rattle.keys.proofs.reached.Tie as tie
 
 abbrev Inv-loop : tie.InvT-loop
-Inv-loop rows selection place runs run₀ run = (run ≤ runs) × (any run (λ j. ltb 0 (timesAt rows selection place j)) ≡ false)
+Inv-loop rows selection place runs run₀ run =
+    (run ≤ runs) × (any run (λ j. ltb 0 (timesAt rows selection place j)) ≡ false)
 
 abbrev μ-loop : tie.MeasureT-loop
 μ-loop rows selection place runs run₀ run = runs - run
@@ -29,7 +30,8 @@ returns : tie.Need-returns Inv-loop μ-loop
 returns c =
     let a = c .before .before .before .before .before .args in
     sym
-    (any-above (timesAt (a .rows .now) (a .selection) (a .place)) (runCount (a .selection)) (omega arith) (c .before .times .ensures .0)
+    (any-above (timesAt (a .rows .now) (a .selection) (a .place)) (runCount (a .selection)) (omega arith)
+    (c .before .times .ensures .0)
     (c .if1 .taken))
 
 add-run : tie.Need-add-run Inv-loop μ-loop
@@ -41,14 +43,18 @@ loop-less c = omega arith
 loop-again : tie.Need-loop-again Inv-loop μ-loop
 loop-again c =
     let a = c .before .before .before .before .before .args in
-    let none = c .before .before .before .loop .inv .1 in
-    (omega arith, none-above (timesAt (a .rows .now) (a .selection) (a .place)) none (c .before .times .ensures .0) (c .if1 .left))
+    let none = c .before .before .before .loop .inv .1 in (
+      omega arith,
+      none-above (timesAt (a .rows .now) (a .selection) (a .place)) none
+          (c .before .times .ensures .0) (c .if1 .left),
+    )
 
 returns-2 : tie.Need-returns-2 Inv-loop μ-loop
 returns-2 c =
     let a = c .before .before .before .args in
     let end : c .before .loop .run ≡ runCount (a .selection) = omega arith in
-    sym (subst (λ (n : ℕ). any n (λ j. ltb 0 (timesAt (a .rows .now) (a .selection) (a .place) j)) ≡ false) end (c .before .loop .inv .1))
+    sym (subst (λ (n : ℕ). any n (λ j. ltb 0 (timesAt (a .rows .now) (a .selection) (a .place) j)) ≡ false)
+    end (c .before .loop .inv .1))
 
 pub reached-spec : {M : Type 1} → statement M
 reached-spec =

@@ -12,7 +12,8 @@ use Rattle.keys.proofs.stands.Statement.{statement}
 use Rattle.keys.proofs.stands.Tie as tie
 
 abbrev Inv-loop : tie.InvT-loop
-Inv-loop sizes unbalanced key g₀ g = (g ≤ 4) × ((h : ℕ) → h < g → fieldAt layout key h < fieldLimit sizes unbalanced h)
+Inv-loop sizes unbalanced key g₀ g =
+    (g ≤ 4) × ((h : ℕ) → h < g → fieldAt layout key h < fieldLimit sizes unbalanced h)
 
 abbrev μ-loop : tie.MeasureT-loop
 μ-loop sizes unbalanced key g₀ g = 4 - g
@@ -78,7 +79,8 @@ returns-3 c = λ G sized fits.
     let at = c .before .before .before .before .args in
     on-candidate
     (limits-candidate sized fits (λ g h. c .before .before .before .loop .inv .1 g (omega arith))
-    (nothing-beyond (at .key) 16 (getD (at .sizes .now) 0 0) (c .if2 .left)) (c .before .before .before .before .fits .key .fits))
+    (nothing-beyond (at .key) 16 (getD (at .sizes .now) 0 0) (c .if2 .left))
+    (c .before .before .before .before .fits .key .fits))
 
 pub stands-spec : {M : Type 1} → statement M
 stands-spec =

@@ -1,4 +1,5 @@
--- `keys::times` meets its contract: the entry of a constant's taken row, or of a balanced row where its bit is set and 0 elsewhere.
+-- `keys::times` meets its contract: the entry of a constant's taken row, or of a balanced row where its bit
+-- is set and 0 elsewhere.
 use Prim.Native.Nat.{ℕ, _+_, _-_, _*_}
 use native.Mathlib.Omega.{arith}
 use mathlib.Core.Path.{ap, sym, _∙_}
@@ -37,7 +38,8 @@ returns : tie.Need-returns
 returns c =
     let a = c .before .before .before .before .before .args in (
       c .wide .ensures .0
-          ∙ ap (λ (i : ℕ). getD (a .rows .now) (96 * (a .run + 1) + 6 * i + a .place) 0) (c .before .before .index-at .ensures)
+          ∙ ap (λ (i : ℕ). getD (a .rows .now) (96 * (a .run + 1) + 6 * i + a .place) 0)
+          (c .before .before .index-at .ensures)
           ∙ sym (times-constant (a .rows .now) (a .selection) (a .place) (c .before .before .before .if1 .taken)),
       c .wide .ensures .1,
     )
@@ -63,7 +65,8 @@ returns-2 c =
       c .wide2 .ensures .0
           ∙ ap (λ (b : Bool). cond b (getD (a .rows .now) (6 * (a .run - a .selection .unbalanced) + a .place) 0) 0)
           (sym (c .before .before .if2 .taken) ∙ c .before .before .before .takes .ensures)
-          ∙ sym (times-balanced (a .rows .now) (a .selection) (a .place) (c .before .before .before .before .before .if1 .left)),
+          ∙ sym (times-balanced (a .rows .now) (a .selection) (a .place)
+          (c .before .before .before .before .before .if1 .left)),
       c .wide2 .ensures .1,
     )
 

@@ -28,7 +28,8 @@ returns c = λ G holds fits candidate.
     let at = c .before .before .before .before .args in
     sym
     (places-reached holds fits candidate (at .places) (le-refl (at .places))
-    ∙ all-missed (at .places) (c .before .before .before .loop .place) (reaches (at .rows .now) (at .selection)) (omega arith)
+    ∙ all-missed (at .places) (c .before .before .before .loop .place)
+    (reaches (at .rows .now) (at .selection)) (omega arith)
     (sym (c .before .reached .ensures) ∙ not-true _ (c .if1 .taken)))
 
 add-place : tie.Need-add-place Inv-loop μ-loop
@@ -41,7 +42,8 @@ loop-again : tie.Need-loop-again Inv-loop μ-loop
 loop-again c =
     let at = c .before .before .before .before .args in (
       omega arith,
-      all-more (c .before .before .before .loop .place) (reaches (at .rows .now) (at .selection)) (c .before .before .before .loop .inv .1)
+      all-more (c .before .before .before .loop .place) (reaches (at .rows .now) (at .selection))
+          (c .before .before .before .loop .inv .1)
           (sym (c .before .reached .ensures) ∙ not-false _ (c .if1 .left)),
     )
 

@@ -1,4 +1,5 @@
--- `library::hand_on` meets its contract: nothing waits, no block may be read, or a block is the next part. Assumes nothing.
+-- `library::hand_on` meets its contract: nothing waits, no block may be read, or a block is the next part.
+-- Assumes nothing.
 use Prim.Native.Nat.{_<_}
 use Prim.Native.Nat.{_+_, _-_, min}
 use mathlib.Core.Path.{_≡_}

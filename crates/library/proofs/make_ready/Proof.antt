@@ -1,4 +1,5 @@
--- `library::make_ready` meets its contract: enough waits, or the bytes that wait are moved and more is read. Assumes nothing.
+-- `library::make_ready` meets its contract: enough waits, or the bytes that wait are moved and more is read.
+-- Assumes nothing.
 use mathlib.Core.Logic.{inl, inr}
 use Rattle.library.specs.Inner.{Readies}
 use Rattle.library.proofs.Growing.{fills-enough, fills-ended}
@@ -41,7 +42,8 @@ returns-3 c =
     let entry = at-move-down .before .before .before .before .before .before in
     let enough = fills-enough (at-read-until .read-until .ensures) (c .before .filled .given .1) in
     let m = at-move-down .move-down in
-    ready-enough (entry .args .buffer .now) (m .last .0) (at-read-until .read-until .last .1 .0) (entry .args .reader)
+    ready-enough (entry .args .buffer .now) (m .last .0) (at-read-until .read-until .last .1 .0)
+    (entry .args .reader)
     (c .before .filled .given .0 .0) (entry .pre .0) (m .kept .0)
     (m .ensures .1) (enough .grown) (enough .enough)
 
@@ -54,7 +56,8 @@ returns-4 c =
     let at-move-down = at-read-until .before .before .before .before in
     let entry = at-move-down .before .before .before .before .before .before in
     let m = at-move-down .move-down in
-    ready-ended (entry .args .buffer .now) (m .last .0) (at-read-until .read-until .last .1 .0) (entry .args .reader)
+    ready-ended (entry .args .buffer .now) (m .last .0) (at-read-until .read-until .last .1 .0)
+    (entry .args .reader)
     (c .before .filled2 .given .0 .0) (entry .pre .0) (m .kept .0)
     (m .ensures .1) (fills-ended (at-read-until .read-until .ensures) (c .before .filled2 .given .1))
 

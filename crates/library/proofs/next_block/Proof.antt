@@ -1,4 +1,5 @@
--- `library::next_block` meets its contract: what is handed on of the bytes that wait is what comes next. Assumes nothing.
+-- `library::next_block` meets its contract: what is handed on of the bytes that wait is what comes next.
+-- Assumes nothing.
 use Rattle.library.specs.Reading.{HandsOn}
 use Rattle.library.proofs.Waiting.{ready-waits}
 use Rattle.library.proofs.Readings.{hands-on}

@@ -1,4 +1,5 @@
--- `library::read_once` meets its contract: what stands before the part that was lent stays as it is. Assumes nothing.
+-- `library::read_once` meets its contract: what stands before the part that was lent stays as it is. Assumes
+-- nothing.
 use mir.Syntax.{w64}
 use mir.Val.{toZ, ofZ}
 use Rattle.library.proofs.Came.{read-came}
@@ -38,7 +39,8 @@ returns c =
     let at-before = c .before .before .before .before in
     let at-read = at-before .before in
     let entry = at-read .before .before .before in
-    read-came (entry .args .buffer .now) (at-read .read .last .1 .0) (entry .args .filled) (entry .pre) (search needs)
+    read-came (entry .args .buffer .now) (at-read .read .last .1 .0) (entry .args .filled) (entry .pre)
+    (search needs)
     (toZ w64 (ofZ w64 (at-read .read .result))) (c .what-came .ensures)
 
 pub read-once-spec : {M : Type 1} → statement M

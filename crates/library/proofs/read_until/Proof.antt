@@ -1,4 +1,5 @@
--- `library::read_until` meets its contract: the bytes that waited stand at the start, and more behind them. Assumes nothing.
+-- `library::read_until` meets its contract: the bytes that waited stand at the start, and more behind them.
+-- Assumes nothing.
 use mathlib.Core.Path.{_∙_}
 use Prim.Native.Nat.{_-_}
 use native.Mathlib.Omega.{arith}

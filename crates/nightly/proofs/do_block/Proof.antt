@@ -1,4 +1,5 @@
--- `nightly::do_block` meets its contract: what was asked is ready to be printed, and the counts are the tally's. Assumes nothing.
+-- `nightly::do_block` meets its contract: what was asked is ready to be printed, and the counts are the
+-- tally's. Assumes nothing.
 use Rattle.nightly.proofs.Sides.{numbered}
 use native.Mathlib.Omega.{arith}
 use Rattle.nightly.proofs.Sides.{asked-ready}
@@ -22,7 +23,14 @@ slice-aggregate-print-block : tie.Need-slice-aggregate-print-block
 slice-aggregate-print-block c = search needs
 
 print-block-requires : tie.Need-print-block-requires
-print-block-requires c κs = (asked-ready (c .before .before .before .before .before .before .ask .ensures .pair) (omega (arith, c .before .before .before .before .before .before .ask .kept .1 .1 .0)), (c .before .before .before .before .before .before .before .before .before .before .before .pre .0, c .before .before .before .before .before .before .before .before .before .before .before .pre .1))
+print-block-requires c κs = (
+  asked-ready (c .before .before .before .before .before .before .ask .ensures .pair)
+      (omega (arith, c .before .before .before .before .before .before .ask .kept .1 .1 .0)),
+  (
+    c .before .before .before .before .before .before .before .before .before .before .before .pre .0,
+    c .before .before .before .before .before .before .before .before .before .before .before .pre .1,
+  ),
+)
 
 same-length : tie.Need-same-length
 same-length c = search needs
@@ -33,7 +41,9 @@ returns c = (
   record {
     asked = c .before .before .before .before .before .before .before .before .before .ask .result;
     keys-after = c .before .before .before .before .before .before .before .before .before .ask .last .1 .1 .0;
-    the-questions = numbered (c .before .before .before .before .before .before .before .before .before .before .before .expected-number .ensures) (c .before .before .before .before .before .before .before .before .before .ask .ensures);
+    the-questions = numbered (c .before .before .before .before .before .before .before .before .before
+        .before .before .expected-number .ensures)
+        (c .before .before .before .before .before .before .before .before .before .ask .ensures);
     the-counts = c .before .before .before .before .before .before .tally .ensures .the-counts;
   },
 )

@@ -7,7 +7,8 @@ use Rattle.probe.proofs.answer_all.Statement.{statement}
 use Rattle.probe.proofs.answer_all.Tie as tie
 
 abbrev Inv-loop : tie.InvT-loop
-Inv-loop answers₀ used₀ counter₀ answers used counter = (counter ≤ 1000000000000) × (length answers ≡ length answers₀)
+Inv-loop answers₀ used₀ counter₀ answers used counter =
+    (counter ≤ 1000000000000) × (length answers ≡ length answers₀)
 
 abbrev μ-loop : tie.MeasureT-loop
 μ-loop answers₀ used₀ counter₀ answers used counter = 1000000000000 - counter

@@ -1,4 +1,5 @@
--- `probe::read_bytes` meets its contract: the part that is read into lies within the buffer, which keeps its length. Assumes nothing.
+-- `probe::read_bytes` meets its contract: the part that is read into lies within the buffer, which keeps its
+-- length. Assumes nothing.
 use mathlib.Core.Path.{sym, _∙_}
 use native.Mathlib.Omega.{arith}
 use lib.ListN.{length-take}
@@ -25,7 +26,9 @@ read-full-requires c κs = search needs
 returns : tie.Need-returns
 returns c =
     let at-buffer = c .before .before .before .before in
-    at-buffer .buffer .ensures ∙ sym (length-front (at-buffer .buffer .result) (c .before .read-full .last .1 .0) (c .before .before .before .least .result) (c .before .read-full .kept .1 .0))
+    at-buffer .buffer .ensures ∙ sym (length-front (at-buffer .buffer .result)
+    (c .before .read-full .last .1 .0) (c .before .before .before .least .result)
+    (c .before .read-full .kept .1 .0))
 
 pub read-bytes-spec : {M : Type 1} → statement M
 read-bytes-spec =

@@ -17,7 +17,8 @@ array-share-prefix-right : tie.Need-array-share-prefix-right
 array-share-prefix-right c = search needs
 
 slice-aggregate-search-2 : tie.Need-slice-aggregate-search-2
-slice-aggregate-search-2 c = sym (length-take-le (c .before .before .args .places) (c .before .before .args .t2) (search needs))
+slice-aggregate-search-2 c =
+    sym (length-take-le (c .before .before .args .places) (c .before .before .args .t2) (search needs))
 
 slice-aggregate-search-3 : tie.Need-slice-aggregate-search-3
 slice-aggregate-search-3 c = search needs
@@ -25,9 +26,16 @@ slice-aggregate-search-3 c = search needs
 search-requires : tie.Need-search-requires
 search-requires c κs =
     let entry = c .before .before .before in
-    let lefts : length (take (entry .args .places) (entry .args .t1)) ≡ entry .args .places = length-take-le (entry .args .places) (entry .args .t1) (search needs) in
-    let rights : length (take (entry .args .places) (entry .args .t2)) ≡ entry .args .places = length-take-le (entry .args .places) (entry .args .t2) (search needs) in
-    record { rights = rights ∙ sym lefts; few-places = omega (arith, lefts, entry .pre); bytes-room = omega (arith, lefts, entry .pre); limited = omega arith }
+    let lefts : length (take (entry .args .places) (entry .args .t1)) ≡ entry .args .places =
+    length-take-le (entry .args .places) (entry .args .t1) (search needs) in
+    let rights : length (take (entry .args .places) (entry .args .t2)) ≡ entry .args .places =
+    length-take-le (entry .args .places) (entry .args .t2) (search needs) in
+    record {
+      rights = rights ∙ sym lefts;
+      few-places = omega (arith, lefts, entry .pre);
+      bytes-room = omega (arith, lefts, entry .pre);
+      limited = omega arith;
+    }
 
 returns : tie.Need-returns
 returns c = search needs

@@ -1,4 +1,5 @@
--- `runs::put` meets its contract. The loop's invariant: the text ends within the buffer, which keeps its length. Assumes nothing.
+-- `runs::put` meets its contract. The loop's invariant: the text ends within the buffer, which keeps its
+-- length. Assumes nothing.
 use Prim.Native.Nat.{_≤_, _-_}
 use mathlib.Core.Path.{_≡_}
 use native.Mathlib.Omega.{arith}
@@ -7,7 +8,8 @@ use Rattle.runs.proofs.put.Statement.{statement}
 use Rattle.runs.proofs.put.Tie as tie
 
 abbrev Inv-loop : tie.InvT-loop
-Inv-loop out₀ at bytes end₀ i₀ i-end out end i = (length out ≡ length out₀) × (end ≤ length out) × (i ≤ i-end) × (i-end ≡ length bytes)
+Inv-loop out₀ at bytes end₀ i₀ i-end out end i =
+    (length out ≡ length out₀) × (end ≤ length out) × (i ≤ i-end) × (i-end ≡ length bytes)
 
 abbrev μ-loop : tie.MeasureT-loop
 μ-loop out₀ at bytes end₀ i₀ i-end out end i = i-end - i

@@ -43,7 +43,8 @@ refused-requires : tie.Need-refused-requires
 refused-requires c κs = search needs
 
 returns : tie.Need-returns
-returns c M L R counted = parted-refused (c .refused .ensures) (here (nine (c .before .before) M L R counted .if-true (c .before .if1 .taken)))
+returns c M L R counted = parted-refused (c .refused .ensures)
+    (here (nine (c .before .before) M L R counted .if-true (c .before .if1 .taken)))
 
 refused-requires-2 : tie.Need-refused-requires-2
 refused-requires-2 c κs = search needs
@@ -52,7 +53,8 @@ returns-2 : tie.Need-returns-2
 returns-2 c M L R counted =
     let made = c .before .before .before in
     parted-refused (c .refused2 .ensures)
-    (later (nine made M L R counted .if-false (c .before .before .if1 .left)) (here (ten made M L R counted .if-true (c .before .if2 .taken))))
+    (later (nine made M L R counted .if-false (c .before .before .if1 .left))
+    (here (ten made M L R counted .if-true (c .before .if2 .taken))))
 
 refused-requires-3 : tie.Need-refused-requires-3
 refused-requires-3 c κs = search needs

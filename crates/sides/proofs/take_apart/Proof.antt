@@ -21,10 +21,12 @@ abbrev R : tie.After-wrong-byte2 → List ℕ
 R c = now (c .before .before .before .before .before .before .args .right)
 
 seven : (c : tie.After-wrong-byte2)
-    → Tells (PairGiven limits unifying (L c) (R c) 7) (c .before .before .before .wrong-length .result || c .before .before .wrong-length2 .result)
+    → Tells (PairGiven limits unifying (L c) (R c) 7)
+    (c .before .before .before .wrong-length .result || c .before .before .wrong-length2 .result)
 seven c = tells-7 (c .before .before .before .wrong-length .ensures) (c .before .before .wrong-length2 .ensures)
 
-eight : (c : tie.After-wrong-byte2) → Tells (PairGiven limits unifying (L c) (R c) 8) (c .before .wrong-byte .result || c .wrong-byte2 .result)
+eight : (c : tie.After-wrong-byte2)
+    → Tells (PairGiven limits unifying (L c) (R c) 8) (c .before .wrong-byte .result || c .wrong-byte2 .result)
 eight c = tells-8 (c .before .wrong-byte .ensures) (c .wrong-byte2 .ensures)
 
 -- where neither is set
@@ -59,16 +61,21 @@ returns-2 : tie.Need-returns-2
 returns-2 c =
     let made = c .before .before .before in
     parted-refused (c .refused2 .ensures)
-    (later (seven made .if-false (c .before .before .if1 .left)) (here (eight made .if-true (c .before .if2 .taken))))
+    (later (seven made .if-false (c .before .before .if1 .left))
+    (here (eight made .if-true (c .before .if2 .taken))))
 
 moving-variables-requires : tie.Need-moving-variables-requires
 moving-variables-requires c κs = tt
 
 occurrences-requires : tie.Need-occurrences-requires
-occurrences-requires c κs = (λ wrong. not7 (c .before) (side-length left wrong), λ wrong. not8 (c .before) (no-atom left wrong))
+occurrences-requires c κs =
+    (λ wrong. not7 (c .before) (side-length left wrong), λ wrong. not8 (c .before) (no-atom left wrong))
 
 occurrences-requires-2 : tie.Need-occurrences-requires-2
-occurrences-requires-2 c κs = (λ wrong. not7 (c .before .before) (side-length right wrong), λ wrong. not8 (c .before .before) (no-atom right wrong))
+occurrences-requires-2 c κs = (
+  λ wrong. not7 (c .before .before) (side-length right wrong),
+  λ wrong. not8 (c .before .before) (no-atom right wrong),
+)
 
 part-requires : tie.Need-part-requires
 part-requires c κs = tt

@@ -8,7 +8,8 @@ use lib.ListN.{length, getD, take}
 use Rattle.solve.proofs.first_four.Statement.{statement}
 use Rattle.solve.proofs.first_four.Tie as tie
 
-one-by-one : (atoms : List ℕ) → length atoms ≡ 6 → (getD atoms 0 0 ∷ getD atoms 1 0 ∷ getD atoms 2 0 ∷ getD atoms 3 0 ∷ []) ≡ take 4 atoms
+one-by-one : (atoms : List ℕ) → length atoms ≡ 6
+    → (getD atoms 0 0 ∷ getD atoms 1 0 ∷ getD atoms 2 0 ∷ getD atoms 3 0 ∷ []) ≡ take 4 atoms
 one-by-one (a ∷ b ∷ c ∷ d ∷ atoms) six = refl
 one-by-one [] six = absurd (omega arith)
 one-by-one (a ∷ []) six = absurd (omega arith)

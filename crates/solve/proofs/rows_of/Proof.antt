@@ -28,7 +28,8 @@ same-length c = search needs
 returns : tie.Need-returns
 returns c M L R of none =
     let at-put = c .before .before .before .before .before .before .before in
-    rows-answered (at-put .before .before .before .pre .1) of none (at-put .put-groups .ensures .0) (at-put .put-groups .ensures .1)
+    rows-answered (at-put .before .before .before .pre .1) of none (at-put .put-groups .ensures .0)
+    (at-put .put-groups .ensures .1)
     (c .before .before .before .size-at .ensures)
     (c .before .before .size-at2 .ensures)
     (c .before .size-at3 .ensures)

@@ -26,7 +26,8 @@ solve-pair-requires c κs =
 returns : tie.Need-returns
 returns c =
     let parted = c .before .before .before .before .before .take-apart .ensures in
-    solved-refused (c .refused .ensures) (first-before (12 ∷ []) (parted .refused _ (c .before .before .verdict .given .1)))
+    solved-refused (c .refused .ensures)
+    (first-before (12 ∷ []) (parted .refused _ (c .before .before .verdict .given .1)))
 
 returns-2 : tie.Need-returns-2
 returns-2 c =

@@ -1,5 +1,5 @@
--- `solver::page` meets its contract: 16, then the numbers of the sides, then the page of the solved pair; demand 3 follows from the promise.
--- Assumes nothing.
+-- `solver::page` meets its contract: 16, then the numbers of the sides, then the page of the solved pair;
+-- demand 3 follows from the promise. Assumes nothing.
 use Prim.Native.Nat.{ℕ, _<_, _≤_}
 use mathlib.Core.Path.{refl, subst}
 use lib.ListN.{length}
@@ -17,7 +17,8 @@ wanted-count-requires c κs = search needs
 returns : tie.Need-returns
 returns c =
     let out = c .before .before .before .before .before .args .out .now in
-    let promised = promise-short (subst (λ (n : ℕ). length out < n) (c .before .wanted-count .ensures) (c .if1 .taken)) in
+    let promised =
+    promise-short (subst (λ (n : ℕ). length out < n) (c .before .wanted-count .ensures) (c .if1 .taken)) in
     (promised, page-existence promised)
 
 solve-requires : tie.Need-solve-requires
@@ -30,7 +31,8 @@ enum-told : tie.Need-enum-told
 enum-told c = search needs
 
 page-of-requires : tie.Need-page-of-requires
-page-of-requires c κs = c .before .before .before .before .solve .ensures .the-table (c .before .enum-told .given .1) .within
+page-of-requires c κs =
+    c .before .before .before .before .solve .ensures .the-table (c .before .enum-told .given .1) .within
 
 returns-2 : tie.Need-returns-2
 returns-2 c =
@@ -38,7 +40,8 @@ returns-2 c =
     let long = solved .before in
     let out = long .before .before .before .before .before .args .out .now in
     let enough = subst (λ (n : ℕ). n ≤ length out) (long .before .wanted-count .ensures) (long .if1 .left) in
-    let promised = is-refused (first-of-sides enough (solved .solve .ensures .refused _ (c .before .verdict .given .1))) in
+    let promised =
+    is-refused (first-of-sides enough (solved .solve .ensures .refused _ (c .before .verdict .given .1))) in
     (promised, page-existence promised)
 
 same-length : tie.Need-same-length
@@ -48,7 +51,8 @@ returns-3 : tie.Need-returns-3
 returns-3 c =
     let told = c .before .before .before .before .enum-told .given .1 in
     let solved = c .before .before .before .before .before .before .before .solve .ensures in
-    let promised = c .before .before .page-of .ensures _ _ _ refl (solved .the-table told) (solved .none-given told) in
+    let promised =
+    c .before .before .page-of .ensures _ _ _ refl (solved .the-table told) (solved .none-given told) in
     (promised, page-existence promised)
 
 pub page-spec : {M : Type 1} → statement M

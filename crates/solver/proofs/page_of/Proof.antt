@@ -20,8 +20,11 @@ enum-known-settled c = search needs
 write-keys-requires : tie.Need-write-keys-requires
 write-keys-requires c κs =
     let long = c .before .before .before .before .before in
-    let entry = long .before .before .before in
-    (entry .pre, rw (long .before .wanted-count .ensures) (wanted-some (entry .args .request .wanted)), long .if1 .left)
+    let entry = long .before .before .before in (
+      entry .pre,
+      rw (long .before .wanted-count .ensures) (wanted-some (entry .args .request .wanted)),
+      long .if1 .left,
+    )
 
 enum-known-settled-2 : tie.Need-enum-known-settled-2
 enum-known-settled-2 c = search needs
@@ -33,7 +36,8 @@ returns-2 : tie.Need-returns-2
 returns-2 c = λ M L R full of none.
     let settled = c .before .before .before .before .before .before .before in
     let long = settled .before in
-    promise-page of none (rw (long .before .wanted-count .ensures) at (long .if1 .left)) (settled .settle .ensures M L R full of)
+    promise-page of none (rw (long .before .wanted-count .ensures) at (long .if1 .left))
+    (settled .settle .ensures M L R full of)
     (c .before .before .before .before .before .settled .given .1)
     (rw (long .before .wanted-count .ensures) at (c .before .before .write-keys .ensures M L R full of))
 
@@ -41,7 +45,8 @@ returns-3 : tie.Need-returns-3
 returns-3 c = λ M L R full of none.
     let settled = c .before .before .before in
     let long = settled .before in
-    promise-refused of none (rw (long .before .wanted-count .ensures) at (long .if1 .left)) (settled .settle .ensures M L R full of)
+    promise-refused of none (rw (long .before .wanted-count .ensures) at (long .if1 .left))
+    (settled .settle .ensures M L R full of)
     (c .before .settled2 .given .1)
 
 pub page-of-spec : {M : Type 1} → statement M

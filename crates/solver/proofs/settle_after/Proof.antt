@@ -1,4 +1,5 @@
--- `solver::settle_after` meets its contract: a key that is not listed is refused; above a listed one stands the next, or none.
+-- `solver::settle_after` meets its contract: a key that is not listed is refused; above a listed one stands
+-- the next, or none.
 use borrow.Author.Needs.{needs}
 use Rattle.keys.proofs.Table.{table-ascending}
 use Rattle.keys.proofs.Walk.{next-key, next-none}
@@ -29,18 +30,21 @@ enum-told-2 : tie.Need-enum-told-2
 enum-told-2 c = search needs
 
 returns : tie.Need-returns
-returns c = λ M L R full of. settled-unlisted (told-refused (c .before .before .before .find-key .ensures M L R full of) (c .before .found .given .1))
+returns c = λ M L R full of. settled-unlisted
+    (told-refused (c .before .before .before .find-key .ensures M L R full of) (c .before .found .given .1))
 
 returns-2 : tie.Need-returns-2
 returns-2 c = λ M L R full of.
     let listed = c .before .before .before .before in
-    settled-next (table-ascending of) (told-listed (listed .before .before .find-key .ensures M L R full of) (listed .enum-told .given .1))
+    settled-next (table-ascending of) (told-listed (listed .before .before .find-key .ensures M L R full of)
+    (listed .enum-told .given .1))
     (next-key (c .before .before .before .least-listed .ensures M L R full of) (c .before .next .given .1))
 
 returns-3 : tie.Need-returns-3
 returns-3 c = λ M L R full of.
     let listed = c .before .before .before in
-    settled-last (table-ascending of) (told-listed (listed .before .before .find-key .ensures M L R full of) (listed .enum-told .given .1))
+    settled-last (table-ascending of) (told-listed (listed .before .before .find-key .ensures M L R full of)
+    (listed .enum-told .given .1))
     (next-none (c .before .before .least-listed .ensures M L R full of) (c .enum-told2 .given .1))
 
 pub settle-after-spec : {M : Type 1} → statement M

@@ -1,4 +1,5 @@
--- `solver::values` meets its contract: 16, then the numbers of the sides, then the values of the solved pair. Assumes nothing.
+-- `solver::values` meets its contract: 16, then the numbers of the sides, then the values of the solved pair.
+-- Assumes nothing.
 use mathlib.Core.Path.{refl}
 use Rattle.values.specs.Values.{is-refused}
 use Rattle.values.proofs.Given.{first-of-sides}
@@ -20,12 +21,14 @@ enum-told : tie.Need-enum-told
 enum-told c = search needs
 
 values-of-requires : tie.Need-values-of-requires
-values-of-requires c κs = c .before .before .before .before .solve .ensures .the-table (c .before .enum-told .given .1) .within
+values-of-requires c κs =
+    c .before .before .before .before .solve .ensures .the-table (c .before .enum-told .given .1) .within
 
 returns-2 : tie.Need-returns-2
 returns-2 c =
     let solved = c .before .before .before .before in
-    is-refused (first-of-sides (solved .before .if1 .left) (solved .solve .ensures .refused _ (c .before .verdict .given .1)))
+    is-refused (first-of-sides (solved .before .if1 .left)
+    (solved .solve .ensures .refused _ (c .before .verdict .given .1)))
 
 same-length : tie.Need-same-length
 same-length c = search needs

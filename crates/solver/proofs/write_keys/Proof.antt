@@ -1,5 +1,5 @@
--- `solver::write_keys` meets its contract. The invariant: the keys up to the last one written stand in front, and what remains after it is left.
--- The measure is how many are still wanted.
+-- `solver::write_keys` meets its contract. The invariant: the keys up to the last one written stand in front,
+-- and what remains after it is left. The measure is how many are still wanted.
 use Prim.Native.Nat.{_-_}
 use native.Mathlib.Omega.{arith}
 use mathlib.Core.Path.{_∙_}
@@ -20,7 +20,8 @@ slice-write-out : tie.Need-slice-write-out Inv-loop μ-loop
 slice-write-out c = omega (arith, c .before .pre .1, c .before .pre .2)
 
 loop-holds : tie.Need-loop-holds Inv-loop μ-loop
-loop-holds c = writing-first _ (c .before .args .out .now) (c .before .pre .1) (c .before .pre .2) (c .before .fits .first .fits)
+loop-holds c = writing-first _ (c .before .args .out .now) (c .before .pre .1) (c .before .pre .2)
+    (c .before .fits .first .fits)
 
 cast-least-listed : tie.Need-cast-least-listed Inv-loop μ-loop
 cast-least-listed c = omega (arith, c .before .loop .inv .a-key)
@@ -42,13 +43,18 @@ same-length c = writing-length (c .before .before .before .before .loop .inv) �
 
 returns : tie.Need-returns Inv-loop μ-loop
 returns c =
-    written-all (c .before .before .before .before .before .before .args .out .now) (c .before .before .before .before .loop .inv)
+    written-all (c .before .before .before .before .before .before .args .out .now)
+    (c .before .before .before .before .loop .inv)
     (λ M L R full of. next-none (c .before .before .least-listed .ensures M L R full of) (c .enum-told .given .1))
 
 mul-out : tie.Need-mul-out Inv-loop μ-loop
 mul-out c =
     let entry = c .before .before .before .before .before .before .before .args in
-    omega (arith, c .before .before .before .before .before .loop .inv .enough, length-set (entry .out .now) 0 (entry .first))
+    omega (
+      arith,
+      c .before .before .before .before .before .loop .inv .enough,
+      length-set (entry .out .now) 0 (entry .first),
+    )
 
 slice-write-out-2 : tie.Need-slice-write-out-2 Inv-loop μ-loop
 slice-write-out-2 c =
@@ -63,8 +69,10 @@ loop-less c = omega arith
 
 loop-again : tie.Need-loop-again Inv-loop μ-loop
 loop-again c =
-    writing-next (c .before .before .before .before .before .loop .inv) (c .before .before .before .before .loop-test .taken) (omega arith)
-    (λ M L R full of. next-key (c .before .before .before .least-listed .ensures M L R full of) (c .before .next .given .1))
+    writing-next (c .before .before .before .before .before .loop .inv)
+    (c .before .before .before .before .loop-test .taken) (omega arith)
+    (λ M L R full of. next-key (c .before .before .before .least-listed .ensures M L R full of)
+    (c .before .next .given .1))
 
 cast-least-listed-2 : tie.Need-cast-least-listed-2 Inv-loop μ-loop
 cast-least-listed-2 c = omega (arith, c .before .loop .inv .a-key)
@@ -95,7 +103,8 @@ same-length-3 c = writing-length (c .before .before .before .before .loop .inv) 
 
 returns-3 : tie.Need-returns-3 Inv-loop μ-loop
 returns-3 c =
-    written-all (c .before .before .before .before .before .before .args .out .now) (c .before .before .before .before .loop .inv)
+    written-all (c .before .before .before .before .before .before .args .out .now)
+    (c .before .before .before .before .loop .inv)
     (λ M L R full of. next-none (c .before .before .least-listed2 .ensures M L R full of) (c .enum-told3 .given .1))
 
 pub write-keys-spec : {M : Type 1} → statement M

@@ -1,4 +1,5 @@
--- `tally::all_constants` meets its contract: sums that stop at the largest number, one after the other, are the whole sum up to it. Assumes nothing.
+-- `tally::all_constants` meets its contract: sums that stop at the largest number, one after the other, are
+-- the whole sum up to it. Assumes nothing.
 use native.Mathlib.Omega.{arith}
 use borrow.Author.Needs.{needs}
 use Rattle.tally.proofs.all_constants.Statement.{statement}

@@ -25,13 +25,16 @@ one-more-requires-4 : tie.Need-one-more-requires-4
 one-more-requires-4 c κs = search needs
 
 returns : tie.Need-returns
-returns c = simp (c .before .enum-told .given .1, c .before .before .before .one-more .ensures, c .one-more2 .ensures)
+returns c =
+    simp (c .before .enum-told .given .1, c .before .before .before .one-more .ensures, c .one-more2 .ensures)
 
 returns-2 : tie.Need-returns-2
-returns-2 c = simp (c .before .enum-told2 .given .1, c .before .before .before .one-more .ensures, c .one-more3 .ensures)
+returns-2 c =
+    simp (c .before .enum-told2 .given .1, c .before .before .before .one-more .ensures, c .one-more3 .ensures)
 
 returns-3 : tie.Need-returns-3
-returns-3 c = simp (c .before .enum-told3 .given .1, c .before .before .before .one-more .ensures, c .one-more4 .ensures)
+returns-3 c =
+    simp (c .before .enum-told3 .given .1, c .before .before .before .one-more .ensures, c .one-more4 .ensures)
 
 pub count-spec : {M : Type 1} → statement M
 count-spec =

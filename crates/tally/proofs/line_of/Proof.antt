@@ -1,4 +1,5 @@
--- `tally::line_of` meets its contract: each way out is the case of the first answer that refuses, or that none does. Assumes nothing.
+-- `tally::line_of` meets its contract: each way out is the case of the first answer that refuses, or that
+-- none does. Assumes nothing.
 use borrow.Author.Needs.{needs}
 use Rattle.tally.proofs.line_of.Statement.{statement}
 use Rattle.tally.proofs.line_of.Tie as tie
@@ -37,13 +38,23 @@ all-constants-requires : tie.Need-all-constants-requires
 all-constants-requires c κs = search needs
 
 returns-2 : tie.Need-returns-2
-returns-2 c = simp (c .before .before .before .before .enum-told .given .1, c .before .before .rows .given .1) (c .refused-line2 .ensures)
+returns-2 c = simp (c .before .before .before .before .enum-told .given .1, c .before .before .rows .given .1)
+    (c .refused-line2 .ensures)
 
 returns-3 : tie.Need-returns-3
-returns-3 c = simp (c .before .before .before .before .before .before .before .enum-told .given .1, c .before .before .before .before .before .rows2 .given .1, c .before .before .page .given .1) (c .refused-line3 .ensures)
+returns-3 c = simp (
+  c .before .before .before .before .before .before .before .enum-told .given .1,
+  c .before .before .before .before .before .rows2 .given .1,
+  c .before .before .page .given .1,
+) (c .refused-line3 .ensures)
 
 returns-4 : tie.Need-returns-4
-returns-4 c = simp (c .before .before .before .before .before .before .before .enum-told .given .1, c .before .before .before .before .before .rows2 .given .1, c .before .before .page2 .given .1, c .all-constants .ensures)
+returns-4 c = simp (
+  c .before .before .before .before .before .before .before .enum-told .given .1,
+  c .before .before .before .before .before .rows2 .given .1,
+  c .before .before .page2 .given .1,
+  c .all-constants .ensures,
+)
 
 pub line-of-spec : {M : Type 1} → statement M
 line-of-spec =

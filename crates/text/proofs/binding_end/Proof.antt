@@ -22,7 +22,11 @@ wide-requires c κs = search needs
 
 add-least : tie.Need-add-least
 add-least c =
-    omega (arith, c .before .shared-slice-known2 .given (c .before .before .before .before .args .from + 1), c .wide .ensures)
+    omega (
+      arith,
+      c .before .shared-slice-known2 .given (c .before .before .before .before .args .from + 1),
+      c .wide .ensures,
+    )
 
 least-requires : tie.Need-least-requires
 least-requires c κs = search needs

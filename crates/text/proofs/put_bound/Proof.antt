@@ -18,16 +18,24 @@ put-name-requires c κs = search needs
 
 slice-write-out : tie.Need-slice-write-out
 slice-write-out c =
-    omega
-    (arith, c .before .before .put-name .ensures .place, put-length (c .before .before .put-name .ensures), name-short _ (c .before .before .before .shared-slice-known2 .given 0 .fits))
+    omega (
+      arith,
+      c .before .before .put-name .ensures .place,
+      put-length (c .before .before .put-name .ensures),
+      name-short _ (c .before .before .before .shared-slice-known2 .given 0 .fits),
+    )
 
 least-requires : tie.Need-least-requires
 least-requires c κs = search needs
 
 add-put-value : tie.Need-add-put-value
 add-put-value c =
-    omega
-    (arith, c .before .before .before .before .put-name .ensures .place, put-length (c .before .before .before .before .put-name .ensures), name-short _ (c .before .before .before .before .before .shared-slice-known2 .given 0 .fits))
+    omega (
+      arith,
+      c .before .before .before .before .put-name .ensures .place,
+      put-length (c .before .before .before .before .put-name .ensures),
+      name-short _ (c .before .before .before .before .before .shared-slice-known2 .given 0 .fits),
+    )
 
 sub-put-value : tie.Need-sub-put-value
 sub-put-value c = search needs
@@ -54,14 +62,18 @@ put-value-requires c κs =
     ))
 
 same-length : tie.Need-same-length
-same-length c = put-length (c .before .before .put-value .ensures) ∙ simp length-set (put-length (c .before .before .before .before .before .before .before .before .put-name .ensures))
+same-length c = put-length (c .before .before .put-value .ensures)
+    ∙ simp length-set (put-length (c .before .before .before .before .before .before .before .before .put-name
+    .ensures))
 
 returns : tie.Need-returns
 returns c =
     let skipped = c .before .before .before .before .before .least in
     put-then (c .before .before .before .before .before .before .before .before .put-name .ensures)
     (put-then (put-byte _ _ 61)
-    (put-as (ap joined (after-two (c .before .before .before .before .before .before .before .before .before .before .before .before .before .args .bytes .now) (skipped .result) (skipped .ensures))) (c .before .before .put-value .ensures)))
+    (put-as (ap joined (after-two (c .before .before .before .before .before .before .before .before .before
+    .before .before .before .before .args .bytes .now) (skipped .result) (skipped .ensures)))
+    (c .before .before .put-value .ensures)))
 
 pub put-bound-spec : {M : Type 1} → statement M
 put-bound-spec =

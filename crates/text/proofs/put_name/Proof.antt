@@ -1,4 +1,5 @@
--- `text::put_name` meets its contract: each branch puts the letter and number of that kind of atom. Assumes nothing.
+-- `text::put_name` meets its contract: each branch puts the letter and number of that kind of atom. Assumes
+-- nothing.
 use Rattle.buffer.proofs.Puts.{put-as}
 use Rattle.text.proofs.Names.{name-variable, name-constant, name-new}
 use borrow.Author.Needs.{needs}
@@ -18,19 +19,22 @@ same-length : tie.Need-same-length
 same-length c = search needs
 
 returns : tie.Need-returns
-returns c = put-as (name-variable _ (c .before .before .before .before .if1 .taken)) (c .before .before .put-lettered .ensures)
+returns c = put-as (name-variable _ (c .before .before .before .before .if1 .taken))
+    (c .before .before .put-lettered .ensures)
 
 same-length-2 : tie.Need-same-length-2
 same-length-2 c = search needs
 
 returns-2 : tie.Need-returns-2
-returns-2 c = put-as (name-constant _ (c .before .before .before .before .before .if1 .left) (c .before .before .before .before .if2 .taken)) (c .before .before .put-lettered2 .ensures)
+returns-2 c = put-as (name-constant _ (c .before .before .before .before .before .if1 .left)
+    (c .before .before .before .before .if2 .taken)) (c .before .before .put-lettered2 .ensures)
 
 same-length-3 : tie.Need-same-length-3
 same-length-3 c = search needs
 
 returns-3 : tie.Need-returns-3
-returns-3 c = put-as (name-new _ (c .before .before .before .before .if2 .left)) (c .before .before .put-lettered3 .ensures)
+returns-3 c = put-as (name-new _ (c .before .before .before .before .if2 .left))
+    (c .before .before .put-lettered3 .ensures)
 
 pub put-name-spec : {M : Type 1} → statement M
 put-name-spec =

@@ -1,4 +1,5 @@
--- `text::put_number` meets its contract: the digits that `io::decimal` finds are the decimal, at most 20 of them. Assumes nothing.
+-- `text::put_number` meets its contract: the digits that `io::decimal` finds are the decimal, at most 20 of
+-- them. Assumes nothing.
 use Prim.Native.Nat.{_≤_}
 use native.Mathlib.Omega.{arith}
 use mathlib.Core.Path.{_∙_}
@@ -23,7 +24,8 @@ put-bytes-requires c κs =
     let a = c .before .before .before .before .before .args in
     let d = c .before .before .decimal in
     let e : length (take (d .result) (d .last .1 .0)) ≤ 20 =
-    digits-fit (a .number) (d .result) (c .before .before .before .before .before .fits .number .fits) (d .ensures .1 .0) (d .ensures .1 .1) in
+    digits-fit (a .number) (d .result) (c .before .before .before .before .before .fits .number .fits)
+    (d .ensures .1 .0) (d .ensures .1 .1) in
     omega arith
 
 same-length : tie.Need-same-length
@@ -32,7 +34,8 @@ same-length c = search needs
 returns : tie.Need-returns
 returns c =
     let d = c .before .before .before .before .before .decimal in
-    put-as (d .ensures .1 .1 ∙ digits-decimal (d .result) (c .before .before .before .before .before .before .before .before .args .number) (d .ensures .1 .0))
+    put-as (d .ensures .1 .1 ∙ digits-decimal (d .result)
+    (c .before .before .before .before .before .before .before .before .args .number) (d .ensures .1 .0))
     (c .before .before .put-bytes .ensures)
 
 pub put-number-spec : {M : Type 1} → statement M

@@ -41,8 +41,11 @@ loop-again : tie.Need-loop-again Inv-loop μ-loop
 loop-again c =
     let a = c .before .before .before .before .before .before .before .before .before .args in
     let l = c .before .before .before .before .before .before .loop in
-    let h : l .i < length (a .atoms .now) = omega arith in
-    (omega arith, put-as (further-next (a .atoms .now) (l .i) h) (put-then (l .inv .1) (c .before .before .put-further .ensures)))
+    let h : l .i < length (a .atoms .now) = omega arith in (
+      omega arith,
+      put-as (further-next (a .atoms .now) (l .i) h)
+          (put-then (l .inv .1) (c .before .before .put-further .ensures)),
+    )
 
 same-length : tie.Need-same-length Inv-loop μ-loop
 same-length c = put-length (c .before .loop .inv .1)
@@ -51,7 +54,8 @@ returns : tie.Need-returns Inv-loop μ-loop
 returns c =
     let a = c .before .before .before .before .args in
     let e : c .before .loop .i ≡ length (a .atoms .now) = omega arith in
-    put-as (ap (λ (n : ℕ). further (take n (a .atoms .now))) e ∙ ap further (take-length (a .atoms .now))) (c .before .loop .inv .1)
+    put-as (ap (λ (n : ℕ). further (take n (a .atoms .now))) e ∙ ap further (take-length (a .atoms .now)))
+    (c .before .loop .inv .1)
 
 pub put-rest-spec : {M : Type 1} → statement M
 put-rest-spec =

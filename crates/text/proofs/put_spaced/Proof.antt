@@ -1,4 +1,5 @@
--- `text::put_spaced` meets its contract: before each turn the bindings before `from` have been put. Assumes nothing.
+-- `text::put_spaced` meets its contract: before each turn the bindings before `from` have been put. Assumes
+-- nothing.
 use Prim.Native.Nat.{_+_, _*_, _≤_, _<_, _-_}
 use native.Mathlib.Omega.{arith}
 use mathlib.Core.Path.{_≡_, _∙_, refl}
@@ -13,7 +14,8 @@ use Rattle.text.proofs.put_spaced.Tie as tie
 
 abbrev Inv-loop : tie.InvT-loop
 Inv-loop out₀ at values next₀ from₀ out next from =
-    (from ≤ length values) × (next ≤ at + 6 * from) × (length out ≡ length out₀) × ((bs : List Binding) → laidOut bs ≡ values → Told bs out₀ at values next from out)
+    (from ≤ length values) × (next ≤ at + 6 * from) × (length out ≡ length out₀)
+    × ((bs : List Binding) → laidOut bs ≡ values → Told bs out₀ at values next from out)
 
 abbrev μ-loop : tie.MeasureT-loop
 μ-loop out₀ at values next₀ from₀ out next from = length values - from
@@ -59,12 +61,20 @@ loop-again c =
     let ends = c .before .before .before .before .before .binding-end .ensures in
     let h : l .from < length v = omega arith in
     let within : end ≤ length v = omega (arith, ends) in
-    let size : length (take (end - l .from) (drop (l .from) v)) ≡ end - l .from = length-part v (l .from) end within in
+    let size : length (take (end - l .from) (drop (l .from) v)) ≡ end - l .from =
+    length-part v (l .from) end within in
     let some : 0 < length (take (end - l .from) (drop (l .from) v)) = omega (arith, ends) in
     let put = put-then (put-byte (l .out) (l .next) 32) (c .before .before .put-bound .ensures) in
-    let short : length (bound (bindingOf (take (end - l .from) (drop (l .from) v)))) ≤ 5 * length (take (end - l .from) (drop (l .from) v)) =
-    bound-short (take (end - l .from) (drop (l .from) v)) (part-small v (l .from) (end - l .from) (λ i. c .before .before .before .before .before .before .before .before .shared-slice-known .given i .fits)) some in
-    (within, omega (arith, put .place, ends), put-length put ∙ l .inv .2, λ bs e. told-next h ends put (l .inv .3 bs e))
+    let short : length (bound (bindingOf (take (end - l .from) (drop (l .from) v))))
+    ≤ 5 * length (take (end - l .from) (drop (l .from) v)) =
+    bound-short (take (end - l .from) (drop (l .from) v)) (part-small v (l .from) (end - l .from)
+    (λ i. c .before .before .before .before .before .before .before .before .shared-slice-known .given i
+    .fits)) some in (
+      within,
+      omega (arith, put .place, ends),
+      put-length put ∙ l .inv .2,
+      λ bs e. told-next h ends put (l .inv .3 bs e),
+    )
 
 same-length : tie.Need-same-length Inv-loop μ-loop
 same-length c = c .before .loop .inv .2

@@ -29,7 +29,8 @@ binding-end-requires c κs = search needs
 slice-aggregate-put-bound : tie.Need-slice-aggregate-put-bound
 slice-aggregate-put-bound c =
     let v = c .before .before .before .before .before .before .args .values .now in
-    sym (length-take-le (c .before .before .binding-end .result) v (omega (arith, c .before .before .binding-end .ensures)))
+    sym (length-take-le (c .before .before .binding-end .result) v
+    (omega (arith, c .before .before .binding-end .ensures)))
 
 put-bound-requires : tie.Need-put-bound-requires
 put-bound-requires c κs =
@@ -49,7 +50,8 @@ part-put-spaced-end c = search needs
 
 put-spaced-requires : tie.Need-put-spaced-requires
 put-spaced-requires c κs =
-    let v = c .before .before .before .before .before .before .before .before .before .before .before .args .values .now in
+    let v = c .before .before .before .before .before .before .before .before .before .before .before .args
+    .values .now in
     let end = c .before .before .before .before .before .before .before .binding-end in
     let first = c .before .before .before .before .put-bound in
     let some : 0 < end .result = omega (arith, end .ensures) in
@@ -58,7 +60,9 @@ put-spaced-requires c κs =
       arith,
       first .ensures .place,
       put-length (first .ensures),
-      first-short v (end .result) some within (λ i. c .before .before .before .before .before .before .before .before .before .shared-slice-known .given i .fits),
+      first-short v (end .result) some within
+          (λ i. c .before .before .before .before .before .before .before .before .before .shared-slice-known
+          .given i .fits),
       length-take (length v - end .result) (drop (end .result) v),
       length-drop (end .result) v,
     )
@@ -68,7 +72,8 @@ same-length-2 c = search needs
 
 returns-2 : tie.Need-returns-2
 returns-2 c =
-    let v = c .before .before .before .before .before .before .before .before .before .before .before .before .before .before .args .values .now in
+    let v = c .before .before .before .before .before .before .before .before .before .before .before .before
+    .before .before .args .values .now in
     let end = c .before .before .before .before .before .before .before .before .before .before .binding-end in
     let first = c .before .before .before .before .before .before .before .put-bound in
     let others = c .before .before .put-spaced in
@@ -79,7 +84,9 @@ returns-2 c =
         arith,
         others .ensures .1,
         first .ensures .place,
-        first-short v (end .result) some within (λ i. c .before .before .before .before .before .before .before .before .before .before .before .before .shared-slice-known .given i .fits),
+        first-short v (end .result) some within
+            (λ i. c .before .before .before .before .before .before .before .before .before .before .before
+            .before .shared-slice-known .given i .fits),
         length-take (length v - end .result) (drop (end .result) v),
         length-drop (end .result) v,
       ),

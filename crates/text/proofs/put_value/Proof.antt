@@ -33,8 +33,13 @@ put-rest-requires c κs =
     let a = c .before .before .before .before .before .before .before .before .before .before .args in
     let n = c .before .before .before .before .put-name in
     let some : 0 < length (a .atoms .now) = omega arith in
-    omega
-    (arith, length-tail (a .atoms .now) some, n .ensures .place, put-length (n .ensures), name-short _ (c .before .before .before .before .before .shared-slice-known2 .given 0 .fits))
+    omega (
+      arith,
+      length-tail (a .atoms .now) some,
+      n .ensures .place,
+      put-length (n .ensures),
+      name-short _ (c .before .before .before .before .before .shared-slice-known2 .given 0 .fits),
+    )
 
 same-length : tie.Need-same-length
 same-length c = search needs
@@ -42,9 +47,12 @@ same-length c = search needs
 returns-2 : tie.Need-returns-2
 unfolding tail
 returns-2 c =
-    let a = c .before .before .before .before .before .before .before .before .before .before .before .before .before .args in
+    let a = c .before .before .before .before .before .before .before .before .before .before .before .before
+    .before .args in
     let some : 0 < length (a .atoms .now) = omega arith in
-    put-as (joined-first (a .atoms .now) some) (put-then (c .before .before .before .before .before .before .before .put-name .ensures) (c .before .before .put-rest .ensures))
+    put-as (joined-first (a .atoms .now) some)
+    (put-then (c .before .before .before .before .before .before .before .put-name .ensures)
+    (c .before .before .put-rest .ensures))
 
 pub put-value-spec : {M : Type 1} → statement M
 put-value-spec =

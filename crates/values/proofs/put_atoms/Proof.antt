@@ -32,7 +32,8 @@ put-repeated-requires : tie.Need-put-repeated-requires Inv-loop μ-loop
 put-repeated-requires c κs =
     let a = c .before .before .before .before .before .before .before .args in
     let l = c .before .before .before .before .loop in
-    run-fits (l .run) (timesAt (a .rows .now) (a .selection) (a .place)) (atomOf (a .selection)) (l .inv .1) (runCount (a .selection)) (omega arith)
+    run-fits (l .run) (timesAt (a .rows .now) (a .selection) (a .place)) (atomOf (a .selection)) (l .inv .1)
+    (runCount (a .selection)) (omega arith)
     (c .before .before .before .before .before .before .before .pre .1) (c .before .before .times .ensures .0)
 
 add-run : tie.Need-add-run Inv-loop μ-loop
@@ -58,7 +59,8 @@ returns : tie.Need-returns Inv-loop μ-loop
 returns c =
     let a = c .before .before .before .before .args in
     let end : c .before .loop .run ≡ runCount (a .selection) = omega arith in
-    put-as (ap (λ (n : ℕ). runs n (timesAt (a .rows .now) (a .selection) (a .place)) (atomOf (a .selection))) end) (c .before .loop .inv .1)
+    put-as (ap (λ (n : ℕ). runs n (timesAt (a .rows .now) (a .selection) (a .place)) (atomOf (a .selection)))
+    end) (c .before .loop .inv .1)
 
 pub put-atoms-spec : {M : Type 1} → statement M
 put-atoms-spec =

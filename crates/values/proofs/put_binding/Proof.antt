@@ -1,4 +1,5 @@
--- `values::put_binding` meets its contract: the byte, the count and the atoms, one after the other. Assumes nothing.
+-- `values::put_binding` meets its contract: the byte, the count and the atoms, one after the other. Assumes
+-- nothing.
 use Prim.Native.Nat.{ℕ}
 use native.Mathlib.Omega.{arith}
 use mathlib.Core.Path.{ap, _∙_}
@@ -39,7 +40,8 @@ returns c =
     let a = c .before .before .before .before .before .before .args in
     let count = c .before .before .before .before .value-length in
     put-as (ap (λ (n : ℕ). a .variable ∷ n ∷ atomsAt (a .rows .now) (a .selection) (a .place)) (count .ensures))
-    (put-then (put-then (put-byte _ _ (a .variable)) (put-at (omega arith) (put-byte _ _ (count .result)))) (c .before .before .put-atoms .ensures))
+    (put-then (put-then (put-byte _ _ (a .variable)) (put-at (omega arith) (put-byte _ _ (count .result))))
+    (c .before .before .put-atoms .ensures))
 
 pub put-binding-spec : {M : Type 1} → statement M
 put-binding-spec =

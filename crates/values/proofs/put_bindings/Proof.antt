@@ -1,4 +1,5 @@
--- `values::put_bindings` meets its contract: before each turn the variables before the place have been put. Assumes nothing.
+-- `values::put_bindings` meets its contract: before each turn the variables before the place have been put.
+-- Assumes nothing.
 use Prim.Native.Nat.{ℕ, _*_, _≤_, _<_, _-_}
 use native.Mathlib.Omega.{arith}
 use mathlib.Core.Path.{_≡_, ap}
@@ -15,7 +16,8 @@ use Rattle.values.proofs.put_bindings.Tie as tie
 
 abbrev Inv-loop : tie.InvT-loop
 Inv-loop rows variables places selection out₀ next₀ place₀ out next place =
-    (place ≤ places) × (next ≤ 202 * place) × Put out₀ 0 (laidOut (bindingsBelow variables (atomsAt rows selection) place)) next out
+    (place ≤ places) × (next ≤ 202 * place)
+    × Put out₀ 0 (laidOut (bindingsBelow variables (atomsAt rows selection) place)) next out
 
 abbrev μ-loop : tie.MeasureT-loop
 μ-loop rows variables places selection out₀ next₀ place₀ out next place = places - place
@@ -31,7 +33,8 @@ put-binding-requires c κs =
     let entry = c .before .before .before .before .before in
     let a = entry .args in
     let l = c .before .before .before .loop in
-    let short = not-above (lengthAt (a .rows .now) (a .selection)) (a .places) (entry .pre .1 .0) (let h : l .place < a .places = omega arith in h) in
+    let short = not-above (lengthAt (a .rows .now) (a .selection)) (a .places) (entry .pre .1 .0)
+    (let h : l .place < a .places = omega arith in h) in
     (omega arith, (short, omega (arith, put-length (l .inv .2))))
 
 add-place : tie.Need-add-place Inv-loop μ-loop
@@ -46,11 +49,14 @@ loop-again c =
     let a = entry .args in
     let l = c .before .before .before .before .before .before .loop in
     let p = c .before .before .put-binding .ensures in
-    let short = not-above (lengthAt (a .rows .now) (a .selection)) (a .places) (entry .pre .1 .0) (let h : l .place < a .places = omega arith in h) in
-    let size = length-runs (runCount (a .selection)) (timesAt (a .rows .now) (a .selection) (l .place)) (atomOf (a .selection)) in (
+    let short = not-above (lengthAt (a .rows .now) (a .selection)) (a .places) (entry .pre .1 .0)
+    (let h : l .place < a .places = omega arith in h) in
+    let size = length-runs (runCount (a .selection)) (timesAt (a .rows .now) (a .selection) (l .place))
+    (atomOf (a .selection)) in (
       omega arith,
       omega (arith, p .place, short),
-      put-as (laidOut-next (a .variables .now) (atomsAt (a .rows .now) (a .selection)) (l .place) size) (put-then (l .inv .2) p),
+      put-as (laidOut-next (a .variables .now) (atomsAt (a .rows .now) (a .selection)) (l .place) size)
+          (put-then (l .inv .2) p),
     )
 
 same-length : tie.Need-same-length Inv-loop μ-loop
@@ -60,7 +66,8 @@ returns : tie.Need-returns Inv-loop μ-loop
 returns c =
     let a = c .before .before .before .args in
     let same : c .before .loop .place ≡ a .places = omega arith in (
-      put-as (ap (λ (n : ℕ). laidOut (bindingsBelow (a .variables .now) (atomsAt (a .rows .now) (a .selection)) n)) same)
+      put-as (ap (λ (n : ℕ). laidOut (bindingsBelow (a .variables .now)
+          (atomsAt (a .rows .now) (a .selection)) n)) same)
           (c .before .loop .inv .2),
       omega arith,
     )

@@ -11,7 +11,8 @@ use Rattle.values.proofs.too_long.Statement.{statement}
 use Rattle.values.proofs.too_long.Tie as tie
 
 abbrev Inv-loop : tie.InvT-loop
-Inv-loop rows places selection place₀ place = (place ≤ places) × (any place (λ p. ltb 200 (lengthAt rows selection p)) ≡ false)
+Inv-loop rows places selection place₀ place =
+    (place ≤ places) × (any place (λ p. ltb 200 (lengthAt rows selection p)) ≡ false)
 
 abbrev μ-loop : tie.MeasureT-loop
 μ-loop rows places selection place₀ place = places - place
@@ -25,7 +26,8 @@ value-length-requires c κs = omega arith
 returns : tie.Need-returns Inv-loop μ-loop
 returns c =
     let a = c .before .before .before .before .args in
-    sym (any-above (lengthAt (a .rows .now) (a .selection)) (a .places) (omega arith) (c .before .value-length .ensures) (c .if1 .taken))
+    sym (any-above (lengthAt (a .rows .now) (a .selection)) (a .places) (omega arith)
+    (c .before .value-length .ensures) (c .if1 .taken))
 
 add-place : tie.Need-add-place Inv-loop μ-loop
 add-place c = omega arith
@@ -36,14 +38,18 @@ loop-less c = omega arith
 loop-again : tie.Need-loop-again Inv-loop μ-loop
 loop-again c =
     let a = c .before .before .before .before .args in
-    let none = c .before .before .before .loop .inv .1 in
-    (omega arith, none-above (lengthAt (a .rows .now) (a .selection)) none (c .before .value-length .ensures) (c .if1 .left))
+    let none = c .before .before .before .loop .inv .1 in (
+      omega arith,
+      none-above (lengthAt (a .rows .now) (a .selection)) none (c .before .value-length .ensures)
+          (c .if1 .left),
+    )
 
 returns-2 : tie.Need-returns-2 Inv-loop μ-loop
 returns-2 c =
     let a = c .before .before .args in
     let end : c .before .loop .place ≡ a .places = omega arith in
-    sym (subst (λ (n : ℕ). any n (λ p. ltb 200 (lengthAt (a .rows .now) (a .selection) p)) ≡ false) end (c .before .loop .inv .1))
+    sym (subst (λ (n : ℕ). any n (λ p. ltb 200 (lengthAt (a .rows .now) (a .selection) p)) ≡ false) end
+    (c .before .loop .inv .1))
 
 pub too-long-spec : {M : Type 1} → statement M
 too-long-spec =

@@ -1,4 +1,5 @@
--- `values::value_length` meets its contract: before each turn `length` counts the runs before this one, each a byte. Assumes nothing.
+-- `values::value_length` meets its contract: before each turn `length` counts the runs before this one, each
+-- a byte. Assumes nothing.
 use Prim.Native.Nat.{_*_, _≤_, _-_}
 use native.Mathlib.Omega.{arith}
 use mathlib.Core.Path.{_≡_, refl, ap, _∙_}
@@ -36,7 +37,8 @@ loop-again : tie.Need-loop-again Inv-loop μ-loop
 loop-again c =
     let a = c .before .before .before .before .args in
     let l = c .before .before .loop in
-    let counted = total-next (timesAt (a .rows .now) (a .selection) (a .place)) (l .inv .1) (c .times .ensures .0) in
+    let counted =
+    total-next (timesAt (a .rows .now) (a .selection) (a .place)) (l .inv .1) (c .times .ensures .0) in
     (omega arith, counted, omega (arith, c .times .ensures .1))
 
 returns : tie.Need-returns Inv-loop μ-loop

@@ -1,4 +1,5 @@
--- `values::values_of` meets its contract: 16, then what the list says of the key, then what is written of it. Assumes nothing.
+-- `values::values_of` meets its contract: 16, then what the list says of the key, then what is written of it.
+-- Assumes nothing.
 use native.Mathlib.Omega.{arith}
 use Rattle.values.proofs.Promise.{promise-short, promise-refused, promise-written}
 use borrow.Author.Needs.{needs}
@@ -22,7 +23,8 @@ write-requires c κs = search needs
 
 returns-2 : tie.Need-returns-2
 returns-2 c = λ M L R full of none.
-    promise-refused of none (omega arith) (c .before .before .before .find-key .ensures M L R full of) (c .before .found .given .1)
+    promise-refused of none (omega arith) (c .before .before .before .find-key .ensures M L R full of)
+    (c .before .found .given .1)
 
 same-length : tie.Need-same-length
 same-length c = search needs
@@ -30,7 +32,8 @@ same-length c = search needs
 returns-3 : tie.Need-returns-3
 returns-3 c = λ M L R full of none.
     let found = c .before .before .before .before in
-    promise-written of none (omega arith) (found .before .before .find-key .ensures M L R full of) (found .enum-told .given .1)
+    promise-written of none (omega arith) (found .before .before .find-key .ensures M L R full of)
+    (found .enum-told .given .1)
     (c .before .before .write .ensures M L R full of)
 
 pub values-of-spec : {M : Type 1} → statement M

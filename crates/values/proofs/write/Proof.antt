@@ -1,4 +1,5 @@
--- `values::write` meets its contract: what is counted and put of the selection are the values of the listed key. Assumes nothing.
+-- `values::write` meets its contract: what is counted and put of the selection are the values of the listed
+-- key. Assumes nothing.
 use native.Mathlib.Omega.{arith}
 use mathlib.Core.Path.{sym, subst, _∙_}
 use borrow.Author.Needs.{needs}
@@ -12,12 +13,15 @@ selection-of-requires c κs = search needs
 
 too-long-requires : tie.Need-too-long-requires
 too-long-requires c κs =
-    let fit = c .before .before .before .before .pre .0 in
-    (subst Fit (sym (c .before .before .selection-of .ensures)) (fit .constants-fit, fit .sizes-fit 0), fit .places-fit)
+    let fit = c .before .before .before .before .pre .0 in (
+      subst Fit (sym (c .before .before .selection-of .ensures)) (fit .constants-fit, fit .sizes-fit 0),
+      fit .places-fit,
+    )
 
 returns : tie.Need-returns
 returns c = λ M L R full of listed.
-    writes-long of listed (c .before .before .before .before .selection-of .ensures) (sym (c .if1 .taken) ∙ c .before .too-long .ensures)
+    writes-long of listed (c .before .before .before .before .selection-of .ensures)
+    (sym (c .if1 .taken) ∙ c .before .too-long .ensures)
 
 put-bindings-requires : tie.Need-put-bindings-requires
 put-bindings-requires c κs =

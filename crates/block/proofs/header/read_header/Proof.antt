@@ -21,7 +21,8 @@ differ e f other same = other (e ∙ same ∙ sym f)
 abbrev entry : tie.After-are-term-lengths → tie.Start
 entry v = v .before .before .before .before .before .before .before .before .before .before .before
 
-checked : (c : tie.Else1) → check (entry (c .before) .args .block .now) ≡ checkOfBytes (entry (c .before) .args .block .now)
+checked : (c : tie.Else1)
+    → check (entry (c .before) .args .block .now) ≡ checkOfBytes (entry (c .before) .args .block .now)
 checked c =
     let at-check = c .before .before .before .before .before .before .before in
     agree (at-check .before .two-bytes .ensures) (at-check .check-of .ensures) (c .if1 .left)
@@ -66,13 +67,15 @@ returns : tie.Need-returns
 returns c =
     let at-check = c .before .before .before .before .before .before .before in
     is-refused
-    (check-first (entry (c .before) .pre) (differ (at-check .before .two-bytes .ensures) (at-check .check-of .ensures) (c .if1 .taken)))
+    (check-first (entry (c .before) .pre)
+    (differ (at-check .before .two-bytes .ensures) (at-check .check-of .ensures) (c .if1 .taken)))
 
 returns-2 : tie.Need-returns-2
 returns-2 c =
     let v = c .before .before in
     is-refused
-    (block-number-first (entry v .pre) (checked (c .before)) (differ (v .before .before .before .two-bytes2 .ensures) refl (c .if2 .taken)))
+    (block-number-first (entry v .pre) (checked (c .before))
+    (differ (v .before .before .before .two-bytes2 .ensures) refl (c .if2 .taken)))
 
 returns-3 : tie.Need-returns-3
 returns-3 c =

@@ -13,7 +13,8 @@ use Rattle.block.proofs.header.sum.Statement.{statement}
 use Rattle.block.proofs.header.sum.Tie as tie
 
 -- the bytes from i on are the one at i and those after it
-total-from : (bytes : List ℕ) (i : ℕ) → i < length bytes → total (drop i bytes) ≡ getD bytes i 0 + total (drop (i + 1) bytes)
+total-from : (bytes : List ℕ) (i : ℕ) → i < length bytes
+    → total (drop i bytes) ≡ getD bytes i 0 + total (drop (i + 1) bytes)
 total-from bytes i h = rw (add-one, drop-cons bytes i 0)
 
 none-left : (bytes : List ℕ) (i : ℕ) → i ≡ length bytes → total (drop i bytes) ≡ 0
@@ -21,7 +22,8 @@ none-left bytes i e = cc (e, drop-length bytes)
 
 abbrev Inv-loop : tie.InvT-loop
 Inv-loop bytes sum₀ i₀ i-end sum i =
-    (i ≤ i-end) × (i-end ≡ length bytes) × (sum < 65536) × ((sum + total (drop i bytes)) % 65536 ≡ total bytes % 65536)
+    (i ≤ i-end) × (i-end ≡ length bytes) × (sum < 65536)
+    × ((sum + total (drop i bytes)) % 65536 ≡ total bytes % 65536)
 
 abbrev μ-loop : tie.MeasureT-loop
 μ-loop bytes sum₀ i₀ i-end sum i = i-end - i
@@ -51,7 +53,9 @@ loop-again c =
     omega (arith, next, c .wrapping-add-u16 .ensures, c .before .two-bytes .ensures)
 
 returns : tie.Need-returns Inv-loop μ-loop
-returns c = omega (arith, none-left (c .before .before .before .args .bytes .now) (c .before .loop .i) (omega arith))
+returns c =
+    omega (arith, none-left (c .before .before .before .args .bytes .now) (c .before .loop .i) (omega arith))
 
 pub sum-spec : {M : Type 1} → statement M
-sum-spec = tie.close (tie.spec Inv-loop μ-loop loop-holds shared-slice-read-two-bytes two-bytes-requires wrapping-add-u16-requires add-i loop-less loop-again returns)
+sum-spec = tie.close (tie.spec Inv-loop μ-loop loop-holds shared-slice-read-two-bytes two-bytes-requires
+    wrapping-add-u16-requires add-i loop-less loop-again returns)

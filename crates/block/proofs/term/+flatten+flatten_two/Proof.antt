@@ -50,14 +50,17 @@ module _ (t : ℕ) where
   flatten-two-claims = (and 2 flatten-kinds.ps (falls 2 flatten-kinds.ps _<_ μ-flatten t) flatten.Pre, flatten.Post)
 
   -- what is needed of each, and what is known there
-  abbrev InFlatten : (flatten-lts.Claims → In 2 flatten-kinds.ps → Out 2 flatten-kinds.ps flatten-kinds.r → Type 0) → Type 0
+  abbrev InFlatten : (flatten-lts.Claims → In 2 flatten-kinds.ps → Out 2 flatten-kinds.ps flatten-kinds.r
+      → Type 0) → Type 0
   InFlatten Known = Known flatten-claims flatten-at flatten.Post
 
-  abbrev InTwo : (flatten-two-lts.Claims → In 2 flatten-two-kinds.ps → Out 2 flatten-two-kinds.ps flatten-two-kinds.r → Type 0) → Type 0
+  abbrev InTwo : (flatten-two-lts.Claims → In 2 flatten-two-kinds.ps
+      → Out 2 flatten-two-kinds.ps flatten-two-kinds.r → Type 0) → Type 0
   InTwo Known = Known flatten-two-claims flatten-two-at flatten-two.Post
 
   -- where `flatten` knows the first byte's kind, there is a first byte
-  some-bytes : (c : InFlatten flatten-lts.After-classify) → 0 < length (c .before .before .before .before .before .args .bytes .now)
+  some-bytes : (c : InFlatten flatten-lts.After-classify)
+      → 0 < length (c .before .before .before .before .before .args .bytes .now)
   some-bytes c = omega (arith, c .before .before .if1 .left)
 
   flatten-returns : InFlatten flatten-lts.Need-returns
@@ -98,7 +101,8 @@ module _ (t : ℕ) where
   flatten-same-length c = search needs
 
   flatten-returns-2 : InFlatten flatten-lts.Need-returns-2
-  flatten-returns-2 c = after-first-byte (some-bytes (c .before .before .before .before .before)) (c .before .before .flatten-atom .ensures _)
+  flatten-returns-2 c = after-first-byte (some-bytes (c .before .before .before .before .before))
+      (c .before .before .flatten-atom .ensures _)
 
   flatten-same-length-2 : InFlatten flatten-lts.Need-same-length-2
   flatten-same-length-2 c = search needs
@@ -106,7 +110,8 @@ module _ (t : ℕ) where
   flatten-returns-3 : InFlatten flatten-lts.Need-returns-3
   flatten-returns-3 c =
       let at-kind = c .before .before .before .before .before .before .before in
-      let is-plus = plus-is-128 (rw (c .before .before .before .before .before .enum-told .given .1) at (at-kind .classify .ensures)) in
+      let is-plus = plus-is-128 (rw (c .before .before .before .before .before .enum-told .given .1) at
+      (at-kind .classify .ensures)) in
       after-plus-byte (some-bytes at-kind) is-plus (c .before .before .flatten-two .ensures)
 
   flatten-returns-4 : InFlatten flatten-lts.Need-returns-4
@@ -132,7 +137,8 @@ module _ (t : ℕ) where
       let size = c .before .first .given .0 in
       let after = c .before .before .before .before .before .flatten .last .1 .0 in
       FoundTerm (entry c .args .bytes .now) (entry c .args .buffer .now) (size .0) (size .1 .0) after
-  first-term c = when-found (c .before .before .before .before .before .flatten .ensures) (c .before .first .given .1)
+  first-term c =
+      when-found (c .before .before .before .before .before .flatten .ensures) (c .before .first .given .1)
 
   second-term : (c : AtSecond) →
       let at-first = first-known c in
@@ -141,8 +147,10 @@ module _ (t : ℕ) where
       let filled = at-first .before .first .given .0 .1 .0 in
       let after = at-first .before .before .before .before .before .flatten .last .1 .0 in
       FoundTerm (take (length bytes - used) (drop used bytes)) (take (length after - filled) (drop filled after))
-      (c .before .second .given .0 .0) (c .before .second .given .0 .1 .0) (c .before .before .before .before .before .flatten2 .last .1 .0)
-  second-term c = when-found (c .before .before .before .before .before .flatten2 .ensures) (c .before .second .given .1)
+      (c .before .second .given .0 .0) (c .before .second .given .0 .1 .0)
+      (c .before .before .before .before .before .flatten2 .last .1 .0)
+  second-term c =
+      when-found (c .before .before .before .before .before .flatten2 .ensures) (c .before .second .given .1)
 
   two-flatten-requires : InTwo flatten-two-lts.Need-flatten-requires
   two-flatten-requires c κs = search needs
@@ -157,7 +165,8 @@ module _ (t : ℕ) where
   two-same-length c = search needs
 
   two-returns : InTwo flatten-two-lts.Need-returns
-  two-returns c = nothing (first-missing (when-nothing (c .before .before .before .before .flatten .ensures) (c .enum-told .given .1)))
+  two-returns c = nothing (first-missing
+      (when-nothing (c .before .before .before .before .flatten .ensures) (c .enum-told .given .1)))
 
   two-sub-flatten : InTwo flatten-two-lts.Need-sub-flatten
   two-sub-flatten c = found-sizes (first-term c) .0
@@ -196,16 +205,20 @@ module _ (t : ℕ) where
   two-returns-2 : InTwo flatten-two-lts.Need-returns-2
   two-returns-2 c =
       let at-first = c .before .before .before .before .before .before .before in
-      nothing (second-nothing (first-term at-first) (when-nothing (c .before .before .before .before .flatten2 .ensures) (c .enum-told2 .given .1)))
+      nothing (second-nothing (first-term at-first)
+      (when-nothing (c .before .before .before .before .flatten2 .ensures) (c .enum-told2 .given .1)))
 
   two-add-t12 : InTwo flatten-two-lts.Need-add-t12
-  two-add-t12 c = omega (arith, both-sizes (first-term (first-known c)) (second-term c), entry (first-known c) .good)
+  two-add-t12 c =
+      omega (arith, both-sizes (first-term (first-known c)) (second-term c), entry (first-known c) .good)
 
   two-add-t16 : InTwo flatten-two-lts.Need-add-t16
-  two-add-t16 c = omega (arith, both-sizes (first-term (first-known c)) (second-term c), entry (first-known c) .good)
+  two-add-t16 c =
+      omega (arith, both-sizes (first-term (first-known c)) (second-term c), entry (first-known c) .good)
 
   two-add-t19 : InTwo flatten-two-lts.Need-add-t19
-  two-add-t19 c = omega (arith, both-sizes (first-term (first-known c)) (second-term c), entry (first-known c) .good)
+  two-add-t19 c =
+      omega (arith, both-sizes (first-term (first-known c)) (second-term c), entry (first-known c) .good)
 
   two-same-length-3 : InTwo flatten-two-lts.Need-same-length-3
   two-same-length-3 c = search needs

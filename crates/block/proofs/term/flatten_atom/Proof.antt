@@ -13,7 +13,8 @@ same-length : tie.Need-same-length
 same-length c = search needs
 
 returns : tie.Need-returns
-returns c rest = rw (receives-atom (c .args .buffer .now) (c .args .atom) (c .pre .1)) (found (atom-begins rest (c .pre .0)))
+returns c rest =
+    rw (receives-atom (c .args .buffer .now) (c .args .atom) (c .pre .1)) (found (atom-begins rest (c .pre .0)))
 
 pub flatten-atom-spec : {M : Type 1} → statement M
 flatten-atom-spec = tie.close (tie.spec slice-write-buffer same-length returns)

@@ -14,7 +14,8 @@ found-term :
     let size = c .before .flattened .given .0 in
     let after = c .before .before .before .before .before .flatten .last .1 .0 in
     FoundTerm (entry .args .bytes .now) (entry .args .buffer .now) (size .0) (size .1 .0) after
-found-term c = when-found (c .before .before .before .before .before .flatten .ensures) (c .before .flattened .given .1)
+found-term c =
+    when-found (c .before .before .before .before .before .flatten .ensures) (c .before .flattened .given .1)
 
 flatten-requires : tie.Need-flatten-requires
 flatten-requires c κs = search needs
@@ -29,7 +30,8 @@ same-length : tie.Need-same-length
 same-length c = search needs
 
 returns : tie.Need-returns
-returns c = no-term (nothing-is-no-term (when-nothing (c .before .before .before .before .flatten .ensures) (c .enum-told .given .1)))
+returns c = no-term (nothing-is-no-term
+    (when-nothing (c .before .before .before .before .flatten .ensures) (c .enum-told .given .1)))
 
 same-length-2 : tie.Need-same-length-2
 same-length-2 c = search needs

@@ -1,4 +1,5 @@
--- `block_runs::sum::put_sum` meets its contract. The loop's invariant: the text ends within the buffer, which keeps its length. Assumes nothing.
+-- `block_runs::sum::put_sum` meets its contract. The loop's invariant: the text ends within the buffer, which
+-- keeps its length. Assumes nothing.
 use Prim.Native.Nat.{_≤_, _-_}
 use mathlib.Core.Path.{_≡_}
 use native.Mathlib.Omega.{arith}
@@ -8,7 +9,8 @@ use Rattle.block_runs.proofs.sum.put_sum.Statement.{statement}
 use Rattle.block_runs.proofs.sum.put_sum.Tie as tie
 
 abbrev Inv-loop : tie.InvT-loop
-Inv-loop line₀ at atoms end₀ i₀ i-end line end i = (length line ≡ length line₀) × (end ≤ length line) × (i ≤ i-end) × (i-end ≡ length atoms)
+Inv-loop line₀ at atoms end₀ i₀ i-end line end i =
+    (length line ≡ length line₀) × (end ≤ length line) × (i ≤ i-end) × (i-end ≡ length atoms)
 
 abbrev μ-loop : tie.MeasureT-loop
 μ-loop line₀ at atoms end₀ i₀ i-end line end i = i-end - i

@@ -1,4 +1,5 @@
--- `nightly::ask::ask` meets its contract: the sides that Read gave fit their buffers, and are asked about. Assumes nothing.
+-- `nightly::ask::ask` meets its contract: the sides that Read gave fit their buffers, and are asked about.
+-- Assumes nothing.
 use native.Mathlib.Omega.{arith}
 use Prim.Native.Nat.{_≤_}
 use mathlib.Core.Path.{sym}
@@ -25,18 +26,42 @@ right-length-requires : tie.Need-right-length-requires
 right-length-requires c κs = search needs
 
 array-share-prefix-left : tie.Need-array-share-prefix-left
-array-share-prefix-left c = omega (arith, c .before .left-length .ensures, left-fits (c .before .before .before .before .read .result) (c .before .before .before .before .read .ensures))
+array-share-prefix-left c = omega (
+  arith,
+  c .before .left-length .ensures,
+  left-fits
+      (c .before .before .before .before .read .result) (c .before .before .before .before .read .ensures),
+)
 
 slice-aggregate-ask-sides : tie.Need-slice-aggregate-ask-sides
-slice-aggregate-ask-sides c = let within : c .before .before .left-length .result ≤ length (c .before .before .before .before .before .read .last .1 .1 .0) = omega (arith, c .before .before .left-length .ensures, left-fits (c .before .before .before .before .before .read .result) (c .before .before .before .before .before .read .ensures)) in
-    sym (length-take-le (c .before .before .left-length .result) (c .before .before .before .before .before .read .last .1 .1 .0) within)
+slice-aggregate-ask-sides c = let within : c .before .before .left-length .result
+    ≤ length (c .before .before .before .before .before .read .last .1 .1 .0) = omega (
+      arith,
+      c .before .before .left-length .ensures,
+      left-fits (c .before .before .before .before .before .read .result)
+          (c .before .before .before .before .before .read .ensures),
+    ) in
+    sym (length-take-le (c .before .before .left-length .result)
+    (c .before .before .before .before .before .read .last .1 .1 .0) within)
 
 array-share-prefix-right : tie.Need-array-share-prefix-right
-array-share-prefix-right c = omega (arith, c .before .right-length .ensures, right-fits (c .before .before .before .before .before .read .result) (c .before .before .before .before .before .read .ensures))
+array-share-prefix-right c = omega (
+  arith,
+  c .before .right-length .ensures,
+  right-fits (c .before .before .before .before .before .read .result)
+      (c .before .before .before .before .before .read .ensures),
+)
 
 slice-aggregate-ask-sides-2 : tie.Need-slice-aggregate-ask-sides-2
-slice-aggregate-ask-sides-2 c = let within : c .before .before .right-length .result ≤ length (c .before .before .before .before .before .before .read .last .1 .1 .1 .0) = omega (arith, c .before .before .right-length .ensures, right-fits (c .before .before .before .before .before .before .read .result) (c .before .before .before .before .before .before .read .ensures)) in
-    sym (length-take-le (c .before .before .right-length .result) (c .before .before .before .before .before .before .read .last .1 .1 .1 .0) within)
+slice-aggregate-ask-sides-2 c = let within : c .before .before .right-length .result
+    ≤ length (c .before .before .before .before .before .before .read .last .1 .1 .1 .0) = omega (
+      arith,
+      c .before .before .right-length .ensures,
+      right-fits (c .before .before .before .before .before .before .read .result)
+          (c .before .before .before .before .before .before .read .ensures),
+    ) in
+    sym (length-take-le (c .before .before .right-length .result)
+    (c .before .before .before .before .before .before .read .last .1 .1 .1 .0) within)
 
 ask-sides-requires : tie.Need-ask-sides-requires
 ask-sides-requires c κs = search needs
@@ -45,7 +70,10 @@ same-length : tie.Need-same-length
 same-length c = search needs
 
 returns : tie.Need-returns
-returns c = block-asked (c .before .before .before .before .before .before .before .before .before .before .read .ensures) (c .before .before .before .before .before .before .before .left-length .ensures) (c .before .before .before .before .before .before .right-length .ensures) (c .before .before .ask-sides .ensures)
+returns c = block-asked (c .before .before .before .before .before .before .before .before .before .before
+    .read .ensures) (c .before .before .before .before .before .before .before .left-length .ensures)
+    (c .before .before .before .before .before .before .right-length .ensures)
+    (c .before .before .ask-sides .ensures)
 
 pub ask-spec : {M : Type 1} → statement M
 ask-spec =

@@ -1,4 +1,5 @@
--- `nightly::ask::ask_sides` meets its contract: what solving refuses, Rows and Page refuse; a solved pair they answer. Assumes nothing.
+-- `nightly::ask::ask_sides` meets its contract: what solving refuses, Rows and Page refuse; a solved pair
+-- they answer. Assumes nothing.
 use native.Mathlib.Omega.{arith}
 use mathlib.Core.Path.{_≡_, refl}
 use Prim.Native.Nat.{ℕ}
@@ -22,18 +23,24 @@ slice-aggregate-rows-of : tie.Need-slice-aggregate-rows-of
 slice-aggregate-rows-of c = search needs
 
 rows-of-requires : tie.Need-rows-of-requires
-rows-of-requires c κs = (c .before .before .before .before .solve .ensures .the-table (c .before .enum-told .given .1) .within, omega arith)
+rows-of-requires c κs = (
+  c .before .before .before .before .solve .ensures .the-table (c .before .enum-told .given .1) .within,
+  omega arith,
+)
 
 page-of-requires : tie.Need-page-of-requires
-page-of-requires c κs = c .before .before .before .before .before .before .before .solve .ensures .the-table (c .before .before .before .before .enum-told .given .1) .within
+page-of-requires c κs = c .before .before .before .before .before .before .before .solve .ensures .the-table
+    (c .before .before .before .before .enum-told .given .1) .within
 
 returns : tie.Need-returns
-returns c = let first = c .before .before .before .before .solve .ensures .refused _ (c .before .verdict .given .1) in
+returns c = let first =
+    c .before .before .before .before .solve .ensures .refused _ (c .before .verdict .given .1) in
     record {
       same-read = refl;
       rows-after = _;
       rows-promise = sides-refused (omega arith) first;
-      page-promise = is-refused (first-of-sides (c .before .before .before .before .before .before .before .before .pre) first);
+      page-promise = is-refused (first-of-sides
+          (c .before .before .before .before .before .before .before .before .pre) first);
       the-table = λ e. absurd (let z : _≡_ {A = ℕ} 0 1 = cc e in omega arith);
     }
 
@@ -41,13 +48,16 @@ same-length : tie.Need-same-length
 same-length c = search needs
 
 returns-2 : tie.Need-returns-2
-returns-2 c = let solved = c .before .before .before .before .before .before .before .before .before .before .solve .ensures in
+returns-2 c = let solved =
+    c .before .before .before .before .before .before .before .before .before .before .solve .ensures in
     let accepted = c .before .before .before .before .before .before .before .enum-told .given .1 in
     record {
       same-read = refl;
       rows-after = _;
-      rows-promise = c .before .before .before .before .before .rows-of .ensures _ _ _ (solved .the-table accepted) (solved .none-given accepted);
-      page-promise = c .before .before .page-of .ensures _ _ _ refl (solved .the-table accepted) (solved .none-given accepted);
+      rows-promise = c .before .before .before .before .before .rows-of .ensures _ _ _
+          (solved .the-table accepted) (solved .none-given accepted);
+      page-promise = c .before .before .page-of .ensures _ _ _ refl (solved .the-table accepted)
+          (solved .none-given accepted);
       the-table = λ e. solved .the-table accepted;
     }
 

@@ -6,7 +6,8 @@ use Rattle.nightly.proofs.print.flush.Statement.{statement}
 use Rattle.nightly.proofs.print.flush.Tie as tie
 
 slice-aggregate-write-all : tie.Need-slice-aggregate-write-all
-slice-aggregate-write-all c = sym (length-take-le (c .before .before .args .at) (c .before .before .args .output .now) (c .before .before .pre))
+slice-aggregate-write-all c = sym (length-take-le (c .before .before .args .at)
+    (c .before .before .args .output .now) (c .before .before .pre))
 
 write-all-requires : tie.Need-write-all-requires
 write-all-requires c κs = search needs

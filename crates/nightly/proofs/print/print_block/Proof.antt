@@ -24,8 +24,19 @@ returns : tie.Need-returns
 returns c = search needs
 
 print-page-requires : tie.Need-print-page-requires
-print-page-requires c κs = let same = c .before .before .before .before .before .before .print-block-line .kept .1 .1 .0 in
-    (c .before .before .before .before .before .before .before .before .before .before .pre .0, (omega (arith, same, inside-at (c .before .before .first .given .1) (c .before .before .before .before .before .before .print-block-line .ensures)), omega (arith, same)))
+print-page-requires c κs = let same =
+    c .before .before .before .before .before .before .print-block-line .kept .1 .1 .0 in (
+      c .before .before .before .before .before .before .before .before .before .before .pre .0,
+      (
+        omega (
+          arith,
+          same,
+          inside-at (c .before .before .first .given .1)
+              (c .before .before .before .before .before .before .print-block-line .ensures),
+        ),
+        omega (arith, same),
+      ),
+    )
 
 enum-known-second : tie.Need-enum-known-second
 enum-known-second c = search needs
@@ -40,14 +51,30 @@ returns-2 : tie.Need-returns-2
 returns-2 c = search needs
 
 print-end-line-requires : tie.Need-print-end-line-requires
-print-end-line-requires c κs = let same = c .before .before .before .before .before .before .print-page .kept .1 .1 .1 .0 in
-    (omega (arith, same, inside-at (c .before .before .second .given .1) (c .before .before .before .before .before .before .print-page .ensures)), omega (arith, same, c .before .before .before .before .before .before .before .before .before .before .before .before .before .print-block-line .kept .1 .1 .0))
+print-end-line-requires c κs = let same =
+    c .before .before .before .before .before .before .print-page .kept .1 .1 .1 .0 in (
+      omega (
+        arith,
+        same,
+        inside-at (c .before .before .second .given .1)
+            (c .before .before .before .before .before .before .print-page .ensures),
+      ),
+      omega (
+        arith,
+        same,
+        c .before .before .before .before .before .before .before .before .before .before
+            .before .before .before .print-block-line .kept .1 .1 .0,
+      ),
+    )
 
 same-length-3 : tie.Need-same-length-3
 same-length-3 c = search needs
 
 returns-3 : tie.Need-returns-3
-returns-3 c = subst (λ n. Inside n (c .before .before .print-end-line .result)) (c .before .before .before .before .before .before .before .before .before .print-page .kept .1 .1 .1 .0 ∙ c .before .before .before .before .before .before .before .before .before .before .before .before .before .before .before .before .print-block-line .kept .1 .1 .0) (c .before .before .print-end-line .ensures)
+returns-3 c = subst (λ n. Inside n (c .before .before .print-end-line .result))
+    (c .before .before .before .before .before .before .before .before .before .print-page .kept .1 .1 .1 .0
+    ∙ c .before .before .before .before .before .before .before .before .before .before .before .before
+    .before .before .before .before .print-block-line .kept .1 .1 .0) (c .before .before .print-end-line .ensures)
 
 pub print-block-spec : {M : Type 1} → statement M
 print-block-spec =

@@ -18,7 +18,8 @@ loop-holds : tie.Need-loop-holds Inv-loop μ-loop
 loop-holds c = (refl, omega arith)
 
 make-room-requires : tie.Need-make-room-requires Inv-loop μ-loop
-make-room-requires c κs = (omega (arith, c .before .before .loop .inv .0), omega (arith, c .before .before .loop .inv .0))
+make-room-requires c κs =
+    (omega (arith, c .before .before .loop .inv .0), omega (arith, c .before .before .loop .inv .0))
 
 enum-known-place : tie.Need-enum-known-place Inv-loop μ-loop
 enum-known-place c = search needs
@@ -39,7 +40,11 @@ shared-slice-read-put-key : tie.Need-shared-slice-read-put-key Inv-loop μ-loop
 shared-slice-read-put-key c = omega arith
 
 put-key-requires : tie.Need-put-key-requires Inv-loop μ-loop
-put-key-requires c κs = (c .before .before .before .before .before .before .before .before .before .before .before .pre .0, room-at (c .before .before .before .place .given .1) (c .before .before .before .before .before .make-room .ensures))
+put-key-requires c κs = (
+  c .before .before .before .before .before .before .before .before .before .before .before .pre .0,
+  room-at (c .before .before .before .place .given .1)
+      (c .before .before .before .before .before .make-room .ensures),
+)
 
 add-i : tie.Need-add-i Inv-loop μ-loop
 add-i c = omega arith
@@ -48,7 +53,17 @@ loop-less : tie.Need-loop-less Inv-loop μ-loop
 loop-less c = omega arith
 
 loop-again : tie.Need-loop-again Inv-loop μ-loop
-loop-again c = (c .before .before .put-key .kept .1 .1 .0 ∙ c .before .before .before .before .before .before .before .before .before .before .before .loop .inv .0, omega (arith, room-at (c .before .before .before .before .before .before .place .given .1) (c .before .before .before .before .before .before .before .before .make-room .ensures), c .before .before .put-key .ensures .0, c .before .before .before .before .before .before .before .before .before .before .before .loop .inv .0))
+loop-again c = (
+  c .before .before .put-key .kept .1 .1 .0
+      ∙ c .before .before .before .before .before .before .before .before .before .before .before .loop .inv .0,
+  omega (
+    arith,
+    room-at (c .before .before .before .before .before .before .place .given .1)
+        (c .before .before .before .before .before .before .before .before .make-room .ensures),
+    c .before .before .put-key .ensures .0,
+    c .before .before .before .before .before .before .before .before .before .before .before .loop .inv .0,
+  ),
+)
 
 same-length-2 : tie.Need-same-length-2 Inv-loop μ-loop
 same-length-2 c = c .before .loop .inv .0

@@ -10,10 +10,19 @@ enum-known-page : tie.Need-enum-known-page
 enum-known-page c = search needs
 
 slice-aggregate-print-keys : tie.Need-slice-aggregate-print-keys
-slice-aggregate-print-keys c = sym (length-take-le (c .before .before .page .given .0 .0) (c .before .before .before .before .before .before .args .keys .now) (ready-page (c .before .before .page .given .1) (c .before .before .before .before .before .before .pre .0) .0))
+slice-aggregate-print-keys c = sym (length-take-le (c .before .before .page .given .0 .0)
+    (c .before .before .before .before .before .before .args .keys .now)
+    (ready-page (c .before .before .page .given .1) (c .before .before .before .before .before .before .pre .0) .0))
 
 print-keys-requires : tie.Need-print-keys-requires
-print-keys-requires c κs = (ready-page (c .before .before .before .page .given .1) (c .before .before .before .before .before .before .before .pre .0) .1, (c .before .before .before .before .before .before .before .pre .1 .0, c .before .before .before .before .before .before .before .pre .1 .1))
+print-keys-requires c κs = (
+  ready-page (c .before .before .before .page .given .1)
+      (c .before .before .before .before .before .before .before .pre .0) .1,
+  (
+    c .before .before .before .before .before .before .before .pre .1 .0,
+    c .before .before .before .before .before .before .before .pre .1 .1,
+  ),
+)
 
 enum-told : tie.Need-enum-told
 enum-told c = search needs

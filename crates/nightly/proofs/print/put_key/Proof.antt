@@ -28,7 +28,12 @@ enum-told : tie.Need-enum-told
 enum-told c = search needs
 
 returns : tie.Need-returns
-returns c = (omega arith, λ M L R full of listed. KeyLine.too-long (refused-is-long (c .before .before .before .write .ensures M L R full of listed) (ap told (c .enum-told .given .1))))
+returns c = (
+  omega arith,
+  λ M L R full of listed. KeyLine.too-long
+      (refused-is-long (c .before .before .before .write .ensures M L R full of listed)
+      (ap told (c .enum-told .given .1))),
+)
 
 least-requires : tie.Need-least-requires
 least-requires c κs = search needs
@@ -37,23 +42,52 @@ array-share-prefix-bytes : tie.Need-array-share-prefix-bytes
 array-share-prefix-bytes c = search needs
 
 slice-aggregate-put-substitution-line : tie.Need-slice-aggregate-put-substitution-line
-slice-aggregate-put-substitution-line c = let within : c .before .before .least .result ≤ length (c .before .before .before .before .before .before .before .write .last .1 .1 .0) = omega (arith, c .before .before .least .ensures, c .before .before .before .before .before .before .before .write .kept .1 .1 .0) in
-    sym (length-take-le (c .before .before .least .result) (c .before .before .before .before .before .before .before .write .last .1 .1 .0) within)
+slice-aggregate-put-substitution-line c = let within : c .before .before .least .result
+    ≤ length (c .before .before .before .before .before .before .before .write .last .1 .1 .0) = omega (
+      arith,
+      c .before .before .least .ensures,
+      c .before .before .before .before .before .before .before .write .kept .1 .1 .0,
+    ) in
+    sym (length-take-le (c .before .before .least .result)
+    (c .before .before .before .before .before .before .before .write .last .1 .1 .0) within)
 
 put-substitution-line-requires : tie.Need-put-substitution-line-requires
-put-substitution-line-requires c κs = omega (arith, c .before .before .least .ensures, length-take (c .before .before .least .result) (c .before .before .before .before .before .before .before .write .last .1 .1 .0))
+put-substitution-line-requires c κs = omega (
+  arith,
+  c .before .before .least .ensures,
+  length-take (c .before .before .least .result)
+      (c .before .before .before .before .before .before .before .write .last .1 .1 .0),
+)
 
 same-length : tie.Need-same-length
 same-length c = search needs
 
 returns-2 : tie.Need-returns-2
-returns-2 c = let bytes = c .before .before .before .before .before .before .before .before .before .before .write .last .1 .1 .0 in
-    let all : min (c .before .before .before .before .before .before .before .answer .given .0 .0) (length bytes) ≡ c .before .before .before .before .before .least .result = omega (arith, c .before .before .before .before .before .least .ensures, c .before .before .before .before .before .before .before .before .before .before .write .kept .1 .1 .0) in (
-      omega (arith, c .before .before .put-substitution-line .ensures .1, c .before .before .before .before .before .least .ensures, length-take (c .before .before .before .before .before .least .result) bytes),
+returns-2 c = let bytes =
+    c .before .before .before .before .before .before .before .before .before .before .write .last .1 .1 .0 in
+    let all : min (c .before .before .before .before .before .before .before .answer .given .0 .0)
+    (length bytes) ≡ c .before .before .before .before .before .least .result = omega (
+      arith,
+      c .before .before .before .before .before .least .ensures,
+      c .before .before .before .before .before .before .before .before .before .before .write .kept .1 .1 .0,
+    ) in (
+      omega (
+        arith,
+        c .before .before .put-substitution-line .ensures .1,
+        c .before .before .before .before .before .least .ensures,
+        length-take (c .before .before .before .before .before .least .result) bytes,
+      ),
       λ M L R full of listed.
           KeyLine.line
-          (c .before .before .put-substitution-line .ensures .0 (bindingsOf M L R (c .before .before .before .before .before .before .before .before .before .before .before .before .before .args .table) (c .before .before .before .before .before .before .before .before .before .before .before .before .before .args .key))
-          (written-values (c .before .before .before .before .before .before .before .before .before .before .write .ensures M L R full of listed) (ap told (c .before .before .before .before .before .before .before .answer .given .1)) ∙ ap (λ (k : ℕ). take k bytes) all)),
+          (c .before .before .put-substitution-line .ensures .0
+          (bindingsOf M L R (c .before .before .before .before .before .before .before .before .before
+          .before .before .before .before .args .table)
+          (c .before .before .before .before .before .before .before .before .before .before .before
+          .before .before .args .key))
+          (written-values (c .before .before .before .before .before .before .before .before .before .before
+          .write .ensures M L R full of listed)
+          (ap told (c .before .before .before .before .before .before .before .answer .given .1))
+          ∙ ap (λ (k : ℕ). take k bytes) all)),
     )
 
 pub put-key-spec : {M : Type 1} → statement M

@@ -1,4 +1,5 @@
--- `probe::answer::put_numbers` meets its contract. The loop's invariant: the text ends within the answers, which keep their length. Assumes nothing.
+-- `probe::answer::put_numbers` meets its contract. The loop's invariant: the text ends within the answers,
+-- which keep their length. Assumes nothing.
 use Prim.Native.Nat.{_≤_, _-_}
 use mathlib.Core.Path.{_≡_}
 use lib.ListN.{length}
@@ -7,7 +8,8 @@ use Rattle.probe.proofs.answer.put_numbers.Statement.{statement}
 use Rattle.probe.proofs.answer.put_numbers.Tie as tie
 
 abbrev Inv-loop : tie.InvT-loop
-Inv-loop answers₀ at numbers end₀ i₀ i-end answers end i = (length answers ≡ length answers₀) × (end ≤ length answers) × (i ≤ i-end) × (i-end ≡ length numbers)
+Inv-loop answers₀ at numbers end₀ i₀ i-end answers end i =
+    (length answers ≡ length answers₀) × (end ≤ length answers) × (i ≤ i-end) × (i-end ≡ length numbers)
 
 abbrev μ-loop : tie.MeasureT-loop
 μ-loop answers₀ at numbers end₀ i₀ i-end answers end i = i-end - i

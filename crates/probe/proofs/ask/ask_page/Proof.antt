@@ -1,4 +1,5 @@
--- `probe::ask::ask_page` meets its contract: the part that is lent lies within the buffer, which keeps its length. Assumes nothing.
+-- `probe::ask::ask_page` meets its contract: the part that is lent lies within the buffer, which keeps its
+-- length. Assumes nothing.
 use mathlib.Core.Path.{sym}
 use native.Mathlib.Omega.{arith}
 use lib.ListN.{length-take}
@@ -35,8 +36,13 @@ array-share-prefix-keys : tie.Need-array-share-prefix-keys
 array-share-prefix-keys c =
     let at-call = c .before .before .before .before .before .before .before in
     let at-lent = at-call .before .before .before .before in
-    omega
-    (arith, at-lent .lent-numbers .ensures, at-call .before .before .before .least .ensures, length-front (at-lent .lent-numbers .result) (at-call .page .last .1 .1 .1 .0) (at-call .before .before .before .least .result) (at-call .page .kept .1 .1 .1 .0))
+    omega (
+      arith,
+      at-lent .lent-numbers .ensures,
+      at-call .before .before .before .least .ensures,
+      length-front (at-lent .lent-numbers .result) (at-call .page .last .1 .1 .1 .0)
+          (at-call .before .before .before .least .result) (at-call .page .kept .1 .1 .1 .0),
+    )
 
 slice-aggregate-put-numbers : tie.Need-slice-aggregate-put-numbers
 slice-aggregate-put-numbers c = sym (length-take-le _ _ (array-share-prefix-keys (c .before)))

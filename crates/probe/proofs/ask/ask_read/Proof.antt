@@ -1,4 +1,5 @@
--- `probe::ask::ask_read` meets its contract: the parts that are lent lie within the buffers, which keep their lengths. Assumes nothing.
+-- `probe::ask::ask_read` meets its contract: the parts that are lent lie within the buffers, which keep their
+-- lengths. Assumes nothing.
 use mathlib.Core.Path.{sym, _∙_}
 use native.Mathlib.Omega.{arith}
 use lib.ListN.{length-take}
@@ -47,7 +48,8 @@ slice-aggregate-front : tie.Need-slice-aggregate-front
 slice-aggregate-front c =
     let at-call = c .before .before .before .before .before .before .before .before .before in
     let at-lent = at-call .before .before .before .before .before .before .before in
-    at-lent .lent .ensures ∙ sym (length-front (at-lent .lent .result) (at-call .read .last .1 .1 .0) (at-call .before .before .before .before .before .least .result) (at-call .read .kept .1 .1 .0))
+    at-lent .lent .ensures ∙ sym (length-front (at-lent .lent .result) (at-call .read .last .1 .1 .0)
+    (at-call .before .before .before .before .before .least .result) (at-call .read .kept .1 .1 .0))
 
 front-requires : tie.Need-front-requires
 front-requires c κs = search needs
@@ -57,9 +59,11 @@ put-requires c κs = search needs
 
 slice-aggregate-front-2 : tie.Need-slice-aggregate-front-2
 slice-aggregate-front-2 c =
-    let at-call = c .before .before .before .before .before .before .before .before .before .before .before .before .before .before .before in
+    let at-call = c .before .before .before .before .before .before .before .before .before .before .before
+    .before .before .before .before in
     let at-lent = at-call .before .before .before .before .before .before in
-    at-lent .lent2 .ensures ∙ sym (length-front (at-lent .lent2 .result) (at-call .read .last .1 .1 .1 .0) (at-call .before .before .before .before .least2 .result) (at-call .read .kept .1 .1 .1 .0))
+    at-lent .lent2 .ensures ∙ sym (length-front (at-lent .lent2 .result) (at-call .read .last .1 .1 .1 .0)
+    (at-call .before .before .before .before .least2 .result) (at-call .read .kept .1 .1 .1 .0))
 
 front-requires-2 : tie.Need-front-requires-2
 front-requires-2 c κs = search needs

@@ -1,4 +1,5 @@
--- `probe::ask::ask_rows` meets its contract: the part that is lent lies within the buffer, which keeps its length. Assumes nothing.
+-- `probe::ask::ask_rows` meets its contract: the part that is lent lies within the buffer, which keeps its
+-- length. Assumes nothing.
 use mathlib.Core.Path.{sym, _∙_}
 use native.Mathlib.Omega.{arith}
 use lib.ListN.{length-take}
@@ -32,7 +33,8 @@ slice-aggregate-front : tie.Need-slice-aggregate-front
 slice-aggregate-front c =
     let at-call = c .before .before .before .before .before .before .before .before in
     let at-lent = at-call .before .before .before in
-    at-lent .lent .ensures ∙ sym (length-front (at-lent .lent .result) (at-call .rows .last .1 .1 .0) (at-call .before .before .least .result) (at-call .rows .kept .1 .1 .0))
+    at-lent .lent .ensures ∙ sym (length-front (at-lent .lent .result) (at-call .rows .last .1 .1 .0)
+    (at-call .before .before .least .result) (at-call .rows .kept .1 .1 .0))
 
 front-requires : tie.Need-front-requires
 front-requires c κs = search needs

@@ -1,5 +1,5 @@
--- `rows::kept::keep` meets its contract: a row found is lower, or none is and there is no room left, or none is and the vector is put behind them.
--- Assumes nothing.
+-- `rows::kept::keep` meets its contract: a row found is lower, or none is and there is no room left, or none
+-- is and the vector is put behind them. Assumes nothing.
 use Prim.Native.Nat.{_<_}
 use native.Mathlib.Omega.{arith}
 use native.Mathlib.Nat.{mul-le-mul-right}
@@ -11,13 +11,18 @@ use Rattle.rows.proofs.kept.keep.Statement.{statement}
 use Rattle.rows.proofs.kept.keep.Tie as tie
 
 lower-requires : tie.Need-lower-requires
-lower-requires c κs = omega (arith, mul-le-mul-right (length (c .before .before .before .args .vector .now)) (c .before .before .before .pre .0))
+lower-requires c κs = omega (
+  arith,
+  mul-le-mul-right (length (c .before .before .before .args .vector .now))
+      (c .before .before .before .pre .0),
+)
 
 same-length : tie.Need-same-length
 same-length c = search needs
 
 returns : tie.Need-returns
-returns c = keeps-lower (c .before .before .before .before .before .pre .0) (c .before .lower .ensures .so (c .if1 .taken))
+returns c = keeps-lower (c .before .before .before .before .before .pre .0)
+    (c .before .lower .ensures .so (c .if1 .taken))
 
 add-result : tie.Need-add-result
 add-result c = search needs

@@ -1,5 +1,5 @@
--- `rows::kept::lower` meets its contract: the rows before the one that is tried are not below the vector, and the places before the one that is
--- compared are fine. Assumes nothing.
+-- `rows::kept::lower` meets its contract: the rows before the one that is tried are not below the vector, and
+-- the places before the one that is compared are fine. Assumes nothing.
 use Prim.Native.Nat.{_-_}
 use native.Mathlib.Omega.{arith}
 use mathlib.Core.Path.{_≡_, refl, sym, _∙_}
@@ -27,7 +27,12 @@ rows-holds c = (tried-none, refl)
 mul-start : tie.Need-mul-start Inv-places μ-places Inv-rows μ-rows
 mul-start c =
     let entry = c .before .before in
-    omega (arith, row-within (length (entry .args .vector .now)) (c .rows-test .taken), entry .pre, entry .good .0 .0)
+    omega (
+      arith,
+      row-within (length (entry .args .vector .now)) (c .rows-test .taken),
+      entry .pre,
+      entry .good .0 .0,
+    )
 
 places-holds : tie.Need-places-holds Inv-places μ-places Inv-rows μ-rows
 places-holds c = (compared-none, c .before .rows .inv .1)
@@ -40,14 +45,25 @@ add-if2 c =
     let at-places = c .before .before in
     let at-rows-test = at-places .before in
     let entry = at-rows-test .before .before in
-    omega (arith, at-places .places .inv .0 .within, row-within (length (entry .args .vector .now)) (at-rows-test .rows-test .taken), entry .pre, entry .good .0 .0)
+    omega (
+      arith,
+      at-places .places .inv .0 .within,
+      row-within (length (entry .args .vector .now)) (at-rows-test .rows-test .taken),
+      entry .pre,
+      entry .good .0 .0,
+    )
 
 shared-slice-read-if2-2 : tie.Need-shared-slice-read-if2-2 Inv-places μ-places Inv-rows μ-rows
 shared-slice-read-if2-2 c =
     let at-places = c .before .before .before in
     let at-rows-test = at-places .before in
     let entry = at-rows-test .before .before in
-    omega (arith, at-places .places .inv .0 .within, row-within (length (entry .args .vector .now)) (at-rows-test .rows-test .taken), entry .pre)
+    omega (
+      arith,
+      at-places .places .inv .0 .within,
+      row-within (length (entry .args .vector .now)) (at-rows-test .rows-test .taken),
+      entry .pre,
+    )
 
 add-place : tie.Need-add-place Inv-places μ-places Inv-rows μ-rows
 add-place c =
@@ -60,8 +76,11 @@ places-less c = omega (arith, c .before .before .before .before .places .inv .0 
 
 places-again : tie.Need-places-again Inv-places μ-places Inv-rows μ-rows
 places-again c =
-    let at-places = c .before .before .before .before in
-    (compared-more (at-places .places .inv .0) (omega (arith, at-places .places .inv .0 .within)) (c .if2 .left), at-places .places .inv .1)
+    let at-places = c .before .before .before .before in (
+      compared-more (at-places .places .inv .0) (omega (arith, at-places .places .inv .0 .within))
+          (c .if2 .left),
+      at-places .places .inv .1,
+    )
 
 add-row : tie.Need-add-row Inv-places μ-places Inv-rows μ-rows
 add-row c = omega arith
@@ -72,8 +91,10 @@ rows-less c = omega arith
 rows-again : tie.Need-rows-again Inv-places μ-places Inv-rows μ-rows
 rows-again c =
     let at-places = c .before .before .before .before in
-    let at-rows = at-places .before .before in
-    (tried-more (at-rows .rows .inv .0) (omega (arith, at-places .places .inv .0 .within)) (c .if2 .taken), at-places .places .inv .1)
+    let at-rows = at-places .before .before in (
+      tried-more (at-rows .rows .inv .0) (omega (arith, at-places .places .inv .0 .within)) (c .if2 .taken),
+      at-places .places .inv .1,
+    )
 
 returns : tie.Need-returns Inv-places μ-places Inv-rows μ-rows
 returns c = record {
@@ -83,7 +104,8 @@ returns c = record {
 
 returns-2 : tie.Need-returns-2 Inv-places μ-places Inv-rows μ-rows
 returns-2 c = record {
-  so = λ t. compared-all (c .before .places .inv .0) (c .if1 .taken) (c .before .before .rows-test .taken) (c .before .before .before .before .pre);
+  so = λ t. compared-all (c .before .places .inv .0) (c .if1 .taken) (c .before .before .rows-test .taken)
+      (c .before .before .before .before .pre);
   not-so = λ f. absurd (true≢false f);
 }
 

@@ -14,12 +14,15 @@ record Copied (bytes₀ row : List ℕ) (start : ℕ) (bytes : List ℕ) (place 
   within : place ≤ length row
   copied : bytes ≡ paste bytes₀ start row place
 
-module _ {bytes₀ row : List ℕ} {start : ℕ} {bytes : List ℕ} {place : ℕ} (d : Copied bytes₀ row start bytes place) (room : start + length row ≤ length bytes₀) where
+module _ {bytes₀ row : List ℕ} {start : ℕ} {bytes : List ℕ} {place : ℕ}
+    (d : Copied bytes₀ row start bytes place) (room : start + length row ≤ length bytes₀) where
   length-copied : length bytes ≡ length bytes₀
   length-copied =
-      ap length (d .copied) ∙ length-paste bytes₀ start row place (let h : start + place ≤ length bytes₀ = omega (arith, d .within) in h) (d .within)
+      ap length (d .copied) ∙ length-paste bytes₀ start row place
+      (let h : start + place ≤ length bytes₀ = omega (arith, d .within) in h) (d .within)
 
-  copied-more : place < length row → Copied bytes₀ row start (set bytes (start + place) (getD row place 0)) (place + 1)
+  copied-more : place < length row
+      → Copied bytes₀ row start (set bytes (start + place) (getD row place 0)) (place + 1)
   copied-more h =
       record {
         within = omega arith;
@@ -41,7 +44,10 @@ abbrev μ-loop : tie.MeasureT-loop
 μ-loop rows₀ start row place₀ rows place = length row - place
 
 loop-holds : tie.Need-loop-holds Inv-loop μ-loop
-loop-holds c = record { within = omega arith; copied = paste-zero (c .args .rows .now) (c .args .start) (c .args .row .now) }
+loop-holds c = record {
+  within = omega arith;
+  copied = paste-zero (c .args .rows .now) (c .args .start) (c .args .row .now);
+}
 
 shared-slice-read-rows : tie.Need-shared-slice-read-rows Inv-loop μ-loop
 shared-slice-read-rows c = omega arith
@@ -59,7 +65,8 @@ loop-less : tie.Need-loop-less Inv-loop μ-loop
 loop-less c = omega arith
 
 loop-again : tie.Need-loop-again Inv-loop μ-loop
-loop-again c = copied-more (c .before .before .loop .inv) (c .before .before .before .pre) (c .before .loop-test .taken)
+loop-again c =
+    copied-more (c .before .before .loop .inv) (c .before .before .before .pre) (c .before .loop-test .taken)
 
 same-length : tie.Need-same-length Inv-loop μ-loop
 same-length c = length-copied (c .before .loop .inv) (c .before .before .pre)

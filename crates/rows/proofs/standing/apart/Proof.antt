@@ -12,7 +12,11 @@ times-requires : tie.Need-times-requires
 times-requires c κs = search needs
 
 add-if1 : tie.Need-add-if1
-add-if1 c = omega (arith, mul-le-mul-left (c .before .before .args .at .up) (let h : c .before .before .args .lift ≤ 255 = omega arith in h))
+add-if1 c = omega (
+  arith,
+  mul-le-mul-left (c .before .before .args .at .up)
+      (let h : c .before .before .args .lift ≤ 255 = omega arith in h),
+)
 
 returns : tie.Need-returns
 returns c = λ t. left-short (omega arith)

@@ -12,7 +12,8 @@ times-requires c κs = search needs
 add-a : tie.Need-add-a
 add-a c =
     let entry = c .before .before in
-    let room = room-after {l = entry .args .left} {r = entry .args .right} {n = entry .args .number} (entry .pre .1) (omega arith) (omega arith) (entry .pre .0) in
+    let room = room-after {l = entry .args .left} {r = entry .args .right} {n = entry .args .number}
+    (entry .pre .1) (omega arith) (omega arith) (entry .pre .0) in
     omega (arith, c .before .times .ensures, room .left-room)
 
 times-requires-2 : tie.Need-times-requires-2
@@ -21,7 +22,8 @@ times-requires-2 c κs = search needs
 add-b : tie.Need-add-b
 add-b c =
     let entry = c .before .before .before .before in
-    let room = room-after {l = entry .args .left} {r = entry .args .right} {n = entry .args .number} (entry .pre .1) (omega arith) (omega arith) (entry .pre .0) in
+    let room = room-after {l = entry .args .left} {r = entry .args .right} {n = entry .args .number}
+    (entry .pre .1) (omega arith) (omega arith) (entry .pre .0) in
     omega (arith, c .before .times2 .ensures, room .right-room)
 
 sub-t10 : tie.Need-sub-t10

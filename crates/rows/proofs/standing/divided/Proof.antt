@@ -1,4 +1,5 @@
--- `rows::standing::divided` meets its contract: only the quotient can lift the lower sum to the higher one. Assumes nothing.
+-- `rows::standing::divided` meets its contract: only the quotient can lift the lower sum to the higher one.
+-- Assumes nothing.
 use native.Mathlib.Omega.{arith}
 use mathlib.Core.Path.{ap}
 use Prim.Native.Nat.{_-_, _/_}
@@ -24,7 +25,12 @@ returns-2 c =
     let at-wide = c .before .before in
     let entry = at-wide .before .before in
     lifts-none-high (entry .pre)
-    (omega (arith, c .before .wide2 .ensures, c .if2 .taken, ap (λ s. (entry .args .high - entry .args .low) / s) (at-wide .wide .ensures)))
+    (omega (
+      arith,
+      c .before .wide2 .ensures,
+      c .if2 .taken,
+      ap (λ s. (entry .args .high - entry .args .low) / s) (at-wide .wide .ensures),
+    ))
     (omega arith)
 
 cast-t9 : tie.Need-cast-t9
@@ -37,7 +43,8 @@ returns-3 : tie.Need-returns-3
 returns-3 c =
     let at-wide = c .before .before in
     let entry = at-wide .before .before in
-    let e = ap (λ s. (entry .args .high - entry .args .low) / s) (at-wide .wide .ensures) in lifts-one (entry .pre) e e (omega (arith, e))
+    let e = ap (λ s. (entry .args .high - entry .args .low) / s) (at-wide .wide .ensures) in lifts-one
+    (entry .pre) e e (omega (arith, e))
 
 pub divided-spec : {M : Type 1} → statement M
 divided-spec =

@@ -14,7 +14,10 @@ wide-requires-2 : tie.Need-wide-requires-2
 wide-requires-2 c κs = search needs
 
 mul-result : tie.Need-mul-result
-mul-result c = omega (arith, bytes-product {a = c .before .wide .result} {b = c .wide2 .result} (omega arith) (omega arith))
+mul-result c = omega (
+  arith,
+  bytes-product {a = c .before .wide .result} {b = c .wide2 .result} (omega arith) (omega arith),
+)
 
 returns : tie.Need-returns
 returns c = ap₂ (λ a b. a * b) (c .before .wide .ensures) (c .wide2 .ensures)

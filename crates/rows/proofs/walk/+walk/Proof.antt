@@ -43,8 +43,10 @@ calls t = (
 )
 
 abbrev walk-Inv-loop : walk-lts.InvT-loop
-walk-Inv-loop left right lifts drops vector₀ rows₀ limit place count at most number₀ found₀ vector rows number found =
-    Turn limit left right lifts drops vector₀ rows₀ place count at (record { first = number₀; most = most }) vector rows number found
+walk-Inv-loop left right lifts drops vector₀ rows₀ limit place count at most number₀ found₀ vector rows number
+    found =
+    Turn limit left right lifts drops vector₀ rows₀ place count at (record { first = number₀; most = most })
+    vector rows number found
 
 abbrev walk-μ-loop : walk-lts.MeasureT-loop
 walk-μ-loop left right lifts drops vector₀ rows₀ limit place count at most number₀ found₀ vector rows number found =
@@ -53,7 +55,8 @@ walk-μ-loop left right lifts drops vector₀ rows₀ limit place count at most 
 walk-returns : (t : ℕ) → walk-lts.Need-returns (calls t) (walk-at t) walk.Post walk-Inv-loop walk-μ-loop
 walk-returns t c = walks-full (c .before .before .before .before .before .before .before .pre .1) (c .if1 .taken)
 
-walk-settle-requires : (t : ℕ) → walk-lts.Need-settle-requires (calls t) (walk-at t) walk.Post walk-Inv-loop walk-μ-loop
+walk-settle-requires : (t : ℕ)
+    → walk-lts.Need-settle-requires (calls t) (walk-at t) walk.Post walk-Inv-loop walk-μ-loop
 walk-settle-requires t c κs =
     let at-if1 = c .before .before .before in
     let entry = at-if1 .before .before .before .before .before .before .before in
@@ -72,33 +75,40 @@ walk-returns-2 t c =
     let entry = at-if2 .before .before .before .before .before .before .before .before in
     walks-settled (entry .pre .1) (at-if2 .if2 .taken) (at-settle .settle .ensures)
 
-walk-shared-slice-read-apart : (t : ℕ) → walk-lts.Need-shared-slice-read-apart (calls t) (walk-at t) walk.Post walk-Inv-loop walk-μ-loop
+walk-shared-slice-read-apart : (t : ℕ)
+    → walk-lts.Need-shared-slice-read-apart (calls t) (walk-at t) walk.Post walk-Inv-loop walk-μ-loop
 walk-shared-slice-read-apart t c =
     let entry = c .before .before .before .before .before .before .before .before .before in
     omega (arith, entry .pre .1 .within, entry .pre .1 .most-lefts, c .before .if2 .left)
 
-walk-shared-slice-read-apart-2 : (t : ℕ) → walk-lts.Need-shared-slice-read-apart-2 (calls t) (walk-at t) walk.Post walk-Inv-loop walk-μ-loop
+walk-shared-slice-read-apart-2 : (t : ℕ)
+    → walk-lts.Need-shared-slice-read-apart-2 (calls t) (walk-at t) walk.Post walk-Inv-loop walk-μ-loop
 walk-shared-slice-read-apart-2 t c =
     let at-if2 = c .before .before in
     let entry = at-if2 .before .before .before .before .before .before .before .before in
     omega (arith, entry .pre .1 .within, entry .pre .1 .most-rights, at-if2 .if2 .left)
 
-walk-apart-requires : (t : ℕ) → walk-lts.Need-apart-requires (calls t) (walk-at t) walk.Post walk-Inv-loop walk-μ-loop
-walk-apart-requires t c κs = c .before .before .before .before .before .before .before .before .before .before .pre .1 .room
+walk-apart-requires : (t : ℕ)
+    → walk-lts.Need-apart-requires (calls t) (walk-at t) walk.Post walk-Inv-loop walk-μ-loop
+walk-apart-requires t c κs =
+    c .before .before .before .before .before .before .before .before .before .before .pre .1 .room
 
 walk-returns-3 : (t : ℕ) → walk-lts.Need-returns-3 (calls t) (walk-at t) walk.Post walk-Inv-loop walk-μ-loop
 walk-returns-3 t c =
     let at-if2 = c .before .before .before .before in
     let entry = at-if2 .before .before .before .before .before .before .before .before in
-    walks-apart (entry .pre .1) (omega (arith, entry .pre .1 .within, at-if2 .if2 .left)) (c .before .apart .ensures (c .if3 .taken))
+    walks-apart (entry .pre .1) (omega (arith, entry .pre .1 .within, at-if2 .if2 .left))
+    (c .before .apart .ensures (c .if3 .taken))
 
-walk-shared-slice-read-possible : (t : ℕ) → walk-lts.Need-shared-slice-read-possible (calls t) (walk-at t) walk.Post walk-Inv-loop walk-μ-loop
+walk-shared-slice-read-possible : (t : ℕ)
+    → walk-lts.Need-shared-slice-read-possible (calls t) (walk-at t) walk.Post walk-Inv-loop walk-μ-loop
 walk-shared-slice-read-possible t c =
     let at-if2 = c .before .before .before .before .before in
     let entry = at-if2 .before .before .before .before .before .before .before .before in
     omega (arith, entry .pre .1 .within, at-if2 .if2 .left)
 
-walk-shared-slice-read-possible-2 : (t : ℕ) → walk-lts.Need-shared-slice-read-possible-2 (calls t) (walk-at t) walk.Post walk-Inv-loop walk-μ-loop
+walk-shared-slice-read-possible-2 : (t : ℕ)
+    → walk-lts.Need-shared-slice-read-possible-2 (calls t) (walk-at t) walk.Post walk-Inv-loop walk-μ-loop
 walk-shared-slice-read-possible-2 t c =
     let at-if2 = c .before .before .before .before .before .before in
     let entry = at-if2 .before .before .before .before .before .before .before .before in
@@ -110,7 +120,8 @@ walk-add-possible t c =
     let entry = at-if2 .before .before .before .before .before .before .before .before in
     omega (arith, entry .pre .1 .within, at-if2 .if2 .left, entry .good .0 .0)
 
-walk-possible-requires : (t : ℕ) → walk-lts.Need-possible-requires (calls t) (walk-at t) walk.Post walk-Inv-loop walk-μ-loop
+walk-possible-requires : (t : ℕ)
+    → walk-lts.Need-possible-requires (calls t) (walk-at t) walk.Post walk-Inv-loop walk-μ-loop
 walk-possible-requires t c κs = search needs
 
 walk-returns-4 : (t : ℕ) → walk-lts.Need-returns-4 (calls t) (walk-at t) walk.Post walk-Inv-loop walk-μ-loop
@@ -125,24 +136,37 @@ walk-loop-holds t c =
     let entry = at-if2 .before .before .before .before .before .before .before .before in
     first-turn (choice-here (entry .pre .1) (at-if2 .if2 .left) (c .before .possible .ensures)) (c .if4 .left)
 
-walk-slice-write-vector : (t : ℕ) → walk-lts.Need-slice-write-vector (calls t) (walk-at t) walk.Post walk-Inv-loop walk-μ-loop
-walk-slice-write-vector t c = omega (arith, c .loop .inv .choice .within, c .loop .inv .choice .ready .vectors, c .loop .inv .reached .vectors)
+walk-slice-write-vector : (t : ℕ)
+    → walk-lts.Need-slice-write-vector (calls t) (walk-at t) walk.Post walk-Inv-loop walk-μ-loop
+walk-slice-write-vector t c = omega (
+  arith,
+  c .loop .inv .choice .within,
+  c .loop .inv .choice .ready .vectors,
+  c .loop .inv .reached .vectors,
+)
 
-walk-shared-slice-read-chosen : (t : ℕ) → walk-lts.Need-shared-slice-read-chosen (calls t) (walk-at t) walk.Post walk-Inv-loop walk-μ-loop
+walk-shared-slice-read-chosen : (t : ℕ)
+    → walk-lts.Need-shared-slice-read-chosen (calls t) (walk-at t) walk.Post walk-Inv-loop walk-μ-loop
 walk-shared-slice-read-chosen t c = c .before .loop .inv .choice .within
 
-walk-shared-slice-read-chosen-2 : (t : ℕ) → walk-lts.Need-shared-slice-read-chosen-2 (calls t) (walk-at t) walk.Post walk-Inv-loop walk-μ-loop
-walk-shared-slice-read-chosen-2 t c = omega (arith, c .before .before .loop .inv .choice .within, c .before .before .loop .inv .choice .ready .rights)
+walk-shared-slice-read-chosen-2 : (t : ℕ)
+    → walk-lts.Need-shared-slice-read-chosen-2 (calls t) (walk-at t) walk.Post walk-Inv-loop walk-μ-loop
+walk-shared-slice-read-chosen-2 t c = omega
+    (arith, c .before .before .loop .inv .choice .within, c .before .before .loop .inv .choice .ready .rights)
 
-walk-chosen-requires : (t : ℕ) → walk-lts.Need-chosen-requires (calls t) (walk-at t) walk.Post walk-Inv-loop walk-μ-loop
+walk-chosen-requires : (t : ℕ)
+    → walk-lts.Need-chosen-requires (calls t) (walk-at t) walk.Post walk-Inv-loop walk-μ-loop
 walk-chosen-requires t c κs =
-    let at-loop = c .before .before in
-    (omega (arith, at-loop .loop .inv .small, at-loop .loop .inv .choice .ranges .within), at-loop .loop .inv .choice .ready .room)
+    let at-loop = c .before .before in (
+      omega (arith, at-loop .loop .inv .small, at-loop .loop .inv .choice .ranges .within),
+      at-loop .loop .inv .choice .ready .room,
+    )
 
 walk-add-walk : (t : ℕ) → walk-lts.Need-add-walk (calls t) (walk-at t) walk.Post walk-Inv-loop walk-μ-loop
 walk-add-walk t c =
     let at-loop = c .before .before .before .before .before in
-    let entry = at-loop .before .before .before .before .before .before .before .before .before .before .before .before .before .before .before .before .before in
+    let entry = at-loop .before .before .before .before .before .before .before .before .before .before
+    .before .before .before .before .before .before .before in
     omega (arith, at-loop .loop .inv .choice .within, entry .good .0 .0)
 
 walk-walk-requires : (t : ℕ) → walk-lts.Need-walk-requires (calls t) (walk-at t) walk.Post walk-Inv-loop walk-μ-loop
@@ -151,7 +175,8 @@ walk-walk-requires t c κs =
     let at-shared-slice-known10 = at-chosen .before in
     let at-shared-slice-known9 = at-shared-slice-known10 .before in
     let at-loop = at-shared-slice-known9 .before in
-    let entry = at-loop .before .before .before .before .before .before .before .before .before .before .before .before .before .before .before .before .before in (
+    let entry = at-loop .before .before .before .before .before .before .before .before .before .before
+    .before .before .before .before .before .before .before in (
       omega (arith, entry .pre .0, at-loop .loop .inv .choice .within),
       ready-next (at-loop .loop .inv) (at-chosen .chosen .ensures)
           (at-shared-slice-known9 .shared-slice-known9 .given (entry .args .place) .fits)
@@ -162,8 +187,10 @@ walk-same-length-3 : (t : ℕ) → walk-lts.Need-same-length-3 (calls t) (walk-a
 walk-same-length-3 t c =
     let at-walk = c .before .before .before .before .before in
     let at-loop = at-walk .before .before .before .before .before .before in
-    let entry = at-loop .before .before .before .before .before .before .before .before .before .before .before .before .before .before .before .before .before in
-    at-walk .walk .kept .1 .1 .1 .1 .0 ∙ length-set (at-loop .loop .vector) (entry .args .place) (at-loop .loop .number) ∙ at-loop .loop .inv .reached .vectors
+    let entry = at-loop .before .before .before .before .before .before .before .before .before .before
+    .before .before .before .before .before .before .before in
+    at-walk .walk .kept .1 .1 .1 .1 .0 ∙ length-set (at-loop .loop .vector) (entry .args .place)
+    (at-loop .loop .number) ∙ at-loop .loop .inv .reached .vectors
 
 walk-same-length-4 : (t : ℕ) → walk-lts.Need-same-length-4 (calls t) (walk-at t) walk.Post walk-Inv-loop walk-μ-loop
 walk-same-length-4 t c =
@@ -186,14 +213,19 @@ walk-add-number t c =
     omega (arith, at-loop .loop .inv .small, c .if5 .left, at-possible .possible .ok)
 
 walk-loop-less : (t : ℕ) → walk-lts.Need-loop-less (calls t) (walk-at t) walk.Post walk-Inv-loop walk-μ-loop
-walk-loop-less t c = omega (arith, c .before .before .before .before .before .before .before .before .before .before .before .loop .inv .small, c .if5 .left)
+walk-loop-less t c = omega (
+  arith,
+  c .before .before .before .before .before .before .before .before .before .before .before .loop .inv .small,
+  c .if5 .left,
+)
 
 walk-loop-again : (t : ℕ) → walk-lts.Need-loop-again (calls t) (walk-at t) walk.Post walk-Inv-loop walk-μ-loop
 walk-loop-again t c =
     let at-walk = c .before .before .before .before .before in
     let at-chosen = at-walk .before .before .before in
     let at-loop = at-chosen .before .before .before in
-    next-turn (at-loop .loop .inv) (at-chosen .chosen .ensures) (at-walk .walk .kept .1 .1 .1 .1 .0) (at-walk .walk .kept .1 .1 .1 .1 .1 .0)
+    next-turn (at-loop .loop .inv) (at-chosen .chosen .ensures) (at-walk .walk .kept .1 .1 .1 .1 .0)
+    (at-walk .walk .kept .1 .1 .1 .1 .1 .0)
     (at-walk .walk .ensures) (c .if5 .left)
 
 pub +walk-spec : {M : Type 1} → statement M

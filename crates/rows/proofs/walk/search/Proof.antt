@@ -1,4 +1,5 @@
--- `rows::walk::search` meets its contract: nothing has to be found before the first place, and when the walk has ended, all rows are. Assumes nothing.
+-- `rows::walk::search` meets its contract: nothing has to be found before the first place, and when the walk
+-- has ended, all rows are. Assumes nothing.
 use mathlib.Core.Path.{sym}
 use lib.ListN.{length, replicate}
 use lib.Seq.{length-take-le}
@@ -45,7 +46,8 @@ walk-requires c κs =
     let entry = at-tops .before .before .before .before in
     let lefts = at-tops .tops .ensures in
     let rights = at-tops2 .tops2 .ensures in
-    ready-start (entry .pre) (at-start .start .ensures (entry .args .left .now) (entry .args .right .now) (lefts 0) (rights 0)) lefts rights
+    ready-start (entry .pre) (at-start .start .ensures (entry .args .left .now) (entry .args .right .now)
+    (lefts 0) (rights 0)) lefts rights
     (search needs) (search needs)
     (length-take-le (length (entry .args .left .now)) (replicate 6 0) (entry .pre .few-places))
 
@@ -59,10 +61,13 @@ returns c =
     let at-tops2 = at-start .before in
     let at-tops = at-tops2 .before in
     let entry = at-tops .before .before .before .before in
-    let starts = at-start .start .ensures (entry .args .left .now) (entry .args .right .now) (at-tops .tops .ensures 0) (at-tops2 .tops2 .ensures 0) in
-    let E = equation (entry .args .left .now) (entry .args .right .now) (entry .args .left-offset) (entry .args .right-offset) (entry .args .homogeneous) in
+    let starts = at-start .start .ensures (entry .args .left .now) (entry .args .right .now)
+    (at-tops .tops .ensures 0) (at-tops2 .tops2 .ensures 0) in
+    let E = equation (entry .args .left .now) (entry .args .right .now) (entry .args .left-offset)
+    (entry .args .right-offset) (entry .args .homogeneous) in
     finds-all
-    (at-walk .walk .ensures .found E (stands-start {E = E} (sym (entry .pre .rights)) starts) (holds-start E (entry .args .limit) (entry .args .rows .now)))
+    (at-walk .walk .ensures .found E (stands-start {E = E} (sym (entry .pre .rights)) starts)
+    (holds-start E (entry .args .limit) (entry .args .rows .now)))
 
 pub search-spec : {M : Type 1} → statement M
 search-spec =

@@ -29,7 +29,8 @@ returns c =
     let at-wide = at-wide2 .before in
     λ left right lefts rights.
     starts-from-largest lefts rights (at-wide .wide .ensures) (at-wide2 .wide2 .ensures) refl
-    (omega (arith, at-larger .larger .ensures, at-larger2 .larger2 .ensures)) (c .larger3 .ensures) (omega (arith, at-larger2 .larger2 .ok))
+    (omega (arith, at-larger .larger .ensures, at-larger2 .larger2 .ensures)) (c .larger3 .ensures)
+    (omega (arith, at-larger2 .larger2 .ok))
     (omega (arith, c .larger3 .ok))
 
 pub start-spec : {M : Type 1} → statement M

@@ -1,4 +1,5 @@
--- `rows_runs::case::read_side` meets its contract. The loop's invariant: the atoms end within the side, which keeps its length. Assumes nothing.
+-- `rows_runs::case::read_side` meets its contract. The loop's invariant: the atoms end within the side, which
+-- keeps its length. Assumes nothing.
 use Prim.Native.Nat.{_≤_, _-_}
 use mathlib.Core.Path.{_≡_}
 use lib.ListN.{length}
@@ -7,7 +8,8 @@ use Rattle.rows_runs.proofs.case.read_side.Statement.{statement}
 use Rattle.rows_runs.proofs.case.read_side.Tie as tie
 
 abbrev Inv-loop : tie.InvT-loop
-Inv-loop text side₀ end₀ i₀ i-end side end i = (length side ≡ length side₀) × (end ≤ length side) × (i ≤ i-end) × (i-end ≡ length text)
+Inv-loop text side₀ end₀ i₀ i-end side end i =
+    (length side ≡ length side₀) × (end ≤ length side) × (i ≤ i-end) × (i-end ≡ length text)
 
 abbrev μ-loop : tie.MeasureT-loop
 μ-loop text side₀ end₀ i₀ i-end side end i = i-end - i

@@ -55,7 +55,8 @@ slice-aggregate-put-answer c = search needs
 slice-aggregate-put-answer-2 : tie.Need-slice-aggregate-put-answer-2
 slice-aggregate-put-answer-2 c =
     let at-rows = c .before .before .before .before .before .before in
-    sym (length-front (replicate 512 200) (at-rows .rows .last .1 .1 .0) (at-rows .before .before .before .before .least .result) (at-rows .rows .kept .1 .1 .0))
+    sym (length-front (replicate 512 200) (at-rows .rows .last .1 .1 .0)
+    (at-rows .before .before .before .before .least .result) (at-rows .rows .kept .1 .1 .0))
 
 put-answer-requires : tie.Need-put-answer-requires
 put-answer-requires c κs = search needs

@@ -1,4 +1,5 @@
--- `rows_runs::line::put_rows` meets its contract. The loop's invariant: the text ends within the line, which keeps its length. Assumes nothing.
+-- `rows_runs::line::put_rows` meets its contract. The loop's invariant: the text ends within the line, which
+-- keeps its length. Assumes nothing.
 use Prim.Native.Nat.{_≤_, _-_}
 use mathlib.Core.Path.{_≡_}
 use lib.ListN.{length}
@@ -7,7 +8,8 @@ use Rattle.rows_runs.proofs.line.put_rows.Statement.{statement}
 use Rattle.rows_runs.proofs.line.put_rows.Tie as tie
 
 abbrev Inv-loop : tie.InvT-loop
-Inv-loop line₀ at rows places end₀ i₀ i-end line end i = (length line ≡ length line₀) × (end ≤ length line) × (i ≤ i-end) × (i-end ≡ length rows)
+Inv-loop line₀ at rows places end₀ i₀ i-end line end i =
+    (length line ≡ length line₀) × (end ≤ length line) × (i ≤ i-end) × (i-end ≡ length rows)
 
 abbrev μ-loop : tie.MeasureT-loop
 μ-loop line₀ at rows places end₀ i₀ i-end line end i = i-end - i

@@ -26,7 +26,8 @@ abbrev side : tie.After-shared-slice-known Inv-loop μ-loop → List ℕ
 side c = now (c .before .before .before .args .side)
 
 atom-below : (c : tie.After-shared-slice-known Inv-loop μ-loop) → getD (side c) (c .before .before .loop .i) 0 < 128
-atom-below c = right-byte (side c) (c .before .before .loop .i) (c .before .loop-test .taken) (c .before .before .before .pre .1)
+atom-below c = right-byte (side c) (c .before .before .loop .i) (c .before .loop-test .taken)
+    (c .before .before .before .pre .1)
 
 shared-slice-read-atom : tie.Need-shared-slice-read-atom Inv-loop μ-loop
 shared-slice-read-atom c = omega arith
@@ -40,7 +41,11 @@ array-read-table c = atom-below c
 add-table : tie.Need-add-table Inv-loop μ-loop
 add-table c =
     let at = c .before .before .loop in
-    omega (arith, count-so-far (side c) (at .table) (at .i) (getD (side c) (at .i) 0) (at .inv .1) (c .before .before .before .pre .0))
+    omega (
+      arith,
+      count-so-far (side c) (at .table) (at .i) (getD (side c) (at .i) 0) (at .inv .1)
+          (c .before .before .before .pre .0),
+    )
 
 array-write-table : tie.Need-array-write-table Inv-loop μ-loop
 array-write-table c = atom-below c
@@ -60,7 +65,8 @@ loop-again c =
 returns : tie.Need-returns Inv-loop μ-loop
 returns c =
     let at = c .before .loop in
-    subst (λ (s : List ℕ). Occurrences s (at .table)) (take-all (at .i) (now (c .before .before .args .side)) (omega arith)) (at .inv .1)
+    subst (λ (s : List ℕ). Occurrences s (at .table))
+    (take-all (at .i) (now (c .before .before .args .side)) (omega arith)) (at .inv .1)
 
 pub occurrences-spec : {M : Type 1} → statement M
 occurrences-spec =

@@ -1,4 +1,5 @@
--- `sides::gathering::gather` meets its contract. The loop's invariant: the atoms passed are visited. Assumes nothing.
+-- `sides::gathering::gather` meets its contract. The loop's invariant: the atoms passed are visited. Assumes
+-- nothing.
 use mathlib.Core.Path.{_≡_, sym, ap, _∙_}
 use mathlib.Core.Logic.{⊎-elim}
 use Prim.Native.Nat.{_≤_, _-_}
@@ -11,7 +12,8 @@ use Rattle.sides.proofs.gathering.gather.Tie as tie
 abbrev Inv-loop : tie.InvT-loop
 Inv-loop kind counts atoms₀ lefts₀ rights₀ count₀ atom₀ atoms lefts rights count atom =
     (atom ≤ 128) ×
-    Visited (isCounted kind counts) (exceeds (counts .left) (counts .right)) (exceeds (counts .right) (counts .left)) atom count atoms lefts rights
+    Visited (isCounted kind counts) (exceeds (counts .left) (counts .right))
+    (exceeds (counts .right) (counts .left)) atom count atoms lefts rights
 
 abbrev μ-loop : tie.MeasureT-loop
 μ-loop kind counts atoms₀ lefts₀ rights₀ count₀ atom₀ atoms lefts rights count atom = 128 - atom

@@ -27,7 +27,8 @@ distance-requires : tie.Need-distance-requires Inv-loop μ-loop
 distance-requires c κs = tt
 
 returns : tie.Need-returns Inv-loop μ-loop
-returns c M L R counted = tells-true (far-given counted (c .before .before .before .before .before .loop .atom) (omega arith))
+returns c M L R counted =
+    tells-true (far-given counted (c .before .before .before .before .before .loop .atom) (omega arith))
 
 add-atom : tie.Need-add-atom Inv-loop μ-loop
 add-atom c = omega arith
@@ -39,7 +40,8 @@ loop-again : tie.Need-loop-again Inv-loop μ-loop
 loop-again c = (omega arith, below-more _ _ (c .before .before .before .before .before .loop .inv .1) (omega arith))
 
 returns-2 : tie.Need-returns-2 Inv-loop μ-loop
-returns-2 c M L R counted = tells-false (near-not-given counted (λ k within. c .before .loop .inv .1 k (omega arith)))
+returns-2 c M L R counted =
+    tells-false (near-not-given counted (λ k within. c .before .loop .inv .1 k (omega arith)))
 
 pub far-net-count-spec : {M : Type 1} → statement M
 far-net-count-spec =

@@ -28,7 +28,11 @@ returns : tie.Need-returns Inv-loop μ-loop
 returns c =
     let side = now (c .before .before .before .before .args .side) in
     let i = c .before .before .before .loop .i in
-    tells-true (record { byte = getD side i 0; held = getD-member side i 0 (c .before .before .loop-test .taken); above = c .if1 .taken })
+    tells-true (record {
+      byte = getD side i 0;
+      held = getD-member side i 0 (c .before .before .loop-test .taken);
+      above = c .if1 .taken;
+    })
 
 add-i : tie.Need-add-i Inv-loop μ-loop
 add-i c = search needs

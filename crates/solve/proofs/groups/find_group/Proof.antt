@@ -11,7 +11,8 @@ use Rattle.solve.proofs.groups.find_group.Statement.{statement}
 use Rattle.solve.proofs.groups.find_group.Tie as tie
 
 -- what is found of a group is found of the same group
-as-group : {pair : Pair} {g group : ℕ} {found : Found} → g ≡ group → FindsGroup pair g found → FindsGroup pair group found
+as-group : {pair : Pair} {g group : ℕ} {found : Found} → g ≡ group → FindsGroup pair g found
+    → FindsGroup pair group found
 as-group {pair} {found = found} same finds = subst (λ (g : ℕ). FindsGroup pair g found) same finds
 
 find-rows-requires : tie.Need-find-rows-requires

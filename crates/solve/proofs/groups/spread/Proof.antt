@@ -89,7 +89,8 @@ returns c =
     let a = c .before .before .before .before .args in
     let same : at .i ≡ a .count = omega arith in
     spread-all (c .before .before .before .before .pre .0 .1)
-    (subst (λ (i : ℕ). SpreadTo (a .places) (a .group) (a .found .now) (a .rows .now) i (at .rows)) same (at .inv .1))
+    (subst (λ (i : ℕ). SpreadTo (a .places) (a .group) (a .found .now) (a .rows .now) i (at .rows)) same
+    (at .inv .1))
 
 pub spread-spec : {M : Type 1} → statement M
 spread-spec =

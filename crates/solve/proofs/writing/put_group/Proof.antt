@@ -1,4 +1,5 @@
--- `solve::writing::put_group` meets its contract: before each turn the rows before i have been put. Assumes nothing.
+-- `solve::writing::put_group` meets its contract: before each turn the rows before i have been put. Assumes
+-- nothing.
 use Prim.Native.Nat.{ℕ, _≤_, _-_}
 use mathlib.Core.Path.{_≡_, ap}
 use native.Mathlib.Omega.{arith}
@@ -12,7 +13,8 @@ use Rattle.solve.proofs.writing.put_group.Statement.{statement}
 use Rattle.solve.proofs.writing.put_group.Tie as tie
 
 abbrev Inv-loop : tie.InvT-loop
-Inv-loop rows group count places out₀ at next₀ i₀ out next i = (i ≤ count) × Put out₀ at (bytesOf (groupIn places rows group i)) next out
+Inv-loop rows group count places out₀ at next₀ i₀ out next i =
+    (i ≤ count) × Put out₀ at (bytesOf (groupIn places rows group i)) next out
 
 abbrev μ-loop : tie.MeasureT-loop
 μ-loop rows group count places out₀ at next₀ i₀ out next i = count - i
@@ -65,8 +67,11 @@ loop-again c =
     let a = start .args in
     let p = start .pre .0 in
     let l = c .before .before .before .before .before .before .loop in
-    let bytes = row-part (a .rows .now) (p .3) (p .0) (p .2) (l .i) in
-    (omega arith, put-row (a .places) (a .group) (a .rows .now) (l .i) (l .inv .1) bytes (c .before .before .put-bytes .ensures))
+    let bytes = row-part (a .rows .now) (p .3) (p .0) (p .2) (l .i) in (
+      omega arith,
+      put-row (a .places) (a .group) (a .rows .now) (l .i) (l .inv .1) bytes
+          (c .before .before .put-bytes .ensures),
+    )
 
 same-length : tie.Need-same-length Inv-loop μ-loop
 same-length c = put-length (c .before .loop .inv .1)
@@ -75,7 +80,8 @@ returns : tie.Need-returns Inv-loop μ-loop
 returns c =
     let a = c .before .before .before .before .args in
     let same : c .before .loop .i ≡ a .count = omega arith in
-    put-as (ap (λ (n : ℕ). bytesOf (groupIn (a .places) (a .rows .now) (a .group) n)) same) (c .before .loop .inv .1)
+    put-as (ap (λ (n : ℕ). bytesOf (groupIn (a .places) (a .rows .now) (a .group) n)) same)
+    (c .before .loop .inv .1)
 
 pub put-group-spec : {M : Type 1} → statement M
 put-group-spec =

@@ -39,11 +39,18 @@ put-group-requires c κs =
     let l = c .before .before .before .before .loop in
     let size : length (t .rows) ≡ 480 = search needs in
     let few : l .group < 5 = omega (arith, w .constants-fit) in
-    let room = group-room (t .rows) size (w .places-fit) few (getD (t .sizes) (l .group) 0) (w .sizes-fit (l .group)) in
-    ((w .places-fit, w .sizes-fit (l .group), few, size), omega (arith, room, l .inv .1, put-length (l .inv .2), start .pre .1))
+    let room = group-room (t .rows) size (w .places-fit) few (getD (t .sizes) (l .group) 0)
+    (w .sizes-fit (l .group)) in (
+      (w .places-fit, w .sizes-fit (l .group), few, size),
+      omega (arith, room, l .inv .1, put-length (l .inv .2), start .pre .1),
+    )
 
 add-group : tie.Need-add-group Inv-loop μ-loop
-add-group c = omega (arith, c .before .before .before .before .before .before .before .before .before .before .before .pre .0 .constants-fit)
+add-group c = omega (
+  arith,
+  c .before .before .before .before .before .before .before .before .before .before
+      .before .pre .0 .constants-fit,
+)
 
 loop-less : tie.Need-loop-less Inv-loop μ-loop
 loop-less c = omega arith

@@ -17,7 +17,8 @@ returns : tie.Need-returns
 returns c = size-there (c .before .before .before .pre .0) (c .before .before .before .args .place) (c .if1 .taken)
 
 returns-2 : tie.Need-returns-2
-returns-2 c = size-beyond (c .before .before .before .pre .0) (c .before .before .before .args .place) (c .if1 .left)
+returns-2 c =
+    size-beyond (c .before .before .before .pre .0) (c .before .before .before .args .place) (c .if1 .left)
 
 pub size-at-spec : {M : Type 1} → statement M
 size-at-spec = tie.close (tie.spec add-result mul-result array-read-result returns returns-2)

@@ -15,11 +15,11 @@ use Rattle.numbers.specs.First.{also}
 use Rattle.numbers.specs.declared.Refusal.{Refusal}
 use Rattle.numbers.specs.declared.Refusal.the-variants as refusal
 use Rattle.block.specs.Front.{Writes, rightSide}
-use Rattle.block.specs.Block.{leftLength, rightLength, leftTerm, rightTerm, filler}
+use Rattle.block.specs.Block.{leftTerm, rightTerm, filler}
 use Rattle.block.specs.Table.{NoTerm}
 use Rattle.block.specs.Read.{lengths, ReadPromise, is-read}
 use Rattle.block.specs.Terms.{HeaderLengths}
-use Rattle.block.specs.Inner.{TakesApart, atoms, no-term, allZero, Refuses, GoodHeader, SettlesHeader, is-refused, is-good}
+use Rattle.block.specs.Inner.{TakesApart, atoms, no-term, allZero, Refuses, SettlesHeader, is-refused, is-good}
 use Rattle.block.specs.declared.header.Header.{Header}
 use Rattle.block.specs.declared.header.Header.the-variants.{Lengths}
 use Rattle.block.specs.declared.term.Side.{Side}

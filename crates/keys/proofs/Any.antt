@@ -1,31 +1,18 @@
 -- Laws of "some number below n passes" and "every number below n passes".
-use Prim.Native.Nat.{ℕ, zero, suc, _+_, _<_}
+use Prim.Native.Nat.{ℕ, zero, suc, _+_, _<_, _≤_}
 use native.Mathlib.Omega.{arith}
 use native.Mathlib.Numerals.{add-one}
 use native.Mathlib.Decide.{decLt}
 use mathlib.Core.Path.{_≡_, refl, sym, _∙_, ap, ap₂, subst}
-use mathlib.Core.Bool.{Bool, true, false, _||_, _&&_}
+use mathlib.Core.Bool.{Bool, true, false, _||_, _&&_, false≢true}
+use borrow.Author.Tests.{lt-ltb, le-ltb}
+use lib.Dec.{ltb}
 use Rattle.keys.specs.Reach.{any, all}
 
 -- whatever stands before it, a truth makes the disjunction true
 pub or-true : (b : Bool) → (b || true) ≡ true
 or-true true = refl
 or-true false = refl
-
-pub or-false : (b : Bool) → (b || false) ≡ b
-or-false true = refl
-or-false false = refl
-
-pub or-assoc : (a b c : Bool) → ((a || b) || c) ≡ (a || (b || c))
-or-assoc true b c = refl
-or-assoc false b c = refl
-
--- a disjunction found from the left: where the first is true it is true, else it is the second
-pub or-left : {a r : Bool} (b : Bool) → r ≡ a → r ≡ true → true ≡ (a || b)
-or-left b e f = ap (λ a. a || b) (sym f ∙ e)
-
-pub or-right : {a b r s : Bool} → r ≡ a → r ≡ false → s ≡ b → s ≡ (a || b)
-or-right {b = b} e f g = g ∙ ap (λ a. a || b) (sym f ∙ e)
 
 -- a conjunction is false where one of the two is
 pub and-left-false : {a : Bool} (b : Bool) → a ≡ false → (a && b) ≡ false
@@ -50,15 +37,32 @@ any-found (suc n) i test h e = go (decLt i n) (λ g. any-found n i test g e)
 pub any-more : (i : ℕ) (test : ℕ → Bool) → any i test ≡ false → test i ≡ false → any (i + 1) test ≡ false
 any-more i test e f = ap (λ n. any n test) (add-one i) ∙ ap₂ (λ a b. a || b) e f
 
--- counted from the front: the first passes, or one of the others
-pub any-front : (n : ℕ) (test : ℕ → Bool) → any (suc n) test ≡ (test 0 || any n (λ i. test (suc i)))
-any-front zero test = sym (or-false (test 0))
-any-front (suc n) test = ap (λ b. b || test (suc n)) (any-front n test) ∙ or-assoc (test 0) (any n (λ i. test (suc i))) (test (suc n))
+-- so with the test whether a number's value is above a bound
+module _ {bound : ℕ} (value : ℕ → ℕ) where
+  pub any-above : (n : ℕ) {i v : ℕ} → i < n → v ≡ value i → bound < v → any n (λ j. ltb bound (value j)) ≡ true
+  any-above n {i} h e above = any-found n i (λ j. ltb bound (value j)) h (lt-ltb bound (value i) (subst (λ (k : ℕ). bound < k) e above))
 
--- tests that agree below n
-pub any-same : (n : ℕ) (f g : ℕ → Bool) → ((i : ℕ) → i < n → f i ≡ g i) → any n f ≡ any n g
-any-same zero f g h = refl
-any-same (suc n) f g h = ap₂ (λ a b. a || b) (any-same n f g (λ i l. h i (omega arith))) (h n (omega arith))
+  pub none-above : {i v : ℕ} → any i (λ j. ltb bound (value j)) ≡ false → v ≡ value i → v ≤ bound
+      → any (i + 1) (λ j. ltb bound (value j)) ≡ false
+  none-above {i} none e below = any-more i (λ j. ltb bound (value j)) none (le-ltb bound (value i) (subst (λ (k : ℕ). k ≤ bound) e below))
+
+  pub not-above : (n : ℕ) {i : ℕ} → any n (λ j. ltb bound (value j)) ≡ false → i < n → value i ≤ bound
+  not-above n {i} none h = go (decLt bound (value i))
+    where
+      go : Dec (bound < value i) → value i ≤ bound
+      go (yes above) = absurd (false≢true (sym none ∙ any-above n h refl above))
+      go (no below) = omega arith
+
+-- where one passes, there is one that does
+pub any-some : (n : ℕ) (test : ℕ → Bool) → any n test ≡ true → (i : ℕ) × (i < n) × (test i ≡ true)
+any-some zero test e = absurd (false≢true e)
+any-some (suc n) test e = go (any n test) refl (test n) refl (any-some n test)
+  where
+    go : (a : Bool) → any n test ≡ a → (b : Bool) → test n ≡ b → (any n test ≡ true → (i : ℕ) × (i < n) × (test i ≡ true))
+        → (i : ℕ) × (i < suc n) × (test i ≡ true)
+    go true p b q rec = let r = rec p in (r .0, omega (arith, r .1), r .2)
+    go false p true q rec = (n, omega arith, q)
+    go false p false q rec = absurd (false≢true (sym (ap (λ a. a || test n) p ∙ q) ∙ e))
 
 -- where all passed so far and this one does, all passed with this one; one that does not is enough against all
 pub all-more : (i : ℕ) (test : ℕ → Bool) → all i test ≡ true → test i ≡ true → all (i + 1) test ≡ true

@@ -47,7 +47,8 @@ module _ {listed : List ℕ} {begin : Begin} where
   not-14 e on-list (last-listed same m nothing) = omega arith
 
   -- no number is given where a key remains, and where the key after which to begin, if any, is on the list
-  pub list-gives-none : {key n : ℕ} → ((k : ℕ) → begin ≡ after k → List·Memᴰ k listed) → List·Memᴰ key (remaining begin listed) → ListGiven listed begin n → ⊥
+  pub list-gives-none : {key n : ℕ} → ((k : ℕ) → begin ≡ after k → List·Memᴰ k listed) → List·Memᴰ key (remaining begin listed)
+      → ListGiven listed begin n → ⊥
   list-gives-none on-list some (none-admissible empty) = no-member empty (remaining-members begin some .0)
   list-gives-none on-list some (not-listed {key = k} same unlisted) = unlisted (on-list k same)
   list-gives-none {key} on-list some (last-listed same m nothing) = no-member nothing (subst (λ b. List·Memᴰ key (remaining b listed)) same some)

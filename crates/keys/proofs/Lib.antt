@@ -1,5 +1,6 @@
 pub mod Any
 pub mod Bits
+pub mod Runs
 pub mod Reach
 pub mod Candidates
 pub mod Table

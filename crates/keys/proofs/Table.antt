@@ -13,7 +13,8 @@ use Rattle.ac.specs.Keys.{layout, keys, Fits}
 use Rattle.ac.proofs.Listed.{keys-ascending}
 use Rattle.table.specs.Table.{rowAt, groupAt, groupsFrom, groupsIn, Within, TableOf}
 use Rattle.table.specs.declared.Table.{Table}
-use Rattle.table.proofs.Groups.{length-groupAt, how-many-constants, groupsFrom-stands}
+use Rattle.table.proofs.Groups.{length-groupAt, constants-groupsFrom, how-many-constants, groupsFrom-stands}
+use Rattle.keys.specs.Runs.{selectionIn}
 use Rattle.keys.specs.Reach.{group, Holds}
 use Rattle.keys.specs.Candidates.{Sized}
 
@@ -68,11 +69,13 @@ module _ {t : Table} (within : Within t) where
   pub table-sized : Sized (t .sizes) (t .unbalanced) (groupsIn t)
   table-sized = record { how-many-constants = how-many-constants t within; a-size-each = λ g h. ap length (group-in g h) ∙ length-groupAt t g }
 
-  pub table-holds : Holds (t .rows) (t .places) (t .unbalanced) (getD (t .sizes) 0 0) (groupsIn t)
-  table-holds =
+  -- a selection of the table is one of its groups, and the array holds them
+  pub table-holds : (key : ℕ) → Holds (t .rows) (t .places) (selectionIn t key) (groupsIn t)
+  table-holds key =
       record {
         how-many-constants = how-many-constants t within;
         how-many-balanced = length-groupAt t 0;
+        the-constants = constants-groupsFrom t 1 (take (t .unbalanced) (t .constants));
         entries = λ g i p row place. go g i p row place (decLt (t .unbalanced) g);
       }
     where

@@ -5,14 +5,19 @@ use native.Mathlib.Nat.{div-lt-iff-lt-mul}
 use native.Mathlib.Decide.{decLt}
 use mathlib.Core.Path.{_≡_, sym, _∙_, ap, subst}
 use mathlib.Core.Bool.{Bool, true, false}
-use mathlib.Core.List.{List}
 use lib.Pow.{pow-pos, pow-mono}
-use lib.ListN.{length}
+use lib.ListN.{getD}
 use Rattle.ac.specs.Rows.{Groups}
 use Rattle.ac.specs.Keys.{layout, Candidate, Fits}
+use Rattle.table.specs.Table.{groupsIn, Within}
+use Rattle.table.specs.declared.Table.{Table}
+use Rattle.keys.specs.Runs.{selectionIn}
 use Rattle.keys.specs.Reach.{Holds}
 use Rattle.keys.specs.Candidates.{fills, HasTuple, LeastWithin, found, nothing}
+use Rattle.keys.specs.declared.Selection.{Selection}
+use Rattle.keys.specs.declared.Next.{Next}
 use Rattle.keys.specs.declared.Next.the-variants.{Key, None}
+use Rattle.keys.proofs.Table.{table-sized, table-holds, table-fits}
 
 -- what a shift leaves of a mask tells whether it has a bit beyond the balanced rows
 pub no-bit-left : (mask balanced : ℕ) → mask / 2 ^ balanced ≡ 0 → mask < 2 ^ balanced
@@ -34,37 +39,47 @@ a-bit-left mask balanced some = go (decLt mask (2 ^ balanced))
 pub mask-fits : {mask balanced : ℕ} → balanced ≤ 16 → mask < 2 ^ balanced → mask < 65536
 mask-fits few low = omega (arith, pow-mono few)
 
-module _ (rows : List ℕ) (places unbalanced balanced tuple from : ℕ) where
+module _ (t : Table) (tuple from : ℕ) where
+  -- the rows that a key takes reach every place
+  abbrev reaching : ℕ → Bool
+  reaching = fills (groupsIn t) (t .places)
+
   -- the masks from the first on to before this one miss a place
   abbrev pub Missed : ℕ → Type 0
-  Missed mask = (G : Groups) → Holds rows places unbalanced balanced G → Fits layout G → HasTuple G tuple
-      → (other : ℕ) → tuple * 65536 + from ≤ other → other < tuple * 65536 + mask → fills G places other ≡ false
+  Missed mask = HasTuple (groupsIn t) tuple → (other : ℕ) → tuple * 65536 + from ≤ other → other < tuple * 65536 + mask → reaching other ≡ false
+
+  -- what was tried of a tuple
+  abbrev Tried : Next → Type 0
+  Tried next = HasTuple (groupsIn t) tuple → LeastWithin reaching (tuple * 65536 + from) (tuple * 65536 + 2 ^ getD (t .sizes) 0 0) next
 
   pub missed-none : Missed from
-  missed-none G holds fits has other above below = absurd (omega arith)
+  missed-none has other above below = absurd (omega arith)
 
-  module _ {mask key : ℕ} (missed : Missed mask) (packed : key ≡ tuple * 65536 + mask) (low : mask < 2 ^ balanced) {reaches : Bool}
-      (weighed : (G : Groups) → Holds rows places unbalanced balanced G → Fits layout G → Candidate layout G key → reaches ≡ fills G places key) where
-    its-weight : (G : Groups) → Holds rows places unbalanced balanced G → Fits layout G → HasTuple G tuple → reaches ≡ fills G places key
-    its-weight G holds fits has =
-        weighed G holds fits
-        (subst (Candidate layout G) (sym packed) (has mask (omega (arith, low, ap (λ (n : ℕ). 2 ^ n) (holds .how-many-balanced)))))
+  module _ {mask key : ℕ} (missed : Missed mask) (packed : key ≡ tuple * 65536 + mask) (low : mask < 2 ^ getD (t .sizes) 0 0)
+      (within : Within t) {selection : Selection} (its : selection ≡ selectionIn t key) {reaches : Bool}
+      (weighed : (G : Groups) → Holds (t .rows) (t .places) selection G → Fits layout G → Candidate layout G (selection .key)
+      → reaches ≡ fills G (t .places) (selection .key)) where
+    its-weight : HasTuple (groupsIn t) tuple → reaches ≡ reaching key
+    its-weight has =
+        subst
+        (λ (s : Selection). (G : Groups) → Holds (t .rows) (t .places) s G → Fits layout G → Candidate layout G (s .key)
+        → reaches ≡ fills G (t .places) (s .key)) its weighed (groupsIn t) (table-holds within key) (table-fits within)
+        (subst (Candidate layout (groupsIn t)) (sym packed)
+        (has mask (omega (arith, low, ap (λ (n : ℕ). 2 ^ n) (table-sized within .a-size-each 0 (omega arith))))))
 
     pub missed-more : reaches ≡ false → Missed (mask + 1)
-    missed-more e G holds fits has other above below = go (decLt other (tuple * 65536 + mask))
+    missed-more e has other above below = go (decLt other (tuple * 65536 + mask))
       where
-        go : Dec (other < tuple * 65536 + mask) → fills G places other ≡ false
-        go (yes before) = missed G holds fits has other above before
+        go : Dec (other < tuple * 65536 + mask) → reaching other ≡ false
+        go (yes before) = missed has other above before
         go (no beyond) =
             let here : key ≡ other = omega arith in
-            subst (λ (k : ℕ). fills G places k ≡ false) here (sym (its-weight G holds fits has) ∙ e)
+            subst (λ (k : ℕ). reaching k ≡ false) here (sym (its-weight has) ∙ e)
 
-    pub missed-found : reaches ≡ true → from ≤ mask → (G : Groups) → Holds rows places unbalanced balanced G → Fits layout G
-        → HasTuple G tuple → LeastWithin (fills G places) (tuple * 65536 + from) (tuple * 65536 + 2 ^ balanced) (Key key)
-    missed-found e above G holds fits has =
-        found {key = key} (omega arith) (omega arith) (sym (its-weight G holds fits has) ∙ e)
-        (λ other low′ high. missed G holds fits has other low′ (omega (arith, high)))
+    pub missed-found : reaches ≡ true → from ≤ mask → Tried (Key key)
+    missed-found e above has =
+        found {key = key} (omega arith) (omega arith) (sym (its-weight has) ∙ e)
+        (λ other from-on before. missed has other from-on (omega (arith, before)))
 
-  pub missed-all : {mask : ℕ} → Missed mask → 2 ^ balanced ≤ mask → (G : Groups) → Holds rows places unbalanced balanced G → Fits layout G
-      → HasTuple G tuple → LeastWithin (fills G places) (tuple * 65536 + from) (tuple * 65536 + 2 ^ balanced) None
-  missed-all missed end G holds fits has = nothing (λ other above below. missed G holds fits has other above (omega arith))
+  pub missed-all : {mask : ℕ} → Missed mask → 2 ^ getD (t .sizes) 0 0 ≤ mask → Tried None
+  missed-all missed end has = nothing (λ other above below. missed has other above (omega arith))

@@ -3,15 +3,16 @@ use Prim.Native.Nat.{ℕ, _+_, _-_, _*_, _/_, _%_, _^_, _<_, _≤_}
 use native.Mathlib.Omega.{arith}
 use native.Mathlib.Decide.{decLt}
 use mathlib.Core.Path.{_≡_, sym, _∙_, ap, subst}
-use mathlib.Core.Bool.{Bool, true, false}
+use mathlib.Core.Bool.{Bool, true, false, false≢true}
 use mathlib.Core.List.{List, List·Memᴰ}
 use lib.ListN.{length, getD}
 use lib.Pow.{pow-pos}
-use Rattle.ac.specs.Pair.{Mode, variables}
+use Rattle.ac.specs.Pair.{Mode}
 use Rattle.ac.specs.Rows.{Groups}
-use Rattle.ac.specs.Selection.{Selection, Within as IndexesWithin, admissible, allTaken, allReached, taken}
+use Rattle.ac.specs.Selection.{Within as IndexesWithin, allReached, taken}
 use Rattle.ac.specs.Keys.{layout, keys, fieldsOf, selectionAt, Candidate, Fits}
 use Rattle.ac.specs.Pages.{LeastFrom, NoneFrom}
+use Rattle.ac.proofs.Taken.{admissible-reaches}
 use Rattle.ac.proofs.Listed.{listed-candidates, keys-below}
 use Rattle.table.specs.Table.{groupsIn, Within, TableOf}
 use Rattle.table.specs.declared.Table.{Table}
@@ -19,22 +20,12 @@ use Rattle.keys.specs.declared.Standing.{Standing}
 use Rattle.keys.specs.declared.Standing.the-variants.{Candidate as IsCandidate, NoneBefore}
 use Rattle.keys.specs.declared.Next.{Next}
 use Rattle.keys.specs.declared.Next.the-variants.{Key, None}
-use Rattle.keys.specs.Reach.{Holds}
 use Rattle.keys.specs.Candidates.{Sized, Stands, on-candidate, between, fills, HasTuple, LeastWithin}
 use Rattle.keys.specs.Candidates as within
 use Rattle.keys.specs.List.{OfItsList, NextFrom, found, nothing}
 use Rattle.keys.proofs.Candidates.{blockEnd, below-block-end, same-block}
 use Rattle.keys.proofs.Tuples.{mask-fits}
-use Rattle.keys.proofs.Table.{table-sized, table-holds, table-fits}
-
--- where no variable may be empty, admissible is that every place is reached
-admissible-reached : (M : Mode) (new : ℕ) (L R : List ℕ) (G : Groups) (s : Selection) → M .empties ≡ false
-    → admissible M new L R G s ≡ allReached (taken new G s) (length (variables M L R))
-admissible-reached M new L R G s full =
-    ap (λ b. elim b as (λ _. Bool) [ true ↦ allTaken (s .takes) | false ↦ allReached (taken new G s) (length (variables M L R)) ]) full
-
-true-is-not-false : true ≡ false → ⊥
-true-is-not-false e = let z : _≡_ {A = ℕ} 0 1 = cc e in omega arith
+use Rattle.keys.proofs.Table.{table-sized, table-fits}
 
 -- no listed key stands from the one number to before the other
 abbrev pub Passed : Table → ℕ → ℕ → Type 0
@@ -56,7 +47,7 @@ module _ {t : Table} {M : Mode} {L R : List ℕ} (full : M .empties ≡ false) (
       let h = listed-candidates (table-fits (of .within)) M L R .0 m in (
         h .0,
         ap (allReached (taken (layout .new) (groupsIn t) (selectionAt layout (groupsIn t) key))) (of .the-places)
-            ∙ sym (admissible-reached M (layout .new) L R (groupsIn t) (selectionAt layout (groupsIn t) key) full) ∙ h .1,
+            ∙ sym (admissible-reaches M (layout .new) L R (groupsIn t) (selectionAt layout (groupsIn t) key) full) ∙ h .1,
       )
 
   reached-listed : {key : ℕ} → Candidate layout (groupsIn t) key
@@ -64,7 +55,7 @@ module _ {t : Table} {M : Mode} {L R : List ℕ} (full : M .empties ≡ false) (
   reached-listed {key} candidate e =
       listed-candidates (table-fits (of .within)) M L R .1 (
         candidate,
-        admissible-reached M (layout .new) L R (groupsIn t) (selectionAt layout (groupsIn t) key) full
+        admissible-reaches M (layout .new) L R (groupsIn t) (selectionAt layout (groupsIn t) key) full
             ∙ sym (ap (allReached (taken (layout .new) (groupsIn t) (selectionAt layout (groupsIn t) key))) (of .the-places)) ∙ e,
       )
 
@@ -77,7 +68,7 @@ module _ {t : Table} {start at : ℕ} (passed : Passed t start at) where
       go : Dec (other < later) → later ≤ other
       go (yes before) =
           let reached = listed-reached full of m in
-          absurd (true-is-not-false (sym (reached .1) ∙ missed other (passed M L R full of other m h) before (reached .0)))
+          absurd (false≢true (sym (missed other (passed M L R full of other m h) before (reached .0)) ∙ reached .1))
       go (no beyond) = omega arith
 
   -- an admissible candidate is the least listed key from the start on
@@ -146,8 +137,8 @@ module _ {t : Table} {start at : ℕ} (within : Within t) (walked : Walked t sta
 
   -- A candidate's tuple was tried from its mask on.
   module _ (e : standing ≡ IsCandidate) {tuple from : ℕ} (its-tuple : tuple ≡ at / 65536) (its-mask : from ≡ at % 65536) {next : Next}
-      (tried : (G : Groups) → Holds (t .rows) (t .places) (t .unbalanced) (getD (t .sizes) 0 0) G → Fits layout G → HasTuple G tuple
-      → LeastWithin (fills G (t .places)) (tuple * 65536 + from) (tuple * 65536 + 2 ^ getD (t .sizes) 0 0) next) where
+      (tried : HasTuple (groupsIn t) tuple
+      → LeastWithin (fills (groupsIn t) (t .places)) (tuple * 65536 + from) (tuple * 65536 + 2 ^ getD (t .sizes) 0 0) next) where
     candidate : Candidate layout (groupsIn t) at
     candidate = stands-candidate (subst (Stands (groupsIn t) at) e here)
 
@@ -158,7 +149,7 @@ module _ {t : Table} {start at : ℕ} (within : Within t) (walked : Walked t sta
     least =
         let begins : tuple * 65536 + from ≡ at = omega arith in
         subst (λ (n : ℕ). LeastWithin (fills (groupsIn t) (t .places)) n (tuple * 65536 + 2 ^ getD (t .sizes) 0 0) next) begins
-        (tried (groupsIn t) (table-holds within) (table-fits within) has-tuple)
+        (tried has-tuple)
 
     -- Its masks all miss a place: the walk goes on with the next tuple, since a larger mask has a bit beyond the balanced rows.
     pub step-over : next ≡ None → Walked t start (blockEnd at 16)

@@ -1,3 +1,4 @@
+pub mod Runs
 pub mod Reach
 pub mod Candidates
 pub mod Given

@@ -17,9 +17,12 @@ use Rattle.keys.specs.declared.Next.the-variants.{Key, None}
 use Rattle.keys.specs.declared.Found.{Found}
 use Rattle.keys.specs.declared.Found.the-variants.{Listed, Refused}
 
--- It is so of the list of every pair that the table is of, in a mode in which no variable may be empty.
+-- It is so of every pair that the table is of, in a mode in which no variable may be empty; it is so of the list of every such pair.
+abbrev pub OfItsPair : Table → (Mode → List ℕ → List ℕ → Type 0) → Type 0
+OfItsPair table So = (M : Mode) (L R : List ℕ) → M .empties ≡ false → TableOf M L R table → So M L R
+
 abbrev pub OfItsList : Table → (List ℕ → Type 0) → Type 0
-OfItsList table So = (M : Mode) (L R : List ℕ) → M .empties ≡ false → TableOf M L R table → So (keys M layout L R (groupsIn table))
+OfItsList table So = OfItsPair table (λ M L R. So (keys M layout L R (groupsIn table)))
 
 -- the least key of the list from a number on, or that the list has none
 pub data NextFrom (keys : List ℕ) (from : ℕ) : Next → Type 0 where

@@ -2,11 +2,12 @@
 use Prim.Native.Nat.{ℕ, zero, suc, _+_, _*_, _<_}
 use mathlib.Core.Path.{_≡_}
 use mathlib.Core.Bool.{Bool, true, false, _||_, _&&_}
-use mathlib.Core.List.{List, []}
+use mathlib.Core.List.{List, [], map}
 use lib.Dec.{ltb}
-use lib.ListN.{length, getD}
-use Rattle.ac.specs.Rows.{Groups, rowsAt}
-use Rattle.ac.specs.Keys.{layout, bit, fieldAt}
+use lib.ListN.{length, getD, take}
+use Rattle.ac.specs.Rows.{Group, Groups, rowsAt}
+use Rattle.keys.specs.Runs.{runCount, timesAt}
+use Rattle.keys.specs.declared.Selection.{Selection}
 
 -- some number below n passes the test
 abbrev pub any : ℕ → (ℕ → Bool) → Bool
@@ -23,20 +24,13 @@ abbrev pub group : Groups → ℕ → List (List ℕ)
 group G zero = G .balanced
 group G (suc g) = rowsAt (G .constants) g
 
--- the array holds the groups: row i of group g has its entries, one for each place, from 96 * g + 6 * i on
-pub record Holds (rows : List ℕ) (places unbalanced balanced : ℕ) (G : Groups) : Type 0 where
-  pub how-many-constants : length (G .constants) ≡ unbalanced
-  pub how-many-balanced : length (G .balanced) ≡ balanced
+-- The selection is one of the groups, and the array holds them: row i of group g has its entries, one for each place, from 96 * g + 6 * i on.
+pub record Holds (rows : List ℕ) (places : ℕ) (s : Selection) (G : Groups) : Type 0 where
+  pub how-many-constants : length (G .constants) ≡ s .unbalanced
+  pub how-many-balanced : length (G .balanced) ≡ s .balanced
+  pub the-constants : map (λ (g : Group). g .constant) (G .constants) ≡ take (s .unbalanced) (s .constants)
   pub entries : (g i p : ℕ) → i < length (group G g) → p < places → getD (getD (group G g) i []) p 0 ≡ getD rows (96 * g + 6 * i + p) 0
 
--- the row that the key takes of constant number g is above 0 at the place
-abbrev pub constantReaches : List ℕ → ℕ → ℕ → ℕ → Bool
-constantReaches rows key place g = ltb 0 (getD rows (96 * (g + 1) + 6 * fieldAt layout key g + place) 0)
-
--- balanced row i is taken, and is above 0 at the place
-abbrev pub balancedReaches : List ℕ → ℕ → ℕ → ℕ → Bool
-balancedReaches rows key place i = bit key i && ltb 0 (getD rows (6 * i + place) 0)
-
--- a taken row is above 0 at the place
-abbrev pub reaches : List ℕ → ℕ → ℕ → ℕ → ℕ → Bool
-reaches rows unbalanced balanced key place = any unbalanced (constantReaches rows key place) || any balanced (balancedReaches rows key place)
+-- a taken row is above 0 at the place: one of the runs names its atom there
+abbrev pub reaches : List ℕ → Selection → ℕ → Bool
+reaches rows s place = any (runCount s) (λ run. ltb 0 (timesAt rows s place run))

@@ -4,10 +4,11 @@ ghost use Prim.Native.Nat.{_+_, _*_, _/_, _^_, _<_, _≤_};
 ghost use lib.ListN.{getD};
 ghost use Rattle.ac.specs.Rows.{Groups};
 ghost use Rattle.ac.specs.Keys.{layout, bit, fieldAt, Candidate, Fits};
-ghost use Rattle.table.specs.Table.{Within};
+ghost use Rattle.table.specs.Table.{Within, groupsIn};
 ghost use Rattle.keys.specs.Candidates.{Sized, Stands, fieldLimit, fills, HasTuple, LeastWithin};
 ghost use Rattle.keys.specs.List.{OfItsList, NextFrom, FoundOf};
-ghost use Rattle.keys.specs.Reach.{any, constantReaches, balancedReaches, reaches, Holds};
+ghost use Rattle.keys.specs.Reach.{reaches, Holds};
+ghost use Rattle.keys.specs.Runs.{selectionIn, Fit, runCount, timesAt};
 use numbers::Refusal;
 use table::CONSTANTS;
 use table::GROUP;
@@ -27,7 +28,7 @@ pub const LOW_MASK: u32 = 65_535;
 pub const KEYS: u64 = 4_294_967_296;
 
 // Whether the key takes balanced row `i`: bit i of the low 16.
-pub fn takes(key: u32, i: usize) -> bool
+fn takes(key: u32, i: usize) -> bool
     requires { ⌜ i < layout .rows ⌝ }
     ensures { λ r. ⌜ r ≡ bit key i ⌝ }
 {
@@ -35,7 +36,7 @@ pub fn takes(key: u32, i: usize) -> bool
 }
 
 // The row index of constant number `g`: bits 28 to 31 for the lowest, for the next 24 to 27, then 20 to 23 and 16 to 19.
-pub fn index_at(key: u32, g: usize) -> usize
+fn index_at(key: u32, g: usize) -> usize
     requires { ⌜ g < layout .constants ⌝ }
     ensures { λ r. ⌜ r ≡ fieldAt layout key g ⌝ }
 {
@@ -43,64 +44,88 @@ pub fn index_at(key: u32, g: usize) -> usize
 }
 
 // The key of a tuple of row indexes, a field for each constant, and a set of balanced rows, a bit for each.
-pub fn pack(tuple: u32, mask: u32) -> u32
+fn pack(tuple: u32, mask: u32) -> u32
     requires { ⌜ (tuple < 65536) × (mask < 2 ^ layout .rows) ⌝ }
     ensures { λ r. ⌜ r ≡ tuple * 2 ^ layout .rows + mask ⌝ }
 {
     tuple << MASK_BITS | mask
 }
 
-// Whether one of the constants' rows that the key takes is above 0 at the place.
-fn constants_reach(rows: &[u8; 480], unbalanced: usize, key: u32, place: usize) -> bool
-    requires { ⌜ (unbalanced ≤ layout .constants) × (place < 6) ⌝ }
-    ensures { λ r. ⌜ r ≡ any unbalanced (constantReaches (now (rows .entry)) key place) ⌝ }
+// A selection by its key, with what it takes rows of.
+pub struct Selection {
+    pub key: u32,
+    // the unbalanced constants, ascending, and how many there are
+    pub constants: [u8; 4],
+    pub unbalanced: usize,
+    // how many balanced rows there are
+    pub balanced: usize,
+}
+
+// The selection that a key names of a solved pair.
+pub fn selection_of(table: Table, key: u32) -> Selection
+    ensures { λ r. ⌜ r ≡ selectionIn table key ⌝ }
 {
-    let mut g: usize = 0;
-    while g < unbalanced {
-        let index = index_at(key, g);
-        if rows[GROUP * (g + 1) + VARIABLES * index + place] > 0 {
+    let constants = table.constants;
+    Selection {
+        key,
+        constants,
+        unbalanced: table.unbalanced,
+        balanced: table.sizes[0],
+    }
+}
+
+// The same number as a wider one.
+fn wide(number: u8) -> usize
+    ensures { λ r. ⌜ r ≡ number ⌝ }
+    ensures { λ r. ⌜ r < 256 ⌝ }
+{
+    number as usize
+}
+
+// How often a run of the selection names its atom at the place. There is a run for each unbalanced constant, ascending, as its taken row
+// says, and after them one for each balanced row, as that says if it is taken.
+pub fn times(rows: &[u8; 480], selection: Selection, place: usize, run: usize) -> usize
+    requires { ⌜ Fit selection × (run < runCount selection) × (place < 6) ⌝ }
+    ensures { λ r. ⌜ r ≡ timesAt (now (rows .entry)) selection place run ⌝ }
+    ensures { λ r. ⌜ r < 256 ⌝ }
+{
+    if run < selection.unbalanced {
+        let index = index_at(selection.key, run);
+        return wide(rows[GROUP * (run + 1) + VARIABLES * index + place]);
+    }
+    let row = run - selection.unbalanced;
+    if takes(selection.key, row) {
+        wide(rows[VARIABLES * row + place])
+    } else {
+        0
+    }
+}
+
+// Whether a row that the selection takes is above 0 at the place.
+fn reached(rows: &[u8; 480], selection: Selection, place: usize) -> bool
+    requires { ⌜ Fit selection × (place < 6) ⌝ }
+    ensures { λ r. ⌜ r ≡ reaches (now (rows .entry)) selection place ⌝ }
+{
+    let runs = selection.unbalanced + selection.balanced;
+    let mut run: usize = 0;
+    while run < runs {
+        if times(rows, selection, place, run) > 0 {
             return true;
         }
-        g += 1;
+        run += 1;
     }
     false
 }
 
-// Whether one of the balanced rows that the key takes is above 0 at the place.
-fn balanced_reach(rows: &[u8; 480], balanced: usize, key: u32, place: usize) -> bool
-    requires { ⌜ (balanced ≤ layout .rows) × (place < 6) ⌝ }
-    ensures { λ r. ⌜ r ≡ any balanced (balancedReaches (now (rows .entry)) key place) ⌝ }
-{
-    let mut i: usize = 0;
-    while i < balanced {
-        if takes(key, i) && rows[VARIABLES * i + place] > 0 {
-            return true;
-        }
-        i += 1;
-    }
-    false
-}
-
-// Whether a row that the key takes is above 0 at the place.
-fn reached(rows: &[u8; 480], unbalanced: usize, balanced: usize, key: u32, place: usize) -> bool
-    requires { ⌜ (unbalanced ≤ layout .constants) × (balanced ≤ layout .rows) × (place < 6) ⌝ }
-    ensures { λ r. ⌜ r ≡ reaches (now (rows .entry)) unbalanced balanced key place ⌝ }
-{
-    if constants_reach(rows, unbalanced, key, place) {
-        return true;
-    }
-    balanced_reach(rows, balanced, key, place)
-}
-
-// Whether the key's selection is admissible, of a candidate: each place is above 0 in at least one taken row.
-pub fn weigh(rows: &[u8; 480], places: usize, unbalanced: usize, balanced: usize, key: u32) -> bool
-    requires { ⌜ (places ≤ 6) × (unbalanced ≤ layout .constants) × (balanced ≤ layout .rows) ⌝ }
-    ensures { λ r. ⌜ ((G : Groups) → Holds (now (rows .entry)) places unbalanced balanced G → Fits layout G
-        → Candidate layout G key → r ≡ fills G places key) ⌝ }
+// Whether the selection is admissible, of a candidate: each place is above 0 in at least one taken row.
+fn weigh(rows: &[u8; 480], places: usize, selection: Selection) -> bool
+    requires { ⌜ Fit selection × (places ≤ 6) ⌝ }
+    ensures { λ r. ⌜ ((G : Groups) → Holds (now (rows .entry)) places selection G → Fits layout G → Candidate layout G (selection .key)
+        → r ≡ fills G places (selection .key)) ⌝ }
 {
     let mut place: usize = 0;
     while place < places {
-        if !reached(rows, unbalanced, balanced, key, place) {
+        if !reached(rows, selection, place) {
             return false;
         }
         place += 1;
@@ -125,13 +150,13 @@ fn block_end(key: u32, bits: usize) -> u64
 }
 
 // Where a number stands: on a candidate, or where no candidate comes before a later number.
-pub enum Standing {
+enum Standing {
     Candidate,
     NoneBefore(u64),
 }
 
 // Where the key stands. Up to the end of its block a field only grows, so that one which is too large stays so, and the block is left.
-pub fn stands(sizes: &[usize; 5], unbalanced: usize, key: u32) -> Standing
+fn stands(sizes: &[usize; 5], unbalanced: usize, key: u32) -> Standing
     requires { ⌜ (unbalanced ≤ layout .constants) × (getD (now sizes) 0 0 ≤ layout .rows) ⌝ }
     ensures { λ r. ⌜ ((G : Groups) → Sized (now (sizes .entry)) unbalanced G → Fits layout G → Stands G key r) ⌝ }
 {
@@ -157,23 +182,17 @@ pub enum Next {
 }
 
 // The least admissible key of a tuple from a mask on: the sets of balanced rows are taken one after the other, in the order of their masks.
-fn least_of_tuple(
-    rows: &[u8; 480],
-    places: usize,
-    unbalanced: usize,
-    balanced: usize,
-    tuple: u32,
-    from: u32,
-) -> Next
-    requires { ⌜ (places ≤ 6) × (unbalanced ≤ layout .constants) × (balanced ≤ layout .rows) ⌝ }
-    requires { ⌜ (tuple < 65536) × (from < 2 ^ layout .rows) ⌝ }
-    ensures { λ r. ⌜ ((G : Groups) → Holds (now (rows .entry)) places unbalanced balanced G → Fits layout G → HasTuple G tuple
-        → LeastWithin (fills G places) (tuple * 2 ^ layout .rows + from) (tuple * 2 ^ layout .rows + 2 ^ balanced) r) ⌝ }
+fn least_of_tuple(table: Table, tuple: u32, from: u32) -> Next
+    requires { ⌜ Within table × (tuple < 65536) × (from < 2 ^ layout .rows) ⌝ }
+    ensures { λ r. ⌜ (HasTuple (groupsIn table) tuple → LeastWithin (fills (groupsIn table) (table .places)) (tuple * 2 ^ layout .rows + from)
+        (tuple * 2 ^ layout .rows + 2 ^ getD (table .sizes) 0 0) r) ⌝ }
 {
+    let balanced = table.sizes[0];
     let mut mask = from;
     while mask >> balanced == 0 {
         let key = pack(tuple, mask);
-        if weigh(rows, places, unbalanced, balanced, key) {
+        let selection = selection_of(table, key);
+        if weigh(&table.rows, table.places, selection) {
             return Next::Key(key);
         }
         mask += 1;
@@ -186,7 +205,6 @@ pub fn least_listed(table: Table, from: u64) -> Next
     requires { ⌜ Within table ⌝ }
     ensures { λ r. ⌜ OfItsList table (λ keys. NextFrom keys from r) ⌝ }
 {
-    let balanced = table.sizes[0];
     let mut at = from;
     while at < KEYS {
         let key = at as u32;
@@ -196,14 +214,7 @@ pub fn least_listed(table: Table, from: u64) -> Next
                 at = later;
             }
             Standing::Candidate => {
-                let least = least_of_tuple(
-                    &table.rows,
-                    table.places,
-                    table.unbalanced,
-                    balanced,
-                    key >> MASK_BITS,
-                    key & LOW_MASK,
-                );
+                let least = least_of_tuple(table, key >> MASK_BITS, key & LOW_MASK);
                 if let Next::Key(found) = least {
                     return Next::Key(found);
                 }

@@ -1,2 +1,5 @@
 pub mod Moved
+pub mod Came
+pub mod Growing
+pub mod Waiting
 pub mod Readings

@@ -1,10 +1,11 @@
 -- What the functions below the reading of a block give.
-use Prim.Native.Nat.{ℕ, _+_, _-_, _≤_, _<_, min}
+use Prim.Native.Nat.{ℕ, zero, suc, _+_, _-_, _≤_, _<_, min}
 use mathlib.Core.Path.{_≡_}
 use mathlib.Core.Logic.{_⊎_}
 use mathlib.Core.Bool.{true}
 use mathlib.Core.List.{List, _++_}
 use lib.ListN.{length, take}
+use lib.IntN.{ℤ, pos, negsuc}
 use Rattle.library.specs.Reading.{waiting, Fits}
 use Rattle.library.specs.declared.Reader.{Reader}
 use Rattle.library.specs.declared.Next.{Next}
@@ -16,9 +17,21 @@ use Rattle.library.specs.declared.Filled.the-variants as filled
 use Rattle.library.specs.declared.Ready.{Ready}
 use Rattle.library.specs.declared.Ready.the-variants as ready
 
+-- so many bytes came; none is the end of the input
+abbrev pub cameOf : ℕ → Got
+cameOf zero = got.End
+cameOf (suc n) = got.Bytes (suc n)
+
+-- what a read's answer says: a negative one that it failed, any other how many bytes came, no more than there
+-- was room for
+abbrev pub cameBy : ℤ → ℕ → Got
+cameBy (pos k) room = cameOf (min k room)
+cameBy (negsuc k) room = got.Failed
+
 -- what one read does: its bytes come behind the first ones, which stay as they are
 pub data Reads (buffer : List ℕ) (filled : ℕ) : Got → List ℕ → Type 0 where
-  bytes : {n : ℕ} {after : List ℕ} → 0 < n → filled + n ≤ length after → take filled after ≡ take filled buffer → Reads buffer filled (got.Bytes n) after
+  bytes : {n : ℕ} {after : List ℕ} → 0 < n → filled + n ≤ length after → take filled after ≡ take filled buffer
+      → Reads buffer filled (got.Bytes n) after
   end : {after : List ℕ} → take filled after ≡ take filled buffer → Reads buffer filled got.End after
   failed : {after : List ℕ} → Reads buffer filled got.Failed after
 
@@ -31,11 +44,14 @@ pub record Grown (before : List ℕ) (waited filled : ℕ) (buffer : List ℕ) :
 
 -- as many as are wanted, or all that are left of the input
 pub data Fills (buffer : List ℕ) (waited wanted : ℕ) : Filled → List ℕ → Type 0 where
-  enough : {n : ℕ} {after : List ℕ} → wanted ≤ n → Grown buffer waited n after → Fills buffer waited wanted (filled.Enough n) after
-  ended : {n : ℕ} {after : List ℕ} → Grown buffer waited n after → Fills buffer waited wanted (filled.Ended n) after
+  enough : {n : ℕ} {after : List ℕ} → wanted ≤ n → Grown buffer waited n after
+      → Fills buffer waited wanted (filled.Enough n) after
+  ended : {n : ℕ} {after : List ℕ} → Grown buffer waited n after
+      → Fills buffer waited wanted (filled.Ended n) after
   failed : {after : List ℕ} → Fills buffer waited wanted filled.Failed after
 
--- As many bytes wait as are wanted, or the input has ended; they are those that waited before and those that came since.
+-- As many bytes wait as are wanted, or the input has ended; they are those that waited before and those that
+-- came since.
 pub data Readies (buffer : List ℕ) (r : Reader) (wanted : ℕ) : Ready → List ℕ → Type 0 where
   waits :
       {r′ : Reader} {after : List ℕ} (came : List ℕ) →

@@ -1,4 +1,5 @@
--- Reading a library block by block (document 01, "A library block" and "The nightly program"): what is handed on, of the bytes that came.
+-- Reading a library block by block (document 01, "A library block" and "The nightly program"): what is handed
+-- on, of the bytes that came.
 use Prim.Native.Nat.{ℕ, _+_, _-_, _≤_, _<_}
 use mathlib.Core.Path.{_≡_}
 use mathlib.Core.Logic.{_⊎_}
@@ -27,7 +28,8 @@ pub record Fits (buffer : List ℕ) (r : Reader) : Type 0 where
   pub within : r .filled ≤ length buffer
   pub room : 512 ≤ length buffer
 
--- What comes next: of the bytes that came, those that wait now and those that this call read, the block is the first part and the rest waits then.
+-- What comes next: of the bytes that came, those that wait now and those that this call read, the block is the
+-- first part and the rest waits then.
 pub data HandsOn (buffer : List ℕ) (r : Reader) : Next → Reader → List ℕ → Type 0 where
   a-block :
       {r′ : Reader} {after : List ℕ} {start size : ℕ} (came : List ℕ) →
@@ -39,7 +41,8 @@ pub data HandsOn (buffer : List ℕ) (r : Reader) : Next → Reader → List ℕ
       (size ≡ 512) ⊎ ((0 < size) × (size < 512) × (r′ .ended ≡ true) × (waiting after r′ ≡ [])) →
       r .left ≡ r′ .left + 1 →
       HandsOn buffer r (next.Block start size) r′ after
-  the-end : {r′ : Reader} {after : List ℕ} → Fits after r′ → waiting buffer r ≡ [] → r′ .ended ≡ true → HandsOn buffer r next.End r′ after
+  the-end : {r′ : Reader} {after : List ℕ} → Fits after r′ → waiting buffer r ≡ [] → r′ .ended ≡ true
+      → HandsOn buffer r next.End r′ after
   -- at most so many blocks are read: input remains
   remains :
       {r′ : Reader} {after : List ℕ} (came : List ℕ) →

@@ -1,18 +1,20 @@
-// A library read block by block from a file descriptor, through one lent buffer and with few calls of the system.
+// A library read block by block from a file descriptor, through one lent buffer and with few calls of the
+// system.
 //
-// A read that gives no byte is the end of the input, a negative answer a read that failed. No contract can say which bytes a
-// read gives; these say that the bytes that came are handed on in order, 512 at a time, none lost and none twice.
+// A read that gives no byte is the end of the input, a negative answer a read that failed. No contract can say
+// which bytes a read gives; these say that the bytes that came are handed on in order, 512 at a time, none lost
+// and none twice.
 ghost use mathlib.Core.Path.{_≡_};
 ghost use Prim.Native.Nat.{_≤_, _-_, min};
 ghost use lib.ListN.{length, take};
 ghost use Rattle.library.specs.Reading.{opened, part, Fits, HandsOn};
-ghost use Rattle.library.specs.Inner.{Reads, Fills, Readies, Wants, Hands};
+ghost use Rattle.library.specs.Inner.{cameBy, Reads, Fills, Readies, Wants, Hands};
 
 // The bytes of a block.
 pub const BLOCK: usize = 512;
 
-// How far a library has been read. The bytes that came and were not handed on yet stand in the buffer from `at` up to `filled`;
-// `left` blocks may still be handed on; `ended` says that the input has ended.
+// How far a library has been read. The bytes that came and were not handed on yet stand in the buffer from `at`
+// up to `filled`; `left` blocks may still be handed on; `ended` says that the input has ended.
 pub struct Reader {
     pub at: usize,
     pub filled: usize,
@@ -20,8 +22,8 @@ pub struct Reader {
     pub ended: bool,
 }
 
-// What comes next: a block, by its place in the buffer, where only the last may have fewer than 512 bytes; the end; input that
-// remains after the last block that may be read; or a read that failed.
+// What comes next: a block, by its place in the buffer, where only the last may have fewer than 512 bytes; the
+// end; input that remains after the last block that may be read; or a read that failed.
 pub enum Next {
     Block { start: usize, length: usize },
     End,
@@ -82,7 +84,8 @@ pub fn next_block(fd: i32, buffer: &mut [u8], reader: Reader) -> Step
     }
 }
 
-// How many bytes must wait: a block's or, where no block may be read any more, one, which says that input remains.
+// How many bytes must wait: a block's or, where no block may be read any more, one, which says that input
+// remains.
 fn wanted(left: u64) -> usize
     ensures { λ r. ⌜ Wants left r ⌝ }
 {
@@ -129,7 +132,8 @@ fn least(a: usize, b: usize) -> usize
     if a < b { a } else { b }
 }
 
-// Reads until as many bytes as are wanted wait, or the input has ended; bytes that wait are moved to the buffer's start first.
+// Reads until as many bytes as are wanted wait, or the input has ended; bytes that wait are moved to the
+// buffer's start first.
 fn make_ready(fd: i32, buffer: &mut [u8], reader: Reader, wanted: usize) -> Ready
     requires { ⌜ Fits (now buffer) reader ⌝ }
     requires { ⌜ wanted ≤ length (now buffer) ⌝ }
@@ -176,7 +180,8 @@ fn move_down(buffer: &mut [u8], from: usize, to: usize) -> usize
     count
 }
 
-// Reads behind the bytes that wait at the buffer's start until so many wait as are wanted, or the input has ended.
+// Reads behind the bytes that wait at the buffer's start until so many wait as are wanted, or the input has
+// ended.
 fn read_until(fd: i32, buffer: &mut [u8], waiting: usize, wanted: usize) -> Filled
     requires { ⌜ waiting ≤ length (now buffer) ⌝ }
     requires { ⌜ wanted ≤ length (now buffer) ⌝ }
@@ -202,10 +207,18 @@ fn read_once(fd: i32, buffer: &mut [u8], filled: usize) -> Got
     ensures { λ r. ⌜ Reads (now (buffer .entry)) filled r (now (buffer .exit)) ⌝ }
 {
     let answer = libc::read(fd, &mut buffer[filled..]);
+    what_came(answer, &buffer[filled..])
+}
+
+// What a read's answer says: a negative one that it failed, 0 the end of the input, any other how many bytes
+// came into the room that it was lent.
+fn what_came(answer: isize, room: &[u8]) -> Got
+    ensures { λ r. ⌜ r ≡ cameBy answer (length (now (room .entry))) ⌝ }
+{
     if answer < 0 {
         return Got::Failed;
     }
-    let count = io::count(answer, &buffer[filled..]);
+    let count = io::count(answer, room);
     if count == 0 {
         return Got::End;
     }

@@ -1,4 +1,5 @@
--- The nightly program's lines (document 01, "The nightly program"). Numbers are decimal; every line ends in a line feed.
+-- The nightly program's lines (document 01, "The nightly program"). Numbers are decimal; a line ends in a line
+-- feed.
 use Prim.Native.Nat.{ℕ}
 use mathlib.Core.Bool.{Bool, cond}
 use mathlib.Core.List.{List, [], _++_}
@@ -28,6 +29,7 @@ noneLine P = labelled (ascii "block ") P ++ ascii " none\n"
 abbrev pub refusedLine : ℕ → ℕ → List ℕ
 refusedLine P X = labelled (ascii "block ") P ++ labelled (ascii " refused ") X ++ ascii "\n"
 
+-- the line that a block has, whatever was found
 abbrev pub blockLine : ℕ → Line → List ℕ
 blockLine P (Listed H K N more) = rowsLine P H K
 blockLine P NoUnifier = noneLine P

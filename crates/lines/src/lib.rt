@@ -7,6 +7,7 @@ ghost use mathlib.Core.List.{List};
 ghost use lib.ListN.{length};
 ghost use Rattle.ac.specs.Values.{Binding, laidOut};
 ghost use Rattle.buffer.specs.Put.{Put};
+ghost use Rattle.lines.specs.Putting.{PutWithin};
 ghost use Rattle.lines.specs.Lines.{labelled, rowsLine, noneLine, refusedLine, blockLine, pageEnd, endLine, substitutionLine, countsLine, closingLines};
 use buffer::put_bytes;
 use tally::Closing;
@@ -18,8 +19,8 @@ use text::put_substitution;
 // A word and a number behind it, which has at most 20 digits.
 fn put_labelled(out: &mut [u8], at: usize, word: &[u8], number: u64) -> usize
     requires { ⌜ at + (length (now word) + 20) ≤ length (now out) ⌝ }
-    ensures { λ r. ⌜ Put (now (out .entry)) at (labelled (now (word .entry)) number) r (now (out .exit)) ⌝ }
-    ensures { λ r. ⌜ r ≤ at + (length (now (word .entry)) + 20) ⌝ }
+    ensures { λ r. ⌜ PutWithin (length (now (word .entry)) + 20) (now (out .entry)) at (labelled (now (word .entry)) number)
+        r (now (out .exit)) ⌝ }
 {
     let next = put_bytes(out, at, word);
     put_number(out, next, number)
@@ -28,8 +29,7 @@ fn put_labelled(out: &mut [u8], at: usize, word: &[u8], number: u64) -> usize
 // `block P rows H K`.
 fn put_rows(out: &mut [u8], at: usize, place: u64, balanced: u64, of_constants: u64) -> usize
     requires { ⌜ at + 128 ≤ length (now out) ⌝ }
-    ensures { λ r. ⌜ Put (now (out .entry)) at (rowsLine place balanced «of_constants») r (now (out .exit)) ⌝ }
-    ensures { λ r. ⌜ r ≤ at + 128 ⌝ }
+    ensures { λ r. ⌜ PutWithin 128 (now (out .entry)) at (rowsLine place balanced «of_constants») r (now (out .exit)) ⌝ }
 {
     let next = put_labelled(out, at, b"block ", place);
     let next = put_labelled(out, next, b" rows ", balanced);
@@ -40,8 +40,7 @@ fn put_rows(out: &mut [u8], at: usize, place: u64, balanced: u64, of_constants: 
 // `block P none`.
 fn put_none(out: &mut [u8], at: usize, place: u64) -> usize
     requires { ⌜ at + 128 ≤ length (now out) ⌝ }
-    ensures { λ r. ⌜ Put (now (out .entry)) at (noneLine place) r (now (out .exit)) ⌝ }
-    ensures { λ r. ⌜ r ≤ at + 128 ⌝ }
+    ensures { λ r. ⌜ PutWithin 128 (now (out .entry)) at (noneLine place) r (now (out .exit)) ⌝ }
 {
     let next = put_labelled(out, at, b"block ", place);
     put_bytes(out, next, b" none\n")
@@ -50,8 +49,7 @@ fn put_none(out: &mut [u8], at: usize, place: u64) -> usize
 // `block P refused X`.
 fn put_refused(out: &mut [u8], at: usize, place: u64, number: u8) -> usize
     requires { ⌜ at + 128 ≤ length (now out) ⌝ }
-    ensures { λ r. ⌜ Put (now (out .entry)) at (refusedLine place number) r (now (out .exit)) ⌝ }
-    ensures { λ r. ⌜ r ≤ at + 128 ⌝ }
+    ensures { λ r. ⌜ PutWithin 128 (now (out .entry)) at (refusedLine place number) r (now (out .exit)) ⌝ }
 {
     let next = put_labelled(out, at, b"block ", place);
     let next = put_labelled(out, next, b" refused ", number as u64);
@@ -61,8 +59,7 @@ fn put_refused(out: &mut [u8], at: usize, place: u64, number: u8) -> usize
 // The line that a block has, whatever was found.
 pub fn put_block_line(out: &mut [u8], at: usize, place: u64, line: Line) -> usize
     requires { ⌜ at + 128 ≤ length (now out) ⌝ }
-    ensures { λ r. ⌜ Put (now (out .entry)) at (blockLine place line) r (now (out .exit)) ⌝ }
-    ensures { λ r. ⌜ r ≤ at + 128 ⌝ }
+    ensures { λ r. ⌜ PutWithin 128 (now (out .entry)) at (blockLine place line) r (now (out .exit)) ⌝ }
 {
     match line {
         Line::Listed {
@@ -79,8 +76,7 @@ pub fn put_block_line(out: &mut [u8], at: usize, place: u64, line: Line) -> usiz
 // `more`, or `end N`.
 fn put_page_end(out: &mut [u8], at: usize, lines: u64, more: bool) -> usize
     requires { ⌜ at + 128 ≤ length (now out) ⌝ }
-    ensures { λ r. ⌜ Put (now (out .entry)) at (pageEnd lines more) r (now (out .exit)) ⌝ }
-    ensures { λ r. ⌜ r ≤ at + 128 ⌝ }
+    ensures { λ r. ⌜ PutWithin 128 (now (out .entry)) at (pageEnd lines more) r (now (out .exit)) ⌝ }
 {
     if more {
         return put_bytes(out, at, b"more\n");
@@ -92,8 +88,7 @@ fn put_page_end(out: &mut [u8], at: usize, lines: u64, more: bool) -> usize
 // What stands after the page of a block that has one.
 pub fn put_end_line(out: &mut [u8], at: usize, line: Line) -> usize
     requires { ⌜ at + 128 ≤ length (now out) ⌝ }
-    ensures { λ r. ⌜ Put (now (out .entry)) at (endLine line) r (now (out .exit)) ⌝ }
-    ensures { λ r. ⌜ r ≤ at + 128 ⌝ }
+    ensures { λ r. ⌜ PutWithin 128 (now (out .entry)) at (endLine line) r (now (out .exit)) ⌝ }
 {
     match line {
         Line::Listed {
@@ -110,8 +105,7 @@ pub fn put_end_line(out: &mut [u8], at: usize, line: Line) -> usize
 // `blocks B listed L none U refused F`.
 fn put_counts(out: &mut [u8], at: usize, counts: Counts) -> usize
     requires { ⌜ at + 112 ≤ length (now out) ⌝ }
-    ensures { λ r. ⌜ Put (now (out .entry)) at (countsLine counts) r (now (out .exit)) ⌝ }
-    ensures { λ r. ⌜ r ≤ at + 112 ⌝ }
+    ensures { λ r. ⌜ PutWithin 112 (now (out .entry)) at (countsLine counts) r (now (out .exit)) ⌝ }
 {
     let next = put_labelled(out, at, b"blocks ", counts.blocks);
     let next = put_labelled(out, next, b" listed ", counts.listed);
@@ -123,8 +117,7 @@ fn put_counts(out: &mut [u8], at: usize, counts: Counts) -> usize
 // The lines at the end.
 pub fn put_closing(out: &mut [u8], at: usize, closing: Closing) -> usize
     requires { ⌜ at + 128 ≤ length (now out) ⌝ }
-    ensures { λ r. ⌜ Put (now (out .entry)) at (closingLines closing) r (now (out .exit)) ⌝ }
-    ensures { λ r. ⌜ r ≤ at + 128 ⌝ }
+    ensures { λ r. ⌜ PutWithin 128 (now (out .entry)) at (closingLines closing) r (now (out .exit)) ⌝ }
 {
     match closing {
         Closing::NothingRead => put_bytes(out, at, b"nothing read\n"),
@@ -139,7 +132,8 @@ pub fn put_closing(out: &mut [u8], at: usize, closing: Closing) -> usize
 // The line of a substitution, from the bytes of Values.
 pub fn put_substitution_line(out: &mut [u8], at: usize, values: &[u8]) -> usize
     requires { ⌜ at + 6 * length (now values) + 32 ≤ length (now out) ⌝ }
-    ensures { λ r. ⌜ ((bs : List Binding) → laidOut bs ≡ now (values .entry) → Put (now (out .entry)) at (substitutionLine bs) r (now (out .exit))) ⌝ }
+    ensures { λ r. ⌜ ((bs : List Binding) → laidOut bs ≡ now (values .entry)
+        → Put (now (out .entry)) at (substitutionLine bs) r (now (out .exit))) ⌝ }
     ensures { λ r. ⌜ r ≤ at + 6 * length (now (values .entry)) + 32 ⌝ }
 {
     let next = put_substitution(out, at, values);

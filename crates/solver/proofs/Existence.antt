@@ -21,6 +21,7 @@ use Rattle.ac.proofs.Groups.{groups-exist, groups-unique}
 use Rattle.ac.proofs.Keys.{taken-apart, candidate-selection}
 use Rattle.ac.proofs.Listed.{listed-exactly, listed-candidates}
 use Rattle.ac.proofs.Pages.{remaining-members}
+use Rattle.ac.proofs.Places.{getD-member}
 use Rattle.ac.proofs.Theorems.{sound, complete}
 use Rattle.numbers.specs.First.{First, NoneOf, here, also, end}
 use Rattle.numbers.proofs.Laws.{first-unique, first-not-none}
@@ -34,15 +35,10 @@ use Rattle.solver.specs.Existence.{SomeUnifies, NoneUnifies, replacement
 use Rattle.solver.proofs.Given.{given-list}
 use Rattle.solver.proofs.Limits.{WithinLimits, within-limits}
 
--- a member of a list stands at a place, and what stands at a place is a member
+-- a member of a list stands at a place
 member-place : {a : ℕ} (bs : List ℕ) → List·Memᴰ a bs → (i : ℕ) × (i < length bs) × (getD bs i 0 ≡ a)
 member-place (b ∷ bs) (List·Memᴰ·head e) = (0, omega arith, sym e)
 member-place (b ∷ bs) (List·Memᴰ·tail m) = let t = member-place bs m in (suc (t .0), omega (arith, t .1), t .2)
-
-place-member : (bs : List ℕ) (i : ℕ) → i < length bs → List·Memᴰ (getD bs i 0) bs
-place-member [] i h = absurd (omega arith)
-place-member (b ∷ bs) zero h = List·Memᴰ·head refl
-place-member (b ∷ bs) (suc i) h = List·Memᴰ·tail (place-member bs i (omega arith))
 
 taken-member : {a : ℕ} (n : ℕ) (bs : List ℕ) → List·Memᴰ a (take n bs) → List·Memᴰ a bs
 taken-member zero bs m = absurd (List·Memᴰ·not-nil m)
@@ -91,7 +87,9 @@ module _ {M : Mode} {L R : List ℕ} {begin : Begin} {wanted : ℕ} {out : List 
   -- 13 is the answer where nothing before it is given and nothing unifies
   first-13 : NoneOf (PageGiven M L R begin wanted out) (16 ∷ 7 ∷ 8 ∷ 9 ∷ 10 ∷ 11 ∷ 12 ∷ []) → NoneUnifies M L R
       → First (PageGiven M L R begin wanted out) pageNumbers 13
-  first-13 none nothing = first-after none (here (of-the-list (groups-exist M L R) (none-admissible (none-empty (fine-sides none) (groups-exist M L R) nothing))))
+  first-13 none nothing =
+      let empty = none-empty (fine-sides none) (groups-exist M L R) nothing in
+      first-after none (here (of-the-list (groups-exist M L R) (none-admissible empty)))
 
   -- and something unifies where 13 is not given either
   some-past-13 : NoneOf (PageGiven M L R begin wanted out) (16 ∷ 7 ∷ 8 ∷ 9 ∷ 10 ∷ 11 ∷ 12 ∷ 13 ∷ []) → SomeUnifies M L R
@@ -99,7 +97,8 @@ module _ {M : Mode} {L R : List ℕ} {begin : Begin} {wanted : ℕ} {out : List 
       listed-some (fine-sides (none-front (16 ∷ 7 ∷ 8 ∷ 9 ∷ 10 ∷ 11 ∷ 12 ∷ []) (13 ∷ []) none)) (groups-exist M L R) (λ e. last-skip none e)
     where
       last-skip : NoneOf (PageGiven M L R begin wanted out) (16 ∷ 7 ∷ 8 ∷ 9 ∷ 10 ∷ 11 ∷ 12 ∷ 13 ∷ []) → keys M layout L R (groups M L R) ≡ [] → ⊥
-      last-skip (also _ (also _ (also _ (also _ (also _ (also _ (also _ (also no-13 end)))))))) e = no-13 (of-the-list (groups-exist M L R) (none-admissible e))
+      last-skip (also _ (also _ (also _ (also _ (also _ (also _ (also _ (also no-13 end)))))))) e =
+          no-13 (of-the-list (groups-exist M L R) (none-admissible e))
 
   -- Of a refusal.
   module _ {n : ℕ} (first : First (PageGiven M L R begin wanted out) pageNumbers n) where
@@ -112,8 +111,8 @@ module _ {M : Mode} {L R : List ℕ} {begin : Begin} {wanted : ℕ} {out : List 
 
     some-later : {m : ℕ} → elsewhere m (16 ∷ 7 ∷ 8 ∷ 9 ∷ 10 ∷ 11 ∷ 12 ∷ 13 ∷ []) ≡ true → n ≡ m → SomeUnifies M L R
     some-later {m} past e =
-        some-past-13
-        (first-past (16 ∷ 7 ∷ 8 ∷ 9 ∷ 10 ∷ 11 ∷ 12 ∷ 13 ∷ []) (14 ∷ 15 ∷ []) past (subst (First (PageGiven M L R begin wanted out) pageNumbers) e first))
+        let at-m = subst (First (PageGiven M L R begin wanted out) pageNumbers) e first in
+        some-past-13 (first-past (16 ∷ 7 ∷ 8 ∷ 9 ∷ 10 ∷ 11 ∷ 12 ∷ 13 ∷ []) (14 ∷ 15 ∷ []) past at-m)
 
   -- Of a page.
   module _ {G : Groups} (none : NoneOf (PageGiven M L R begin wanted out) pageNumbers) (of : GroupsOf M L R G) where
@@ -134,7 +133,7 @@ module _ {M : Mode} {L R : List ℕ} {begin : Begin} {wanted : ℕ} {out : List 
         subst (λ key. Unifies M L R (replacementOf M L R G key)) (sym (at-place i h))
         (key-unifies fine-page of
         (remaining-members begin
-        (taken-member (wantedCount wanted) (remaining begin (keys M layout L R G)) (place-member (nextKeys M L R G begin wanted) i h)) .0))
+        (taken-member (wantedCount wanted) (remaining begin (keys M layout L R G)) (getD-member (nextKeys M L R G begin wanted) i 0 h)) .0))
 
     -- a page from the start after which no more follow is the whole list
     pub page-covers : begin ≡ start → moreFollow M L R G begin wanted ≡ false → (θ : Replacement) → Unifies M L R θ

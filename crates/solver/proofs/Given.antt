@@ -31,14 +31,16 @@ module _ {M : Mode} {L R : List ℕ} {begin : Begin} {wanted : ℕ} {out : List 
           list-row (list-number given) (subst (λ H. ListGiven (keys M layout L R H) begin n) (groups-unique M L R other groups) given)
       row-of (short-buffer short) = buffer-row short
 
-  pub given-list : {G : Groups} {n : ℕ} → GroupsOf M L R G → (13 ≤ n) × (n ≤ 15) → PageGiven M L R begin wanted out n → ListGiven (keys M layout L R G) begin n
+  pub given-list : {G : Groups} {n : ℕ} → GroupsOf M L R G → (13 ≤ n) × (n ≤ 15) → PageGiven M L R begin wanted out n
+      → ListGiven (keys M layout L R G) begin n
   given-list groups between given = parts.given-list (made groups) between given
 
   pub first-short : length out < wantedCount wanted → First (PageGiven M L R begin wanted out) pageNumbers 16
   first-short short = parts.first-short (made (groups-exist M L R)) short
 
   module _ (enough : wantedCount wanted ≤ length out) where
-    pub first-of-sides : {n : ℕ} → First (PairGiven limits M L R) (7 ∷ 8 ∷ 9 ∷ 10 ∷ 11 ∷ 12 ∷ []) n → First (PageGiven M L R begin wanted out) pageNumbers n
+    pub first-of-sides : {n : ℕ} → First (PairGiven limits M L R) (7 ∷ 8 ∷ 9 ∷ 10 ∷ 11 ∷ 12 ∷ []) n
+        → First (PageGiven M L R begin wanted out) pageNumbers n
     first-of-sides first = parts.first-of-sides (made (groups-exist M L R)) enough refl (13 ∷ 14 ∷ 15 ∷ []) first
 
     module _ {G : Groups} (groups : GroupsOf M L R G) (none : NoneOf (PairGiven limits M L R) (7 ∷ 8 ∷ 9 ∷ 10 ∷ 11 ∷ 12 ∷ [])) where

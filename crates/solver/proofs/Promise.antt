@@ -34,8 +34,8 @@ module _ {M : Mode} {L R : List ℕ} {begin : Begin} {wanted : ℕ} {out : List 
   pub promise-short : length out < wantedCount wanted → PagePromise M L R begin wanted out (refused 16) out
   promise-short short = is-refused (first-short short)
 
-  module _ {t : Table} (of : TableOf M L R t) (none : NoneOf (PairGiven limits M L R) (7 ∷ 8 ∷ 9 ∷ 10 ∷ 11 ∷ 12 ∷ [])) (enough : wantedCount wanted ≤ length out)
-      {settled : Settled} (told : SettledOf (keys M layout L R (groupsIn t)) begin settled) where
+  module _ {t : Table} (of : TableOf M L R t) (none : NoneOf (PairGiven limits M L R) (7 ∷ 8 ∷ 9 ∷ 10 ∷ 11 ∷ 12 ∷ []))
+      (enough : wantedCount wanted ≤ length out) {settled : Settled} (told : SettledOf (keys M layout L R (groupsIn t)) begin settled) where
     -- 13, 14 and 15 change no buffer
     pub promise-refused : {why : Refusal} → settled ≡ Refused why → PagePromise M L R begin wanted out (refused (numberOf why)) out
     promise-refused e =

@@ -1,21 +1,19 @@
 -- What the steps of Page give, over the list of the pair that a table is of.
 use Prim.Native.Nat.{ℕ}
 use mathlib.Core.Path.{_≡_}
-use mathlib.Core.Bool.{false}
 use mathlib.Core.List.{List, [], _∷_}
 use lib.Dec.{ltb}
 use lib.ListN.{length, take}
 use Rattle.ac.specs.Lists.{receives}
-use Rattle.ac.specs.Pair.{Mode}
 use Rattle.ac.specs.Keys.{Begin, after, remaining}
 use Rattle.numbers.specs.Numbers.{numberOf}
 use Rattle.numbers.specs.First.{First, NoneOf}
 use Rattle.numbers.specs.declared.Refusal.{Refusal}
 use Rattle.sides.specs.Limits.{limits}
 use Rattle.sides.specs.Given.{PairGiven}
-use Rattle.table.specs.Table.{TableOf}
 use Rattle.table.specs.declared.Table.{Table}
 use Rattle.keys.specs.Given.{ListGiven}
+use Rattle.keys.specs.List.{OfItsPair}
 use Rattle.solver.specs.Request.{beginningOf}
 use Rattle.solver.specs.Page.{PageOutcome, page, PagePromise}
 use Rattle.solver.specs.declared.PageRequest.{PageRequest}
@@ -36,5 +34,6 @@ pub record WrittenOf (left : List ℕ) (wanted : ℕ) (out : List ℕ) (outcome 
 -- the promise of Page, for each pair that the table is of and whose sides give no number
 abbrev pub PromiseOfTable : Table → PageRequest → List ℕ → PageOutcome → List ℕ → Type 0
 PromiseOfTable table request out outcome out′ =
-    (M : Mode) (L R : List ℕ) → M .empties ≡ false → TableOf M L R table → NoneOf (PairGiven limits M L R) (7 ∷ 8 ∷ 9 ∷ 10 ∷ 11 ∷ 12 ∷ [])
-    → PagePromise M L R (beginningOf (request .begin)) (request .wanted) out outcome out′
+    OfItsPair table
+    (λ M L R. NoneOf (PairGiven limits M L R) (7 ∷ 8 ∷ 9 ∷ 10 ∷ 11 ∷ 12 ∷ [])
+    → PagePromise M L R (beginningOf (request .begin)) (request .wanted) out outcome out′)

@@ -29,8 +29,8 @@ pub record Tallies (c : Counts) (returned : Returned) (r : Tallied) : Type 0 whe
   pub the-line : r .line ≡ lineOf returned
   pub the-counts : r .counts ≡ counted c (lineOf returned)
 
--- If input remains, the line `too long` stands before the last line. Last comes `blocks B listed L none U refused F`; for an empty input only
--- `nothing read`.
+-- If input remains, the line `too long` stands before the last line. Last comes `blocks B listed L none U
+-- refused F`; for an empty input only `nothing read`.
 abbrev pub closingOf : Counts → Bool → Closing
 closingOf c true = TooLong c
 closingOf c false = cond (eqb (c .blocks) 0) NothingRead (Counted c)

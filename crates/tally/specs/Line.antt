@@ -15,13 +15,14 @@ use Rattle.solver.specs.declared.PageAnswer.the-variants as page
 use Rattle.tally.specs.declared.Line.{Line}
 use Rattle.tally.specs.declared.Line.the-variants.{Listed, NoUnifier, Refused}
 
--- What the questions returned for a block: a number of the table; or the balanced rows, the rows of all constants, the number of keys that Page
--- wrote and whether more follow.
+-- What the questions returned for a block: a number of the table; or the balanced rows, the rows of all
+-- constants, the number of keys that Page wrote and whether more follow.
 pub data Returned : Type 0 where
   refused : ℕ → Returned
   gave : (balanced constants written : ℕ) (more : Bool) → Returned
 
--- the rows of all constants, as far as a number of 64 bits goes; the sizes of constants that there are not are 0
+-- the rows of all constants, as far as a number of 64 bits goes; the sizes of constants that there are not are
+-- 0
 abbrev pub constantsRows : ℕ → ℕ → ℕ → ℕ → ℕ
 constantsRows first second third fourth = min (first + second + third + fourth) (2 ^ 64 - 1)
 
@@ -37,7 +38,8 @@ told (Sides left right) (Groups balanced constants first second third fourth) (P
 abbrev pub lineOfNumber : ℕ → Line
 lineOfNumber n = cond (eqb n 13) NoUnifier (Refused n)
 
--- `block P rows H K` (balanced rows, rows of all constants), then the page, then `end N` (lines printed) or `more`.
+-- `block P rows H K` (balanced rows, rows of all constants), then the page, then `end N` (lines printed) or
+-- `more`.
 abbrev pub lineOf : Returned → Line
 lineOf (refused n) = lineOfNumber n
 lineOf (gave balanced constants written more) = Listed balanced constants written more

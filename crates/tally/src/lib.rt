@@ -14,7 +14,8 @@ use solver::PageAnswer;
 // The number that says that there is no unifier.
 const NO_UNIFIER: u8 = 13;
 
-// What a block's line says beside its place, and what stands after its page: `end` and the number of lines printed, or `more`.
+// What a block's line says beside its place, and what stands after its page: `end` and the number of lines
+// printed, or `more`.
 pub enum Line {
     Listed {
         balanced: u64,

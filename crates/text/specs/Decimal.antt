@@ -13,6 +13,7 @@ abbrev pub digitsWithin : ℕ → ℕ → List ℕ
 digitsWithin zero n = []
 digitsWithin (suc places) n = elim (ltb n 10) [ true ↦ digit n ∷ [] | false ↦ digitsWithin places (n / 10) ++ (digit (n % 10) ∷ []) ]
 
--- n in decimal: a number below 10 is its digit, any other the decimal of its tenth with its last digit behind (`decimal-digit`, `decimal-more`)
+-- n in decimal: a number below 10 is its digit, any other the decimal of its tenth with its last digit behind
+-- (`decimal-digit`, `decimal-more`)
 unfoldable pub decimal : ℕ → List ℕ
 decimal n = digitsWithin (suc n) n

@@ -35,7 +35,8 @@ abbrev pub spaced : List Binding → List ℕ
 spaced [] = []
 spaced (b ∷ bs) = ascii " " ++ bound b ++ spaced bs
 
--- A substitution gives for each variable its binding, with one space between variables; one without variables is -.
+-- A substitution gives for each variable its binding, with one space between variables; one without variables
+-- is -.
 abbrev pub substitution : List Binding → List ℕ
 substitution [] = ascii "-"
 substitution (b ∷ bs) = bound b ++ spaced bs

@@ -87,7 +87,8 @@ pub fn put_value(out: &mut [u8], at: usize, atoms: &[u8]) -> usize
     put_rest(out, next, &atoms[1..])
 }
 
-// A variable with its value, from its bytes in the layout of Values: the variable's byte, a count and the atoms.
+// A variable with its value, from its bytes in the layout of Values: the variable's byte, a count and the
+// atoms.
 fn put_bound(out: &mut [u8], at: usize, bytes: &[u8]) -> usize
     requires { ⌜ 0 < length (now bytes) ⌝ }
     requires { ⌜ at + 5 * length (now bytes) + 30 ≤ length (now out) ⌝ }

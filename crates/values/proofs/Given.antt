@@ -21,7 +21,8 @@ use Rattle.values.specs.Given.{LongValue, ValuesGiven, of-the-sides, of-
 module _ {M : Mode} {L R : List ℕ} {key : ℕ} {out : List ℕ} where
   -- each row of Values' table is the row of the sides, of the list, of the buffer or of the values
   made : {G : Groups} → GroupsOf M L R G
-      → MadeOf (ValuesGiven M L R key out) (PairGiven limits M L R) (ListGiven (keys M layout L R G) (after key)) (length out) 1212 (LongValue M L R G key)
+      → MadeOf (ValuesGiven M L R key out) (PairGiven limits M L R) (ListGiven (keys M layout L R G) (after key)) (length out) 1212
+      (LongValue M L R G key)
   made {G} groups = record { of-sides = of-the-sides; of-list = of-the-list groups; of-buffer = short-buffer; row-of = row-of }
     where
       row-of : {n : ℕ} → ValuesGiven M L R key out n
@@ -36,7 +37,8 @@ module _ {M : Mode} {L R : List ℕ} {key : ℕ} {out : List ℕ} where
   first-short short = parts.first-short (made (groups-exist M L R)) short
 
   module _ (enough : 1212 ≤ length out) where
-    pub first-of-sides : {n : ℕ} → First (PairGiven limits M L R) (7 ∷ 8 ∷ 9 ∷ 10 ∷ 11 ∷ 12 ∷ []) n → First (ValuesGiven M L R key out) valuesNumbers n
+    pub first-of-sides : {n : ℕ} → First (PairGiven limits M L R) (7 ∷ 8 ∷ 9 ∷ 10 ∷ 11 ∷ 12 ∷ []) n
+        → First (ValuesGiven M L R key out) valuesNumbers n
     first-of-sides first = parts.first-of-sides (made (groups-exist M L R)) enough refl (13 ∷ 14 ∷ 17 ∷ []) first
 
     module _ {G : Groups} (groups : GroupsOf M L R G) (none : NoneOf (PairGiven limits M L R) (7 ∷ 8 ∷ 9 ∷ 10 ∷ 11 ∷ 12 ∷ [])) where

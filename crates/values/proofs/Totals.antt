@@ -3,12 +3,13 @@ use Prim.Native.Nat.{ℕ, zero, suc, _+_, _<_, _≤_}
 use native.Mathlib.Numerals.{add-one}
 use native.Mathlib.Omega.{arith}
 use native.Mathlib.Decide.{decLt}
-use mathlib.Core.Path.{_≡_, refl, ap, ap₂, sym, _∙_}
+use mathlib.Core.Path.{_≡_, ap, ap₂, sym, _∙_}
 use mathlib.Core.List.{List, _++_}
-use lib.ListN.{length, length-append, length-replicate, replicate}
+use lib.ListN.{length, replicate}
 use Rattle.buffer.specs.Put.{Put}
 use Rattle.buffer.proofs.Puts.{put-then, put-as, put-length}
-use Rattle.values.specs.Runs.{runs, total}
+use Rattle.keys.specs.Runs.{runs, total}
+use Rattle.keys.proofs.Runs.{length-runs}
 
 -- one more is counted
 pub total-next : {n sum more : ℕ} (times : ℕ → ℕ) → sum ≡ total n times → more ≡ times n → sum + more ≡ total (n + 1) times
@@ -17,12 +18,6 @@ total-next {n} times e f = ap₂ (λ a b. a + b) e f ∙ ap (λ (k : ℕ). total
 -- one more run stands behind
 pub runs-next : (n : ℕ) (times atom : ℕ → ℕ) → runs n times atom ++ replicate (times n) (atom n) ≡ runs (n + 1) times atom
 runs-next n times atom = ap (λ (k : ℕ). runs k times atom) (sym (add-one n))
-
--- the runs are as long as their total
-pub length-runs : (n : ℕ) (times atom : ℕ → ℕ) → length (runs n times atom) ≡ total n times
-length-runs zero times atom = refl
-length-runs (suc n) times atom =
-    length-append (runs n times atom) (replicate (times n) (atom n)) ∙ ap₂ (λ a b. a + b) (length-runs n times atom) (length-replicate (times n) (atom n))
 
 -- a run that comes later is within the whole
 pub total-within : (n g : ℕ) (times : ℕ → ℕ) → g < n → total g times + times g ≤ total n times
@@ -39,5 +34,6 @@ module _ (g : ℕ) (times atom : ℕ → ℕ) {out₀ out : List ℕ} {at next :
   run-fits n h room e = omega (arith, put .place, put-length put, length-runs g times atom, total-within n g times h)
 
   -- the next run is put
-  pub put-run : {k b m : ℕ} {after : List ℕ} → k ≡ times g → b ≡ atom g → Put out next (replicate k b) m after → Put out₀ at (runs (g + 1) times atom) m after
+  pub put-run : {k b m : ℕ} {after : List ℕ} → k ≡ times g → b ≡ atom g → Put out next (replicate k b) m after
+      → Put out₀ at (runs (g + 1) times atom) m after
   put-run e f more = put-as (runs-next g times atom) (put-then put (put-as (ap₂ (λ a c. replicate a c) e f) more))

@@ -1,7 +1,5 @@
 -- What the steps of Values give, over the list of the pair that a table is of.
 use Prim.Native.Nat.{ℕ}
-use mathlib.Core.Path.{_≡_}
-use mathlib.Core.Bool.{false}
 use mathlib.Core.List.{List, [], _∷_, List·Memᴰ}
 use lib.ListN.{length}
 use Rattle.ac.specs.Lists.{receives}
@@ -11,8 +9,9 @@ use Rattle.ac.specs.Keys.{layout, keys}
 use Rattle.numbers.specs.First.{NoneOf}
 use Rattle.sides.specs.Limits.{limits}
 use Rattle.sides.specs.Given.{PairGiven}
-use Rattle.table.specs.Table.{TableOf, groupsIn}
+use Rattle.table.specs.Table.{groupsIn}
 use Rattle.table.specs.declared.Table.{Table}
+use Rattle.keys.specs.List.{OfItsPair}
 use Rattle.values.specs.Given.{LongValue}
 use Rattle.values.specs.Values.{ValuesOutcome, refused, written, valuesOf, ValuesPromise}
 
@@ -23,11 +22,9 @@ pub data Writes (M : Mode) (L R : List ℕ) (G : Groups) (key : ℕ) (out : List
 
 abbrev pub WrittenOf : Table → ℕ → List ℕ → ValuesOutcome → List ℕ → Type 0
 WrittenOf table key out outcome out′ =
-    (M : Mode) (L R : List ℕ) → M .empties ≡ false → TableOf M L R table → List·Memᴰ key (keys M layout L R (groupsIn table))
-    → Writes M L R (groupsIn table) key out outcome out′
+    OfItsPair table (λ M L R. List·Memᴰ key (keys M layout L R (groupsIn table)) → Writes M L R (groupsIn table) key out outcome out′)
 
 -- the promise of Values, for each pair that the table is of and whose sides give no number
 abbrev pub PromiseOfTable : Table → ℕ → List ℕ → ValuesOutcome → List ℕ → Type 0
 PromiseOfTable table key out outcome out′ =
-    (M : Mode) (L R : List ℕ) → M .empties ≡ false → TableOf M L R table → NoneOf (PairGiven limits M L R) (7 ∷ 8 ∷ 9 ∷ 10 ∷ 11 ∷ 12 ∷ [])
-    → ValuesPromise M L R key out outcome out′
+    OfItsPair table (λ M L R. NoneOf (PairGiven limits M L R) (7 ∷ 8 ∷ 9 ∷ 10 ∷ 11 ∷ 12 ∷ []) → ValuesPromise M L R key out outcome out′)

@@ -3,24 +3,22 @@ ghost use Prim.Native.Nat.{_+_, _≤_, _<_};
 ghost use mathlib.Core.Path.{_≡_};
 ghost use mathlib.Core.List.{_∷_};
 ghost use lib.ListN.{length};
-ghost use lib.Dec.{ltb};
 ghost use mathlib.Core.Bool.{false};
 ghost use Rattle.ac.specs.Values.{laidOut};
 ghost use Rattle.buffer.specs.Put.{Put};
-ghost use Rattle.keys.specs.Reach.{any};
-ghost use Rattle.values.specs.Runs.{runs, total, constantTimes, balancedTimes, constantAt, newAt, atomsAt, lengthAt, bindingsBelow};
+ghost use Rattle.keys.specs.Runs.{Fit, runCount, atomOf, atomsAt, lengthAt};
+ghost use Rattle.values.specs.Bindings.{tooLong, bindingsBelow};
 ghost use Rattle.table.specs.Table.{Within};
 ghost use Rattle.values.specs.Values.{told};
 ghost use Rattle.values.specs.Steps.{WrittenOf, PromiseOfTable};
 use buffer::put_repeated;
 use keys::Found;
+use keys::Selection;
 use keys::find_key;
-use keys::index_at;
-use keys::takes;
+use keys::selection_of;
+use keys::times;
 use numbers::Refusal;
-use table::GROUP;
 use table::Table;
-use table::VARIABLES;
 
 // A value has at most 200 atoms.
 pub const LONGEST: usize = 200;
@@ -37,95 +35,41 @@ pub enum ValuesAnswer {
     Refused(Refusal),
 }
 
-// The same number as a wider one.
-fn wide(number: u8) -> usize
-    ensures { λ r. ⌜ r ≡ number ⌝ }
-    ensures { λ r. ⌜ r < 256 ⌝ }
+// The atom of a run of the selection: the constant, or the new variable of the balanced row.
+fn atom(selection: Selection, run: usize) -> u8
+    requires { ⌜ Fit selection × (run < runCount selection) ⌝ }
+    ensures { λ r. ⌜ r ≡ atomOf selection run ⌝ }
 {
-    number as usize
-}
-
-// How often the row that the key takes of constant number `g` names it at the place.
-fn constant_times(rows: &[u8; 480], key: u32, place: usize, g: usize) -> usize
-    requires { ⌜ (g < 4) × (place < 6) ⌝ }
-    ensures { λ r. ⌜ r ≡ constantTimes (now (rows .entry)) key place g ⌝ }
-    ensures { λ r. ⌜ r < 256 ⌝ }
-{
-    let index = index_at(key, g);
-    wide(rows[GROUP * (g + 1) + VARIABLES * index + place])
-}
-
-// How often balanced row `i` names its new variable at the place; 0 times if it is not taken.
-fn balanced_times(rows: &[u8; 480], key: u32, place: usize, i: usize) -> usize
-    requires { ⌜ (i < 16) × (place < 6) ⌝ }
-    ensures { λ r. ⌜ r ≡ balancedTimes (now (rows .entry)) key place i ⌝ }
-    ensures { λ r. ⌜ r < 256 ⌝ }
-{
-    if takes(key, i) {
-        wide(rows[VARIABLES * i + place])
+    if run < selection.unbalanced {
+        selection.constants[run]
     } else {
-        0
+        NEW + (run - selection.unbalanced) as u8
     }
-}
-
-// How many atoms of the constants the value at the place has.
-fn constants_length(rows: &[u8; 480], unbalanced: usize, key: u32, place: usize) -> usize
-    requires { ⌜ (unbalanced ≤ 4) × (place < 6) ⌝ }
-    ensures { λ r. ⌜ r ≡ total unbalanced (constantTimes (now (rows .entry)) key place) ⌝ }
-    ensures { λ r. ⌜ r ≤ 1020 ⌝ }
-{
-    let mut length: usize = 0;
-    let mut g: usize = 0;
-    while g < unbalanced {
-        length += constant_times(rows, key, place, g);
-        g += 1;
-    }
-    length
-}
-
-// How many new variables, counted as often as they stand in it, the value at the place has.
-fn balanced_length(rows: &[u8; 480], balanced: usize, key: u32, place: usize) -> usize
-    requires { ⌜ (balanced ≤ 16) × (place < 6) ⌝ }
-    ensures { λ r. ⌜ r ≡ total balanced (balancedTimes (now (rows .entry)) key place) ⌝ }
-    ensures { λ r. ⌜ r ≤ 4080 ⌝ }
-{
-    let mut length = 0;
-    let mut i: usize = 0;
-    while i < balanced {
-        length += balanced_times(rows, key, place, i);
-        i += 1;
-    }
-    length
 }
 
 // How many atoms the value at the place has.
-pub fn value_length(
-    rows: &[u8; 480],
-    unbalanced: usize,
-    balanced: usize,
-    key: u32,
-    place: usize,
-) -> usize
-    requires { ⌜ (unbalanced ≤ 4) × (balanced ≤ 16) × (place < 6) ⌝ }
-    ensures { λ r. ⌜ r ≡ lengthAt (now (rows .entry)) unbalanced balanced key place ⌝ }
+fn value_length(rows: &[u8; 480], selection: Selection, place: usize) -> usize
+    requires { ⌜ Fit selection × (place < 6) ⌝ }
+    ensures { λ r. ⌜ r ≡ lengthAt (now (rows .entry)) selection place ⌝ }
 {
-    constants_length(rows, unbalanced, key, place) + balanced_length(rows, balanced, key, place)
+    let runs = selection.unbalanced + selection.balanced;
+    let mut length: usize = 0;
+    let mut run: usize = 0;
+    while run < runs {
+        length += times(rows, selection, place, run);
+        run += 1;
+    }
+    length
 }
 
 // Whether a value would have more than 200 atoms.
-pub fn too_long(
-    rows: &[u8; 480],
-    places: usize,
-    unbalanced: usize,
-    balanced: usize,
-    key: u32,
-) -> bool
-    requires { ⌜ (places ≤ 6) × (unbalanced ≤ 4) × (balanced ≤ 16) ⌝ }
-    ensures { λ r. ⌜ r ≡ any places (λ p. ltb 200 (lengthAt (now (rows .entry)) unbalanced balanced key p)) ⌝ }
+fn too_long(rows: &[u8; 480], places: usize, selection: Selection) -> bool
+    requires { ⌜ Fit selection × (places ≤ 6) ⌝ }
+    ensures { λ r. ⌜ r ≡ tooLong (now (rows .entry)) places selection ⌝ }
 {
     let mut place = 0;
     while place < places {
-        if LONGEST < value_length(rows, unbalanced, balanced, key, place) {
+        if LONGEST < value_length(rows, selection, place) {
             return true;
         }
         place += 1;
@@ -133,50 +77,25 @@ pub fn too_long(
     false
 }
 
-// The constants in the value at the place: each, ascending, as often as its taken row says.
-fn put_constants(
+// The atoms of the value at the place: that of each run, as often as the run names it.
+fn put_atoms(
     rows: &[u8; 480],
-    constants: &[u8; 4],
-    unbalanced: usize,
-    key: u32,
+    selection: Selection,
     place: usize,
     out: &mut [u8],
     at: usize,
 ) -> usize
-    requires { ⌜ (unbalanced ≤ 4) × (place < 6) ⌝ }
-    requires { ⌜ at + total unbalanced (constantTimes (now rows) key place) ≤ length (now out) ⌝ }
-    ensures { λ r. ⌜ Put (now (out .entry)) at (runs unbalanced (constantTimes (now (rows .entry)) key place) (constantAt (now (constants .entry)))) r
-        (now (out .exit)) ⌝ }
+    requires { ⌜ Fit selection × (place < 6) ⌝ }
+    requires { ⌜ at + lengthAt (now rows) selection place ≤ length (now out) ⌝ }
+    ensures { λ r. ⌜ Put (now (out .entry)) at (atomsAt (now (rows .entry)) selection place) r (now (out .exit)) ⌝ }
 {
+    let runs = selection.unbalanced + selection.balanced;
     let mut next = at;
-    let mut g: usize = 0;
-    while g < unbalanced {
-        let times = constant_times(rows, key, place, g);
-        next = put_repeated(out, next, constants[g], times);
-        g += 1;
-    }
-    next
-}
-
-// The new variables in the value at the place: each, ascending, as often as its row says, if that is taken.
-fn put_new(
-    rows: &[u8; 480],
-    balanced: usize,
-    key: u32,
-    place: usize,
-    out: &mut [u8],
-    at: usize,
-) -> usize
-    requires { ⌜ (balanced ≤ 16) × (place < 6) ⌝ }
-    requires { ⌜ at + total balanced (balancedTimes (now rows) key place) ≤ length (now out) ⌝ }
-    ensures { λ r. ⌜ Put (now (out .entry)) at (runs balanced (balancedTimes (now (rows .entry)) key place) newAt) r (now (out .exit)) ⌝ }
-{
-    let mut next = at;
-    let mut i: u8 = 0;
-    while wide(i) < balanced {
-        let times = balanced_times(rows, key, place, wide(i));
-        next = put_repeated(out, next, NEW + i, times);
-        i += 1;
+    let mut run: usize = 0;
+    while run < runs {
+        let named = times(rows, selection, place, run);
+        next = put_repeated(out, next, atom(selection, run), named);
+        run += 1;
     }
     next
 }
@@ -184,61 +103,42 @@ fn put_new(
 // A variable with its value: its byte, the count and the atoms.
 fn put_binding(
     rows: &[u8; 480],
-    constants: &[u8; 4],
     variable: u8,
-    unbalanced: usize,
-    balanced: usize,
-    key: u32,
+    selection: Selection,
     place: usize,
     out: &mut [u8],
     at: usize,
 ) -> usize
-    requires { ⌜ (unbalanced ≤ 4) × (balanced ≤ 16) × (place < 6) ⌝ }
-    requires { ⌜ lengthAt (now rows) unbalanced balanced key place ≤ 200 ⌝ }
+    requires { ⌜ Fit selection × (place < 6) ⌝ }
+    requires { ⌜ lengthAt (now rows) selection place ≤ 200 ⌝ }
     requires { ⌜ at + 202 ≤ length (now out) ⌝ }
     ensures { λ r. ⌜ Put (now (out .entry)) at
-        (variable ∷ lengthAt (now (rows .entry)) unbalanced balanced key place ∷ atomsAt (now (rows .entry)) (now (constants .entry)) unbalanced balanced key place) r
-        (now (out .exit)) ⌝ }
+        (variable ∷ lengthAt (now (rows .entry)) selection place ∷ atomsAt (now (rows .entry)) selection place) r (now (out .exit)) ⌝ }
 {
     out[at] = variable;
-    out[at + 1] = value_length(rows, unbalanced, balanced, key, place) as u8;
-    let next = put_constants(rows, constants, unbalanced, key, place, out, at + 2);
-    put_new(rows, balanced, key, place, out, next)
+    out[at + 1] = value_length(rows, selection, place) as u8;
+    put_atoms(rows, selection, place, out, at + 2)
 }
 
 // The variables, ascending, each with its value.
-pub fn put_bindings(
+fn put_bindings(
     rows: &[u8; 480],
-    constants: &[u8; 4],
     variables: &[u8; 6],
     places: usize,
-    unbalanced: usize,
-    balanced: usize,
-    key: u32,
+    selection: Selection,
     out: &mut [u8],
 ) -> usize
-    requires { ⌜ (places ≤ 6) × (unbalanced ≤ 4) × (balanced ≤ 16) ⌝ }
-    requires { ⌜ any places (λ p. ltb 200 (lengthAt (now rows) unbalanced balanced key p)) ≡ false ⌝ }
+    requires { ⌜ Fit selection × (places ≤ 6) ⌝ }
+    requires { ⌜ tooLong (now rows) places selection ≡ false ⌝ }
     requires { ⌜ 1212 ≤ length (now out) ⌝ }
     ensures { λ r. ⌜ Put (now (out .entry)) 0
-        (laidOut (bindingsBelow (now (variables .entry)) (atomsAt (now (rows .entry)) (now (constants .entry)) unbalanced balanced key) places)) r
-        (now (out .exit)) ⌝ }
+        (laidOut (bindingsBelow (now (variables .entry)) (atomsAt (now (rows .entry)) selection) places)) r (now (out .exit)) ⌝ }
     ensures { λ r. ⌜ r ≤ 1212 ⌝ }
 {
     let mut next: usize = 0;
     let mut place: usize = 0;
     while place < places {
-        next = put_binding(
-            rows,
-            constants,
-            variables[place],
-            unbalanced,
-            balanced,
-            key,
-            place,
-            out,
-            next,
-        );
+        next = put_binding(rows, variables[place], selection, place, out, next);
         place += 1;
     }
     next
@@ -250,23 +150,12 @@ pub fn write(table: Table, key: u32, out: &mut [u8]) -> ValuesAnswer
     requires { ⌜ 1212 ≤ length (now out) ⌝ }
     ensures { λ r. ⌜ WrittenOf table key (now (out .entry)) (told r) (now (out .exit)) ⌝ }
 {
-    let balanced = table.sizes[0];
-    let rows = table.rows;
-    if too_long(&rows, table.places, table.unbalanced, balanced, key) {
+    let selection = selection_of(table, key);
+    if too_long(&table.rows, table.places, selection) {
         return ValuesAnswer::Refused(Refusal::LongValue);
     }
-    let constants = table.constants;
     let variables = table.variables;
-    let length = put_bindings(
-        &rows,
-        &constants,
-        &variables,
-        table.places,
-        table.unbalanced,
-        balanced,
-        key,
-        out,
-    );
+    let length = put_bindings(&table.rows, &variables, table.places, selection, out);
     ValuesAnswer::Values { length }
 }
 

@@ -57,7 +57,7 @@ module _ {L R : List ℕ} {G : Groups}
   pub page-from : (begin : Begin) → ((k : ℕ) → begin ≡ after k → List·Memᴰ k (keys unifying layout L R G))
       → (key : ℕ) (others : List ℕ) → remaining begin (keys unifying layout L R G) ≡ key ∷ others → length (key ∷ others) ≤ 200
       → (out : List ℕ) → 200 ≤ length out
-      → Answers pageQuestion (record { left = L; right = R; begin = begin; wanted = 0 }) out (page (length (key ∷ others)) false) (receives out (key ∷ others))
+      → Answers pageQuestion (record { left = L; right = R; also = record { begin = begin; wanted = 0 } }) out (page (length (key ∷ others)) false) (receives out (key ∷ others))
   page-from begin on-list key others e few out enough = record { meets = met; alone = λ other exit p. page-determined p met }
     where
       whole : take 200 (remaining begin (keys unifying layout L R G)) ≡ key ∷ others

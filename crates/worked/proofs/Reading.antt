@@ -10,7 +10,7 @@ use Rattle.block.specs.Front.{one, two, Writes, leftSide, rightSide}
 use Rattle.block.specs.Block.{leftTerm, rightTerm, filler}
 use Rattle.block.specs.Inner.{allZero, GoodHeader}
 use Rattle.block.specs.Read.{is-read}
-use Rattle.block.proofs.Settled.{not-16, none-given as block-gives-none}
+use Rattle.block.proofs.Settled.{not-16, none-given}
 use Rattle.block.proofs.Determined.{read-determined}
 use Rattle.worked.specs.Questions.{TwoBuffers}
 use Rattle.worked.specs.Answers.{ReadGives}
@@ -20,8 +20,8 @@ use Rattle.worked.specs.Example.{block-0, block-1}
 block-gives : {block : List ℕ} {number : ℕ} {s t : Term} → GoodHeader block number → Writes (leftTerm block) s → Writes (rightTerm block) t
     → allZero (filler block) ≡ true → ReadGives block number (leftSide s) (rightSide t)
 block-gives good left right zeros lent left-fits right-fits =
-    let none = block-gives-none good left right zeros (lent .left) (lent .right) in
-    let met = is-read (also (not-16 left-fits right-fits) none) left right in
+    let met =
+    is-read (also (not-16 left-fits right-fits) (none-given good left right zeros (lent .left) (lent .right))) left right in
     record {
       meets = met;
       alone = λ other exit p.

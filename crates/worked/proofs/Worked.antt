@@ -81,4 +81,11 @@ worked-questions pair member =
 
 -- and so of the pair of each number
 pub worked-number : (n : ℕ) → 1 ≤ n → n ≤ 12 → Worked (numbered n)
-worked-number n low high = worked-questions (numbered n) (getD-member pairs (n - 1) (record { left = []; right = []; printed = [] }) (omega arith))
+worked-number n low high =
+    worked-questions (numbered n) (getD-member pairs (n - 1) (record { left = []; right = []; printed = [] }) (omega arith))
+
+-- by its groups
+pub worked-groups : (n : ℕ) → 1 ≤ n → n ≤ 12
+    → AnswersBy (numbered n .left) (numbered n .right) (groups unifying (numbered n .left) (numbered n .right))
+worked-groups n low high =
+    worked-number n low high .by-groups _ (groups-exist unifying (numbered n .left) (numbered n .right))

@@ -12,8 +12,8 @@ use Rattle.ac.specs.Keys.{layout, keys, Begin, start, after}
 use Rattle.ac.specs.Worked.{the-keys}
 use Rattle.ac.proofs.Groups.{groups-exist}
 use Rattle.solver.specs.Page.{page}
-use Rattle.worked.specs.Questions.{PageAsked, pageQuestion}
-use Rattle.worked.specs.Answers.{Answers, PageGives, numbered}
+use Rattle.worked.specs.Questions.{SidesAsked, Request, pageQuestion}
+use Rattle.worked.specs.Answers.{Answers, PageGives, numbered, ofPair}
 use Rattle.worked.specs.Programs.{Program, MeetsAt, RefusesEverything, ConstantResult, WritesNothing, ThenFifteen}
 use Rattle.worked.proofs.Within.{never-given}
 use Rattle.worked.proofs.Answering.{page-from}
@@ -21,8 +21,8 @@ use Rattle.worked.proofs.Worked.{worked-number}
 use Rattle.worked.proofs.Wrong as wrong
 
 -- the pair of that number, from a beginning; 0 wanted, meaning 200
-abbrev asked : ℕ → Begin → PageAsked
-asked n begin = record { left = numbered n .left; right = numbered n .right; begin = begin; wanted = 0 }
+abbrev asked : ℕ → Begin → SidesAsked Request
+asked n begin = ofPair n (record { begin = begin; wanted = 0 })
 
 -- pair 2: keys 6, 7, 9, 11, 13, 14, 15
 seven-keys : PageGives (numbered 2 .left) (numbered 2 .right) (6 ∷ 7 ∷ 9 ∷ 11 ∷ 13 ∷ 14 ∷ 15 ∷ [])

@@ -4,32 +4,25 @@ use native.Mathlib.Omega.{arith}
 use mathlib.Core.Path.{_≡_, ap}
 use mathlib.Core.List.{List, [], _∷_}
 use lib.ListN.{length, getD, replicate}
-use Rattle.ac.specs.Pair.{unifying}
-use Rattle.ac.specs.Search.{groups}
-use Rattle.ac.proofs.Groups.{groups-exist}
 use Rattle.solve.specs.Rows.{groups as sizes}
-use Rattle.worked.specs.Questions.{RowsAsked, rowsQuestion}
-use Rattle.worked.specs.Answers.{RowsGives, numbered}
+use Rattle.worked.specs.Questions.{SidesAsked, rowsQuestion}
+use Rattle.worked.specs.Answers.{RowsGives, numbered, ofPair}
 use Rattle.worked.specs.Programs.{Program, MeetsAt, RefusesEverything, ConstantResult, WritesNothing}
-use Rattle.worked.proofs.Worked.{worked-number}
+use Rattle.worked.proofs.Worked.{worked-groups}
 use Rattle.worked.proofs.Wrong as wrong
 
 -- the pair of that number
-abbrev asked : ℕ → RowsAsked
-asked n = record { left = numbered n .left; right = numbered n .right }
+abbrev asked : ℕ → SidesAsked (Unit {0})
+asked n = ofPair n tt
 
 -- pair 2: rows 0101, 0110, 1001, 1010
 four-rows : RowsGives (numbered 2 .left) (numbered 2 .right)
     (sizes 4 0 0 0 0 0) ((0 ∷ 1 ∷ 0 ∷ 1 ∷ []) ∷ (0 ∷ 1 ∷ 1 ∷ 0 ∷ []) ∷ (1 ∷ 0 ∷ 0 ∷ 1 ∷ []) ∷ (1 ∷ 0 ∷ 1 ∷ 0 ∷ []) ∷ [])
-four-rows =
-    worked-number 2 (omega arith) (omega arith)
-    .by-groups (groups unifying (numbered 2 .left) (numbered 2 .right)) (groups-exist unifying (numbered 2 .left) (numbered 2 .right)) .the-rows
+four-rows = worked-groups 2 (omega arith) (omega arith) .the-rows
 
 -- pair 10: c0 has two rows
 two-rows : RowsGives (numbered 10 .left) (numbered 10 .right) (sizes 0 1 2 0 0 0) ((0 ∷ 1 ∷ []) ∷ (1 ∷ 0 ∷ []) ∷ [])
-two-rows =
-    worked-number 10 (omega arith) (omega arith)
-    .by-groups (groups unifying (numbered 10 .left) (numbered 10 .right)) (groups-exist unifying (numbered 10 .left) (numbered 10 .right)) .the-rows
+two-rows = worked-groups 10 (omega arith) (omega arith) .the-rows
 
 module _ (program : Program rowsQuestion) where
   module _ {out : List ℕ} (enough : 480 ≤ length out) where

@@ -14,7 +14,7 @@ use Rattle.block.specs.Read.{lengths}
 use Rattle.solve.specs.Rows.{RowsOutcome, sizesOf, allRows, bytesOf}
 use Rattle.solver.specs.Page.{PageOutcome, refused, page}
 use Rattle.values.specs.Values.{written, valuesOf}
-use Rattle.worked.specs.Questions.{Question, TwoBuffers, readQuestion, rowsQuestion, pageQuestion, valuesQuestion}
+use Rattle.worked.specs.Questions.{Question, TwoBuffers, SidesAsked, readQuestion, rowsQuestion, pageQuestion, valuesQuestion}
 
 -- The one answer to what is asked: this outcome with these buffers at exit meets the promise, and whatever meets it is this.
 pub record Answers (Q : Question) (asked : Q .Asked) (lent : Q .Lent) (outcome : Q .Outcome) (exit : Q .Lent) : Type 0 where
@@ -36,7 +36,7 @@ module _ (L R : List ℕ) where
   -- Rows gives these sizes of the groups, and these rows.
   abbrev pub RowsGives : RowsOutcome → List (List ℕ) → Type 0
   RowsGives sizes vectors = (out : List ℕ) → 480 ≤ length out
-      → Answers rowsQuestion (record { left = L; right = R }) out sizes (receives out (bytesOf vectors))
+      → Answers rowsQuestion (record { left = L; right = R; also = tt }) out sizes (receives out (bytesOf vectors))
 
   -- Rows gives the sizes and rows of the groups of the pair, which are such.
   abbrev pub RowsGiveSuch : (Groups → Type 0) → Type 0
@@ -45,12 +45,13 @@ module _ (L R : List ℕ) where
   -- Page from the start, where 0, meaning 200, are wanted, gives all these keys at once, or 13 where there are none.
   abbrev pub PageGives : List ℕ → Type 0
   PageGives keys = (out : List ℕ) → 200 ≤ length out
-      → Answers pageQuestion (record { left = L; right = R; begin = start; wanted = 0 }) out (firstPage keys) (receives out keys)
+      → Answers pageQuestion (record { left = L; right = R; also = record { begin = start; wanted = 0 } }) out (firstPage keys)
+      (receives out keys)
 
   -- Values gives these bytes of the key.
   abbrev pub ValuesGives : ℕ → List ℕ → Type 0
   ValuesGives key bytes = (out : List ℕ) → 1212 ≤ length out
-      → Answers valuesQuestion (record { left = L; right = R; key = key }) out (written (length bytes)) (receives out bytes)
+      → Answers valuesQuestion (record { left = L; right = R; also = key }) out (written (length bytes)) (receives out bytes)
 
   -- Of each key in turn Values gives the values of these variables.
   pub data ValuesGiveInTurn : List ℕ → List (List Binding) → Type 0 where
@@ -80,3 +81,7 @@ pub record Worked (pair : Pair) : Type 0 where
 -- the pair of that number, counted as in the document
 abbrev pub numbered : ℕ → Pair
 numbered n = getD pairs (n - 1) (record { left = []; right = []; printed = [] })
+
+-- a question asked of that pair, with what else it is asked
+abbrev pub ofPair : {Also : Type 0} → ℕ → Also → SidesAsked Also
+ofPair n also = record { left = numbered n .left; right = numbered n .right; also = also }

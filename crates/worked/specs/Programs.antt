@@ -3,7 +3,7 @@ use Prim.Native.Nat.{ℕ}
 use mathlib.Core.Path.{_≡_}
 use Rattle.ac.specs.Keys.{after}
 use Rattle.solver.specs.Page.{refused}
-use Rattle.worked.specs.Questions.{Question, PageAsked, pageQuestion}
+use Rattle.worked.specs.Questions.{Question, pageQuestion}
 
 -- what a program returns, and what it leaves in the lent buffers
 pub record Result (Q : Question) : Type 0 where
@@ -33,4 +33,6 @@ module _ {Q : Question} (program : Program Q) where
 
 -- one that finds the first key and then claims 15: whatever it gives from the start, after a key it gives 15
 abbrev pub ThenFifteen : Program pageQuestion → Type 0
-ThenFifteen program = (asked : PageAsked) (lent : pageQuestion .Lent) (key : ℕ) → asked .begin ≡ after key → program asked lent .outcome ≡ refused 15
+ThenFifteen program =
+    (asked : pageQuestion .Asked) (lent : pageQuestion .Lent) (key : ℕ) → asked .also .begin ≡ after key
+    → program asked lent .outcome ≡ refused 15

@@ -42,50 +42,36 @@ readQuestion =
           ReadPromise (asked .block) (asked .number) (lent .left) (lent .right) outcome (exit .left) (exit .right);
     }
 
--- Rows: two sides; a lent buffer
-pub record RowsAsked : Type 0 where
+-- two sides, and what else a question is asked of them
+pub record SidesAsked (Also : Type 0) : Type 0 where
   pub left : List ℕ
   pub right : List ℕ
+  pub also : Also
 
-abbrev pub rowsQuestion : Question
-rowsQuestion =
+-- a question of two sides, with one lent buffer
+abbrev ofSides : (Also : Type 0) {Outcome : Type 0} → (ℕ → Outcome)
+    → (List ℕ → List ℕ → Also → List ℕ → Outcome → List ℕ → Type 0) → Question
+ofSides Also {Outcome} refused Promise =
     record {
-      Asked = RowsAsked;
+      Asked = SidesAsked Also;
       Lent = List ℕ;
-      Outcome = RowsOutcome;
-      refused = rows.refused;
-      Promise = λ asked. RowsPromise unifying (asked .left) (asked .right);
+      Outcome = Outcome;
+      refused = refused;
+      Promise = λ asked. Promise (asked .left) (asked .right) (asked .also);
     }
 
--- Page: two sides and a request made of where to begin and how many are wanted; a lent buffer
-pub record PageAsked : Type 0 where
-  pub left : List ℕ
-  pub right : List ℕ
+-- Rows: two sides, and nothing else
+abbrev pub rowsQuestion : Question
+rowsQuestion = ofSides (Unit {0}) rows.refused (λ L R nothing. RowsPromise unifying L R)
+
+-- Page: and a request made of where to begin and how many are wanted
+pub record Request : Type 0 where
   pub begin : Begin
   pub wanted : ℕ
 
 abbrev pub pageQuestion : Question
-pageQuestion =
-    record {
-      Asked = PageAsked;
-      Lent = List ℕ;
-      Outcome = PageOutcome;
-      refused = page.refused;
-      Promise = λ asked. PagePromise unifying (asked .left) (asked .right) (asked .begin) (asked .wanted);
-    }
+pageQuestion = ofSides Request page.refused (λ L R request. PagePromise unifying L R (request .begin) (request .wanted))
 
--- Values: two sides and a key; a lent buffer
-pub record ValuesAsked : Type 0 where
-  pub left : List ℕ
-  pub right : List ℕ
-  pub key : ℕ
-
+-- Values: and a key
 abbrev pub valuesQuestion : Question
-valuesQuestion =
-    record {
-      Asked = ValuesAsked;
-      Lent = List ℕ;
-      Outcome = ValuesOutcome;
-      refused = values.refused;
-      Promise = λ asked. ValuesPromise unifying (asked .left) (asked .right) (asked .key);
-    }
+valuesQuestion = ofSides ℕ values.refused (λ L R key. ValuesPromise unifying L R key)

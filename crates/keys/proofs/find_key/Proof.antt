@@ -26,15 +26,18 @@ enum-told-3 c = search needs
 
 returns : tie.Need-returns
 returns c = λ M L R full of.
-    found-itself (next-key (c .before .before .before .before .least-listed .ensures M L R full of) (c .before .before .least .given .1)) (c .if1 .taken)
+    let told = c .before .before in
+    found-itself (next-key (told .before .before .least-listed .ensures M L R full of) (told .least .given .1)) (c .if1 .taken)
 
 returns-2 : tie.Need-returns-2
 returns-2 c = λ M L R full of.
-    found-other (next-key (c .before .before .before .before .least-listed .ensures M L R full of) (c .before .before .least .given .1)) (c .if1 .left)
+    let told = c .before .before in
+    found-other (next-key (told .before .before .least-listed .ensures M L R full of) (told .least .given .1)) (c .if1 .left)
 
 returns-3 : tie.Need-returns-3
 returns-3 c = λ M L R full of.
-    found-above (next-none (c .before .before .before .before .before .least-listed .ensures M L R full of) (c .before .before .before .enum-told .given .1))
+    let told = c .before .before .before in
+    found-above (next-none (told .before .before .least-listed .ensures M L R full of) (told .enum-told .given .1))
     (next-key (c .before .before .least-listed2 .ensures M L R full of) (c .enum-told2 .given .1))
 
 returns-4 : tie.Need-returns-4

@@ -12,13 +12,10 @@ use Rattle.keys.proofs.least_listed.Statement.{statement}
 use Rattle.keys.proofs.least_listed.Tie as tie
 
 abbrev Inv-loop : tie.InvT-loop
-Inv-loop from table balanced at₀ at = Walked table from at
+Inv-loop from table at₀ at = Walked table from at
 
 abbrev μ-loop : tie.MeasureT-loop
-μ-loop from table balanced at₀ at = 2 ^ 32 - at
-
-element-copy-out-balanced : tie.Need-element-copy-out-balanced Inv-loop μ-loop
-element-copy-out-balanced c = search needs
+μ-loop from table at₀ at = 2 ^ 32 - at
 
 loop-holds : tie.Need-loop-holds Inv-loop μ-loop
 loop-holds c = record { above = le-refl _; passed = passed-none _ _ }
@@ -28,7 +25,7 @@ cast-key c = omega arith
 
 stands-requires : tie.Need-stands-requires Inv-loop μ-loop
 stands-requires c κs =
-    let fit = c .before .before .before .before .before .pre in
+    let fit = c .before .before .before .before .pre in
     (fit .constants-fit, fit .sizes-fit 0)
 
 enum-known-standing : tie.Need-enum-known-standing Inv-loop μ-loop
@@ -40,7 +37,7 @@ loop-less c =
     let turn = stood .before .before .before in
     omega (
       arith,
-      step-between (turn .before .before .before .pre) (turn .before .loop .inv) (stood .stands .ensures) (c .before .standing .given .1) .0,
+      step-between (turn .before .before .pre) (turn .before .loop .inv) (stood .stands .ensures) (c .before .standing .given .1) .0,
       turn .loop-test .taken,
     )
 
@@ -48,7 +45,7 @@ loop-again : tie.Need-loop-again Inv-loop μ-loop
 loop-again c =
     let stood = c .before .before .before in
     let turn = stood .before .before .before in
-    step-between (turn .before .before .before .pre) (turn .before .loop .inv) (stood .stands .ensures) (c .before .standing .given .1) .1
+    step-between (turn .before .before .pre) (turn .before .loop .inv) (stood .stands .ensures) (c .before .standing .given .1) .1
 
 enum-told : tie.Need-enum-told Inv-loop μ-loop
 enum-told c = search needs
@@ -61,19 +58,18 @@ shr-least-of-tuple c = search needs
 
 least-of-tuple-requires : tie.Need-least-of-tuple-requires Inv-loop μ-loop
 least-of-tuple-requires c κs =
-    let fit = c .before .before .before .before .before .before .before .before .before .before .pre in
-    let turn = c .before .before .before .before .before .before .before in
-    ((fit .places-fit, fit .constants-fit, fit .sizes-fit 0), (omega (arith, turn .loop-test .taken), mask-lt (turn .before .loop .at) 16))
+    let turn = c .before .before .before .before .before in
+    (c .before .before .before .before .before .before .before .pre, omega (arith, turn .loop-test .taken), mask-lt (turn .before .loop .at) 16)
 
 enum-known-least : tie.Need-enum-known-least Inv-loop μ-loop
 enum-known-least c = search needs
 
 returns : tie.Need-returns Inv-loop μ-loop
 returns c =
-    let candidate = c .before .before .before .before .before .before in
+    let candidate = c .before .before .before .before in
     let stood = candidate .before .before in
     let turn = stood .before .before .before in
-    step-found (turn .before .before .before .pre) (turn .before .loop .inv) (stood .stands .ensures) (candidate .enum-told .given .1) refl
+    step-found (turn .before .before .pre) (turn .before .loop .inv) (stood .stands .ensures) (candidate .enum-told .given .1) refl
     (and-mask (turn .before .loop .at) 16) (c .before .before .before .least-of-tuple .ensures) (c .before .least .given .1)
 
 enum-told-2 : tie.Need-enum-told-2 Inv-loop μ-loop
@@ -84,16 +80,16 @@ block-end-requires c κs = omega arith
 
 loop-less-2 : tie.Need-loop-less-2 Inv-loop μ-loop
 loop-less-2 c =
-    let turn = c .before .before .before .before .before .before .before .before .before .before .before in
+    let turn = c .before .before .before .before .before .before .before .before .before in
     omega (arith, c .block-end .ensures, below-block-end (turn .before .loop .at) 16, turn .loop-test .taken)
 
 loop-again-2 : tie.Need-loop-again-2 Inv-loop μ-loop
 loop-again-2 c =
-    let candidate = c .before .before .before .before .before .before in
+    let candidate = c .before .before .before .before in
     let stood = candidate .before .before in
     let turn = stood .before .before .before in
     subst (Walked _ _) (sym (c .block-end .ensures))
-    (step-over (turn .before .before .before .pre) (turn .before .loop .inv) (stood .stands .ensures) (candidate .enum-told .given .1) refl
+    (step-over (turn .before .before .pre) (turn .before .loop .inv) (stood .stands .ensures) (candidate .enum-told .given .1) refl
     (and-mask (turn .before .loop .at) 16) (c .before .before .before .least-of-tuple .ensures) (c .before .enum-told2 .given .1))
 
 returns-2 : tie.Need-returns-2 Inv-loop μ-loop
@@ -105,7 +101,6 @@ least-listed-spec =
     (tie.spec
     Inv-loop
     μ-loop
-    element-copy-out-balanced
     loop-holds
     cast-key
     stands-requires

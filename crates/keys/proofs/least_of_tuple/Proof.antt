@@ -2,71 +2,65 @@
 use Prim.Native.Nat.{_≤_, _-_}
 use native.Mathlib.Omega.{arith}
 use native.Mathlib.Nat.{le-refl}
+use mathlib.Core.Path.{sym, subst}
 use borrow.Author.Needs.{needs}
-use Rattle.keys.proofs.Tuples.{
-  no-bit-left,
-  a-bit-left,
-  mask-fits,
-  Missed,
-  missed-none,
-  missed-more,
-  missed-found,
-  missed-all,
-}
+use Rattle.keys.specs.Runs.{Fit}
+use Rattle.keys.proofs.Tuples.{no-bit-left, a-bit-left, mask-fits, Missed, missed-none, missed-more, missed-found, missed-all}
 use Rattle.keys.proofs.least_of_tuple.Statement.{statement}
 use Rattle.keys.proofs.least_of_tuple.Tie as tie
 
 abbrev Inv-loop : tie.InvT-loop
-Inv-loop rows places unbalanced balanced tuple from mask₀ mask =
-    (from ≤ mask) × (mask ≤ 65536) × Missed rows places unbalanced balanced tuple from mask
+Inv-loop tuple from table balanced mask₀ mask = (from ≤ mask) × (mask ≤ 65536) × Missed table tuple from mask
 
 abbrev μ-loop : tie.MeasureT-loop
-μ-loop rows places unbalanced balanced tuple from mask₀ mask = 65536 - mask
+μ-loop tuple from table balanced mask₀ mask = 65536 - mask
+
+element-copy-out-balanced : tie.Need-element-copy-out-balanced Inv-loop μ-loop
+element-copy-out-balanced c = search needs
 
 loop-holds : tie.Need-loop-holds Inv-loop μ-loop
-loop-holds c = (le-refl _, omega arith, missed-none _ _ _ _ _ _)
+loop-holds c = (le-refl _, omega arith, missed-none (c .before .args .t1) _ _)
 
 cast-loop : tie.Need-cast-loop Inv-loop μ-loop
-cast-loop c = omega arith
+cast-loop c = omega (arith, c .before .before .pre .0 .sizes-fit 0)
 
 shr-loop : tie.Need-shr-loop Inv-loop μ-loop
-shr-loop c = omega arith
+shr-loop c = omega (arith, c .before .before .pre .0 .sizes-fit 0)
 
 pack-requires : tie.Need-pack-requires Inv-loop μ-loop
-pack-requires c κs =
-    (omega arith, mask-fits (c .before .before .pre .0 .2) (no-bit-left (c .before .loop .mask) (c .before .before .args .balanced) (c .loop-test .taken)))
+pack-requires c κs = (c .before .before .before .pre .1, mask-fits (c .before .before .before .pre .0 .sizes-fit 0) (no-bit-left (c .before .loop .mask) _ (c .loop-test .taken)))
+
+selection-of-requires : tie.Need-selection-of-requires Inv-loop μ-loop
+selection-of-requires c κs = search needs
 
 weigh-requires : tie.Need-weigh-requires Inv-loop μ-loop
-weigh-requires c κs = c .before .before .before .pre .0
+weigh-requires c κs =
+    let fit = c .before .before .before .before .before .before .before .pre .0 in
+    (subst Fit (sym (c .before .before .selection-of .ensures)) (fit .constants-fit, fit .sizes-fit 0), fit .places-fit)
 
 returns : tie.Need-returns Inv-loop μ-loop
 returns c =
-    let a = c .before .before .before .before .before .args in
-    missed-found (a .rows .now) (a .places) (a .unbalanced) (a .balanced) (a .tuple) (a .from) (c .before .before .before .before .loop .inv .2)
-    (c .before .before .pack .ensures) (no-bit-left (c .before .before .before .before .loop .mask) (c .before .before .before .before .before .args .balanced) (c .before .before .before .loop-test .taken)) (c .before .weigh .ensures)
-    (c .if1 .taken) (c .before .before .before .before .loop .inv .0)
+    missed-found _ _ _ (c .before .before .before .before .before .before .before .loop .inv .2) (c .before .before .before .before .before .pack .ensures) (no-bit-left (c .before .before .before .before .before .before .before .loop .mask) _ (c .before .before .before .before .before .before .loop-test .taken))
+    (c .before .before .before .before .before .before .before .before .before .pre .0) (c .before .before .before .before .selection-of .ensures) (c .before .weigh .ensures) (c .if1 .taken) (c .before .before .before .before .before .before .before .loop .inv .0)
 
 add-mask : tie.Need-add-mask Inv-loop μ-loop
 add-mask c = omega arith
 
 loop-less : tie.Need-loop-less Inv-loop μ-loop
-loop-less c = omega (arith, mask-fits (c .before .before .before .before .before .pre .0 .2) (no-bit-left (c .before .before .before .before .loop .mask) (c .before .before .before .before .before .args .balanced) (c .before .before .before .loop-test .taken)))
+loop-less c = omega (arith, mask-fits (c .before .before .before .before .before .before .before .before .before .pre .0 .sizes-fit 0) (no-bit-left (c .before .before .before .before .before .before .before .loop .mask) _ (c .before .before .before .before .before .before .loop-test .taken)))
 
 loop-again : tie.Need-loop-again Inv-loop μ-loop
 loop-again c =
-    let a = c .before .before .before .before .before .args in
-    let low = no-bit-left (c .before .before .before .before .loop .mask) (c .before .before .before .before .before .args .balanced) (c .before .before .before .loop-test .taken) in (
+    let low = no-bit-left (c .before .before .before .before .before .before .before .loop .mask) _ (c .before .before .before .before .before .before .loop-test .taken) in (
       omega arith,
-      omega (arith, mask-fits (c .before .before .before .before .before .pre .0 .2) low),
-      missed-more (a .rows .now) (a .places) (a .unbalanced) (a .balanced) (a .tuple) (a .from) (c .before .before .before .before .loop .inv .2)
-          (c .before .before .pack .ensures) low (c .before .weigh .ensures) (c .if1 .left),
+      omega (arith, mask-fits (c .before .before .before .before .before .before .before .before .before .pre .0 .sizes-fit 0) low),
+      missed-more _ _ _ (c .before .before .before .before .before .before .before .loop .inv .2) (c .before .before .before .before .before .pack .ensures) low (c .before .before .before .before .before .before .before .before .before .pre .0)
+          (c .before .before .before .before .selection-of .ensures)
+          (c .before .weigh .ensures) (c .if1 .left),
     )
 
 returns-2 : tie.Need-returns-2 Inv-loop μ-loop
-returns-2 c =
-    let a = c .before .before .args in
-    missed-all (a .rows .now) (a .places) (a .unbalanced) (a .balanced) (a .tuple) (a .from) (c .before .loop .inv .2)
-    (a-bit-left (c .before .loop .mask) (a .balanced) (c .loop-test .left))
+returns-2 c = missed-all (c .before .before .before .args .t1) _ _ (c .before .loop .inv .2) (a-bit-left (c .before .loop .mask) _ (c .loop-test .left))
 
 pub least-of-tuple-spec : {M : Type 1} → statement M
 least-of-tuple-spec =
@@ -74,10 +68,12 @@ least-of-tuple-spec =
     (tie.spec
     Inv-loop
     μ-loop
+    element-copy-out-balanced
     loop-holds
     cast-loop
     shr-loop
     pack-requires
+    selection-of-requires
     weigh-requires
     returns
     add-mask

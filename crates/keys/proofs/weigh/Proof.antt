@@ -12,10 +12,10 @@ use Rattle.keys.proofs.weigh.Statement.{statement}
 use Rattle.keys.proofs.weigh.Tie as tie
 
 abbrev Inv-loop : tie.InvT-loop
-Inv-loop rows places unbalanced balanced key place₀ place = (place ≤ places) × (all place (reaches rows unbalanced balanced key) ≡ true)
+Inv-loop rows places selection place₀ place = (place ≤ places) × (all place (reaches rows selection) ≡ true)
 
 abbrev μ-loop : tie.MeasureT-loop
-μ-loop rows places unbalanced balanced key place₀ place = places - place
+μ-loop rows places selection place₀ place = places - place
 
 loop-holds : tie.Need-loop-holds Inv-loop μ-loop
 loop-holds c = (omega arith, refl)
@@ -28,7 +28,7 @@ returns c = λ G holds fits candidate.
     let at = c .before .before .before .before .args in
     sym
     (places-reached holds fits candidate (at .places) (le-refl (at .places))
-    ∙ all-missed (at .places) (c .before .before .before .loop .place) (reaches (at .rows .now) (at .unbalanced) (at .balanced) (at .key)) (omega arith)
+    ∙ all-missed (at .places) (c .before .before .before .loop .place) (reaches (at .rows .now) (at .selection)) (omega arith)
     (sym (c .before .reached .ensures) ∙ not-true _ (c .if1 .taken)))
 
 add-place : tie.Need-add-place Inv-loop μ-loop
@@ -41,7 +41,7 @@ loop-again : tie.Need-loop-again Inv-loop μ-loop
 loop-again c =
     let at = c .before .before .before .before .args in (
       omega arith,
-      all-more (c .before .before .before .loop .place) (reaches (at .rows .now) (at .unbalanced) (at .balanced) (at .key)) (c .before .before .before .loop .inv .1)
+      all-more (c .before .before .before .loop .place) (reaches (at .rows .now) (at .selection)) (c .before .before .before .loop .inv .1)
           (sym (c .before .reached .ensures) ∙ not-false _ (c .if1 .left)),
     )
 
@@ -51,7 +51,7 @@ returns-2 c = λ G holds fits candidate.
     let end : c .before .loop .place ≡ at .places = omega arith in
     sym
     (places-reached holds fits candidate (at .places) (le-refl (at .places))
-    ∙ subst (λ n. all n (reaches (at .rows .now) (at .unbalanced) (at .balanced) (at .key)) ≡ true) end (c .before .loop .inv .1))
+    ∙ subst (λ n. all n (reaches (at .rows .now) (at .selection)) ≡ true) end (c .before .loop .inv .1))
 
 pub weigh-spec : {M : Type 1} → statement M
 weigh-spec =

@@ -1,4 +1,4 @@
--- `library::hand_on` meets its contract: nothing waits, no block may be read any more, or a block is the next part. Assumes nothing.
+-- `library::hand_on` meets its contract: nothing waits, no block may be read, or a block is the next part. Assumes nothing.
 use Prim.Native.Nat.{_<_}
 use Prim.Native.Nat.{_+_, _-_, min}
 use mathlib.Core.Path.{_≡_}
@@ -27,9 +27,12 @@ sub-t9 : tie.Need-sub-t9
 sub-t9 c = search needs
 
 returns-3 : tie.Need-returns-3
-returns-3 c = let size : c .before .before .least .result ≡ min 512 (c .before .before .before .before .before .before .before .args .reader .filled - c .before .before .before .before .before .before .before .args .reader .at) = c .before .before .least .ensures in
+returns-3 c =
+    let entry = c .before .before .before .before .before .before .before in
+    let r = entry .args .reader in
+    let size : c .before .before .least .result ≡ min 512 (r .filled - r .at) = c .before .before .least .ensures in
     let some : 0 < c .before .before .least .result = omega arith in
-    let one-less : c .before .before .before .before .before .before .before .args .reader .left ≡ c .before .before .before .before .before .before .before .args .reader .left - 1 + 1 = omega arith in
+    let one-less : entry .args .reader .left ≡ entry .args .reader .left - 1 + 1 = omega arith in
     Hands.block some size one-less
 
 pub hand-on-spec : {M : Type 1} → statement M

@@ -1,7 +1,8 @@
--- `library::make_ready` meets its contract: enough waits already, or the bytes that wait are moved and more is read. Assumes nothing.
+-- `library::make_ready` meets its contract: enough waits, or the bytes that wait are moved and more is read. Assumes nothing.
 use mathlib.Core.Logic.{inl, inr}
 use Rattle.library.specs.Inner.{Readies}
-use Rattle.library.proofs.Readings.{fills-enough, fills-ended, ready-at-once, ready-enough, ready-ended}
+use Rattle.library.proofs.Growing.{fills-enough, fills-ended}
+use Rattle.library.proofs.Waiting.{ready-at-once, ready-enough, ready-ended}
 use borrow.Author.Needs.{needs}
 use Rattle.library.proofs.make_ready.Statement.{statement}
 use Rattle.library.proofs.make_ready.Tie as tie
@@ -34,16 +35,28 @@ same-length : tie.Need-same-length
 same-length c = search needs
 
 returns-3 : tie.Need-returns-3
-returns-3 c = let enough = fills-enough (c .before .before .before .before .before .read-until .ensures) (c .before .filled .given .1) in
-    ready-enough (c .before .before .before .before .before .before .before .before .before .before .before .before .before .before .before .args .buffer .now) (c .before .before .before .before .before .before .before .before .before .move-down .last .0) (c .before .before .before .before .before .read-until .last .1 .0) (c .before .before .before .before .before .before .before .before .before .before .before .before .before .before .before .args .reader) (c .before .filled .given .0 .0) (c .before .before .before .before .before .before .before .before .before .before .before .before .before .before .before .pre .0) (c .before .before .before .before .before .before .before .before .before .move-down .kept .0)
-    (c .before .before .before .before .before .before .before .before .before .move-down .ensures .1) (enough .grown) (enough .enough)
+returns-3 c =
+    let at-read-until = c .before .before .before .before .before in
+    let at-move-down = at-read-until .before .before .before .before in
+    let entry = at-move-down .before .before .before .before .before .before in
+    let enough = fills-enough (at-read-until .read-until .ensures) (c .before .filled .given .1) in
+    let m = at-move-down .move-down in
+    ready-enough (entry .args .buffer .now) (m .last .0) (at-read-until .read-until .last .1 .0) (entry .args .reader)
+    (c .before .filled .given .0 .0) (entry .pre .0) (m .kept .0)
+    (m .ensures .1) (enough .grown) (enough .enough)
 
 same-length-2 : tie.Need-same-length-2
 same-length-2 c = search needs
 
 returns-4 : tie.Need-returns-4
-returns-4 c = ready-ended (c .before .before .before .before .before .before .before .before .before .before .before .before .before .before .before .args .buffer .now) (c .before .before .before .before .before .before .before .before .before .move-down .last .0) (c .before .before .before .before .before .read-until .last .1 .0) (c .before .before .before .before .before .before .before .before .before .before .before .before .before .before .before .args .reader) (c .before .filled2 .given .0 .0) (c .before .before .before .before .before .before .before .before .before .before .before .before .before .before .before .pre .0) (c .before .before .before .before .before .before .before .before .before .move-down .kept .0)
-    (c .before .before .before .before .before .before .before .before .before .move-down .ensures .1) (fills-ended (c .before .before .before .before .before .read-until .ensures) (c .before .filled2 .given .1))
+returns-4 c =
+    let at-read-until = c .before .before .before .before .before in
+    let at-move-down = at-read-until .before .before .before .before in
+    let entry = at-move-down .before .before .before .before .before .before in
+    let m = at-move-down .move-down in
+    ready-ended (entry .args .buffer .now) (m .last .0) (at-read-until .read-until .last .1 .0) (entry .args .reader)
+    (c .before .filled2 .given .0 .0) (entry .pre .0) (m .kept .0)
+    (m .ensures .1) (fills-ended (at-read-until .read-until .ensures) (c .before .filled2 .given .1))
 
 same-length-3 : tie.Need-same-length-3
 same-length-3 c = search needs

@@ -1,8 +1,7 @@
 -- `library::read_once` meets its contract: what stands before the part that was lent stays as it is. Assumes nothing.
-
-use Rattle.library.proofs.Readings.{read-nothing, read-some}
-use native.Mathlib.Omega.{arith}
-use Rattle.library.specs.Inner.{Reads}
+use mir.Syntax.{w64}
+use mir.Val.{toZ, ofZ}
+use Rattle.library.proofs.Came.{read-came}
 use borrow.Author.Needs.{needs}
 use Rattle.library.proofs.read_once.Statement.{statement}
 use Rattle.library.proofs.read_once.Tie as tie
@@ -19,35 +18,28 @@ part-read-end c = search needs
 read-requires : tie.Need-read-requires
 read-requires c κs = search needs
 
+sub-what-came : tie.Need-sub-what-came
+sub-what-came c = search needs
+
+part-what-came-start : tie.Need-part-what-came-start
+part-what-came-start c = search needs
+
+part-what-came-end : tie.Need-part-what-came-end
+part-what-came-end c = search needs
+
+what-came-requires : tie.Need-what-came-requires
+what-came-requires c κs = search needs
+
 same-length : tie.Need-same-length
 same-length c = search needs
 
 returns : tie.Need-returns
-returns c = Reads.failed
-
-sub-count : tie.Need-sub-count
-sub-count c = search needs
-
-part-count-start : tie.Need-part-count-start
-part-count-start c = search needs
-
-part-count-end : tie.Need-part-count-end
-part-count-end c = search needs
-
-count-requires : tie.Need-count-requires
-count-requires c κs = search needs
-
-same-length-2 : tie.Need-same-length-2
-same-length-2 c = search needs
-
-returns-2 : tie.Need-returns-2
-returns-2 c = read-nothing (c .before .before .before .before .before .before .before .before .before .before .args .buffer .now) (c .before .before .before .before .before .before .before .read .last .1 .0) (c .before .before .before .before .before .before .before .before .before .before .args .filled) (c .before .before .before .before .before .before .before .before .before .before .pre)
-
-same-length-3 : tie.Need-same-length-3
-same-length-3 c = search needs
-
-returns-3 : tie.Need-returns-3
-returns-3 c = read-some (c .before .before .before .before .before .before .before .before .before .before .args .buffer .now) (c .before .before .before .before .before .before .before .read .last .1 .0) (c .before .before .before .before .before .before .before .before .before .before .args .filled) (c .before .before .before .before .before .before .before .before .before .before .pre) (search needs) (omega arith) (c .before .count .ensures .0 .0)
+returns c =
+    let at-before = c .before .before .before .before in
+    let at-read = at-before .before in
+    let entry = at-read .before .before .before in
+    read-came (entry .args .buffer .now) (at-read .read .last .1 .0) (entry .args .filled) (entry .pre) (search needs)
+    (toZ w64 (ofZ w64 (at-read .read .result))) (c .what-came .ensures)
 
 pub read-once-spec : {M : Type 1} → statement M
 read-once-spec =
@@ -57,13 +49,9 @@ read-once-spec =
     part-read-start
     part-read-end
     read-requires
+    sub-what-came
+    part-what-came-start
+    part-what-came-end
+    what-came-requires
     same-length
-    returns
-    sub-count
-    part-count-start
-    part-count-end
-    count-requires
-    same-length-2
-    returns-2
-    same-length-3
-    returns-3)
+    returns)

@@ -1,10 +1,11 @@
--- `library::read_until` meets its contract: before each turn the bytes that waited stand at the start, and more behind them. Assumes nothing.
+-- `library::read_until` meets its contract: the bytes that waited stand at the start, and more behind them. Assumes nothing.
 use mathlib.Core.Path.{_∙_}
 use Prim.Native.Nat.{_-_}
 use native.Mathlib.Omega.{arith}
 use borrow.Author.Needs.{needs}
 use Rattle.library.specs.Inner.{Grown, Fills}
-use Rattle.library.proofs.Readings.{reads-bytes, reads-end, grown-none, grown-on}
+use Rattle.library.proofs.Came.{reads-bytes, reads-end}
+use Rattle.library.proofs.Growing.{grown-none, grown-on}
 use Rattle.library.proofs.read_until.Statement.{statement}
 use Rattle.library.proofs.read_until.Tie as tie
 
@@ -24,28 +25,49 @@ enum-known-got : tie.Need-enum-known-got Inv-loop μ-loop
 enum-known-got c = search needs
 
 add-filled : tie.Need-add-filled Inv-loop μ-loop
-add-filled c = omega (arith, reads-bytes (c .before .before .before .before .before .read-once .ensures) (c .before .got .given .1) .within, c .before .before .before .before .before .read-once .kept)
+add-filled c =
+    let at-read-once = c .before .before .before .before .before in
+    let b = reads-bytes (at-read-once .read-once .ensures) (c .before .got .given .1) in
+    omega (arith, b .within, at-read-once .read-once .kept)
 
 loop-less : tie.Need-loop-less Inv-loop μ-loop
-loop-less c = omega (arith, reads-bytes (c .before .before .before .before .before .read-once .ensures) (c .before .got .given .1) .some)
+loop-less c =
+    let at-read-once = c .before .before .before .before .before in
+    omega (arith, reads-bytes (at-read-once .read-once .ensures) (c .before .got .given .1) .some)
 
 loop-again : tie.Need-loop-again Inv-loop μ-loop
-loop-again c = let b = reads-bytes (c .before .before .before .before .before .read-once .ensures) (c .before .got .given .1) in grown-on (omega arith) (b .within) (c .before .before .before .before .before .read-once .kept .1 .0) (b .kept) (c .before .before .before .before .before .before .before .before .loop .inv)
+loop-again c =
+    let at-read-once = c .before .before .before .before .before in
+    let turn = at-read-once .before .before .before in
+    let b = reads-bytes (at-read-once .read-once .ensures) (c .before .got .given .1) in
+    grown-on (omega arith) (b .within) (at-read-once .read-once .kept .1 .0) (b .kept) (turn .loop .inv)
 
 enum-told : tie.Need-enum-told Inv-loop μ-loop
 enum-told c = search needs
 
 same-length : tie.Need-same-length Inv-loop μ-loop
-same-length c = c .before .before .before .before .read-once .kept .1 .0 ∙ c .before .before .before .before .before .before .before .loop .inv .same-length
+same-length c =
+    let at-read-once = c .before .before .before .before in
+    let turn = at-read-once .before .before .before in
+    at-read-once .read-once .kept .1 .0 ∙ turn .loop .inv .same-length
 
 returns : tie.Need-returns Inv-loop μ-loop
-returns c = Fills.ended {n = c .before .before .before .before .before .before .before .loop .filled} (grown-on (omega arith) (omega (arith, c .before .before .before .before .read-once .kept .1 .0, c .before .before .before .before .before .before .before .loop .inv .within)) (c .before .before .before .before .read-once .kept .1 .0) (reads-end (c .before .before .before .before .read-once .ensures) (c .enum-told .given .1)) (c .before .before .before .before .before .before .before .loop .inv))
+returns c =
+    let at-read-once = c .before .before .before .before in
+    let turn = at-read-once .before .before .before in
+    let r = at-read-once .read-once in
+    Fills.ended {n = turn .loop .filled}
+    (grown-on (omega arith) (omega (arith, r .kept .1 .0, turn .loop .inv .within)) (r .kept .1 .0)
+    (reads-end (r .ensures) (c .enum-told .given .1)) (turn .loop .inv))
 
 enum-told-2 : tie.Need-enum-told-2 Inv-loop μ-loop
 enum-told-2 c = search needs
 
 same-length-2 : tie.Need-same-length-2 Inv-loop μ-loop
-same-length-2 c = c .before .before .before .before .read-once .kept .1 .0 ∙ c .before .before .before .before .before .before .before .loop .inv .same-length
+same-length-2 c =
+    let at-read-once = c .before .before .before .before in
+    let turn = at-read-once .before .before .before in
+    at-read-once .read-once .kept .1 .0 ∙ turn .loop .inv .same-length
 
 returns-2 : tie.Need-returns-2 Inv-loop μ-loop
 returns-2 c = Fills.failed

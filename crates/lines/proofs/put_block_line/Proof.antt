@@ -1,7 +1,7 @@
 -- `lines::put_block_line` meets its contract: each kind of line has its own arm. Assumes nothing.
+use Rattle.lines.proofs.Putting.{within-as}
 use mathlib.Core.Path.{sym, ap}
 use Rattle.lines.specs.Lines.{blockLine}
-use Rattle.buffer.proofs.Puts.{put-as}
 use borrow.Author.Needs.{needs}
 use Rattle.lines.proofs.put_block_line.Statement.{statement}
 use Rattle.lines.proofs.put_block_line.Tie as tie
@@ -28,19 +28,28 @@ same-length : tie.Need-same-length
 same-length c = search needs
 
 returns : tie.Need-returns
-returns c = (put-as (sym (ap (blockLine (c .before .before .before .before .before .before .before .before .args .place)) (c .before .before .before .before .before .line .given .1))) (c .before .before .put-rows .ensures .0), c .before .before .put-rows .ensures .1)
+returns c =
+    let at-told = c .before .before .before .before .before in
+    within-as (sym (ap (blockLine (at-told .before .before .before .args .place)) (at-told .line .given .1)))
+    (c .before .before .put-rows .ensures)
 
 same-length-2 : tie.Need-same-length-2
 same-length-2 c = search needs
 
 returns-2 : tie.Need-returns-2
-returns-2 c = (put-as (sym (ap (blockLine (c .before .before .before .before .before .before .before .args .place)) (c .before .before .before .before .enum-told .given .1))) (c .before .before .put-none .ensures .0), c .before .before .put-none .ensures .1)
+returns-2 c =
+    let at-told = c .before .before .before .before in
+    within-as (sym (ap (blockLine (at-told .before .before .before .args .place)) (at-told .enum-told .given .1)))
+    (c .before .before .put-none .ensures)
 
 same-length-3 : tie.Need-same-length-3
 same-length-3 c = search needs
 
 returns-3 : tie.Need-returns-3
-returns-3 c = (put-as (sym (ap (blockLine (c .before .before .before .before .before .before .before .before .args .place)) (c .before .before .before .before .before .line2 .given .1))) (c .before .before .put-refused .ensures .0), c .before .before .put-refused .ensures .1)
+returns-3 c =
+    let at-told = c .before .before .before .before .before in
+    within-as (sym (ap (blockLine (at-told .before .before .before .args .place)) (at-told .line2 .given .1)))
+    (c .before .before .put-refused .ensures)
 
 pub put-block-line-spec : {M : Type 1} → statement M
 put-block-line-spec =

@@ -1,7 +1,7 @@
 -- `lines::put_closing` meets its contract: each kind of closing has its own arm. Assumes nothing.
+use Rattle.lines.proofs.Putting.{within-as, within-length, within-more, within-then}
 use mathlib.Core.Path.{sym, ap}
 use Rattle.lines.specs.Lines.{closingLines}
-use Rattle.buffer.proofs.Puts.{put-as, put-then}
 use native.Mathlib.Omega.{arith}
 use borrow.Author.Needs.{needs}
 use Rattle.lines.proofs.put_closing.Statement.{statement}
@@ -38,22 +38,28 @@ same-length : tie.Need-same-length
 same-length c = search needs
 
 returns : tie.Need-returns
-returns c = (put-as (sym (ap closingLines (c .before .before .before .before .before .enum-told .given .1))) (c .before .before .put-bytes .ensures), omega (arith, c .before .before .put-bytes .ensures .place))
+returns c =
+    within-as (sym (ap closingLines (c .before .before .before .before .before .enum-told .given .1)))
+    (within-more (within-length (c .before .before .put-bytes .ensures)) (omega arith))
 
 same-length-2 : tie.Need-same-length-2
 same-length-2 c = search needs
 
 returns-2 : tie.Need-returns-2
-returns-2 c = (put-as (sym (ap closingLines (c .before .before .before .before .before .closing .given .1))) (c .before .before .put-counts .ensures .0), omega (arith, c .before .before .put-counts .ensures .1))
+returns-2 c =
+    within-as (sym (ap closingLines (c .before .before .before .before .before .closing .given .1)))
+    (within-more (c .before .before .put-counts .ensures) (omega arith))
 
 same-length-3 : tie.Need-same-length-3
 same-length-3 c = search needs
 
 returns-3 : tie.Need-returns-3
-returns-3 c = (
-  put-as (sym (ap closingLines (c .before .before .before .before .before .before .before .before .before .before .closing2 .given .1))) (put-then (c .before .before .before .before .before .before .put-bytes2 .ensures) (c .before .before .put-counts2 .ensures .0)),
-  omega (arith, c .before .before .before .before .before .before .put-bytes2 .ensures .place, c .before .before .put-counts2 .ensures .1),
-)
+returns-3 c =
+    let at-put-bytes = c .before .before .before .before .before .before in
+    let too-long = within-length (at-put-bytes .put-bytes2 .ensures) in
+    let lines = within-then too-long (c .before .before .put-counts2 .ensures) in
+    within-as (sym (ap closingLines (at-put-bytes .before .before .before .before .closing2 .given .1)))
+    (within-more lines (omega arith))
 
 pub put-closing-spec : {M : Type 1} → statement M
 put-closing-spec =

@@ -1,8 +1,7 @@
 -- `lines::put_end_line` meets its contract: only a listed block has a line there. Assumes nothing.
+use Rattle.lines.proofs.Putting.{within-as, within-nothing}
 use mathlib.Core.Path.{sym, ap}
 use Rattle.lines.specs.Lines.{endLine}
-use Rattle.buffer.proofs.Puts.{put-as, put-nothing}
-use native.Mathlib.Omega.{arith}
 use borrow.Author.Needs.{needs}
 use Rattle.lines.proofs.put_end_line.Statement.{statement}
 use Rattle.lines.proofs.put_end_line.Tie as tie
@@ -23,13 +22,15 @@ same-length : tie.Need-same-length
 same-length c = search needs
 
 returns : tie.Need-returns
-returns c = (put-as (sym (ap endLine (c .before .before .before .before .before .line .given .1))) (c .before .before .put-page-end .ensures .0), c .before .before .put-page-end .ensures .1)
+returns c =
+    within-as (sym (ap endLine (c .before .before .before .before .before .line .given .1)))
+    (c .before .before .put-page-end .ensures)
 
 returns-2 : tie.Need-returns-2
-returns-2 c = (put-as (sym (ap endLine (c .enum-told .given .1))) (put-nothing _ _), omega arith)
+returns-2 c = within-as (sym (ap endLine (c .enum-told .given .1))) (within-nothing _ _ _)
 
 returns-3 : tie.Need-returns-3
-returns-3 c = (put-as (sym (ap endLine (c .enum-told2 .given .1))) (put-nothing _ _), omega arith)
+returns-3 c = within-as (sym (ap endLine (c .enum-told2 .given .1))) (within-nothing _ _ _)
 
 pub put-end-line-spec : {M : Type 1} → statement M
 put-end-line-spec =

@@ -1,9 +1,7 @@
 -- `lines::put_labelled` meets its contract: the word, and the number behind it. Assumes nothing.
+use Rattle.lines.proofs.Putting.{within-length, within-then}
 use native.Mathlib.Omega.{arith}
-use lib.ListN.{length-append}
-use Rattle.text.specs.Decimal.{decimal}
 use Rattle.text.proofs.Decimals.{decimal-fits}
-use Rattle.buffer.proofs.Puts.{put-then}
 use borrow.Author.Needs.{needs}
 use Rattle.lines.proofs.put_labelled.Statement.{statement}
 use Rattle.lines.proofs.put_labelled.Tie as tie
@@ -18,8 +16,13 @@ same-length : tie.Need-same-length
 same-length c = search needs
 
 returns : tie.Need-returns
-returns c = let put = put-then (c .before .before .before .before .before .before .put-bytes .ensures) (c .before .before .put-number .ensures) in
-    (put, omega (arith, put .place, length-append (c .before .before .before .before .before .before .before .before .before .before .args .word .now) (decimal (c .before .before .before .before .before .before .before .before .before .before .args .number)), decimal-fits (c .before .before .before .before .before .before .before .before .before .before .args .number) (c .before .before .before .before .before .before .before .before .before .before .fits .number .fits)))
+returns c =
+    let at-put-bytes = c .before .before .before .before .before .before in
+    let entry = at-put-bytes .before .before .before .before in
+    let few = decimal-fits (entry .args .number) (entry .fits .number .fits) in
+    let number = c .before .before .put-number .ensures in
+    within-then (within-length (at-put-bytes .put-bytes .ensures))
+    (record { put = number; within = omega (arith, number .place, few) })
 
 pub put-labelled-spec : {M : Type 1} → statement M
 put-labelled-spec = tie.close (tie.spec put-bytes-requires put-number-requires same-length returns)

@@ -1,5 +1,5 @@
 -- `lines::put_none` meets its contract: its parts are put one behind the other. Assumes nothing.
-use Rattle.buffer.proofs.Puts.{put-then}
+use Rattle.lines.proofs.Putting.{within-length, within-more, within-then}
 use native.Mathlib.Omega.{arith}
 use borrow.Author.Needs.{needs}
 use Rattle.lines.proofs.put_none.Statement.{statement}
@@ -21,7 +21,10 @@ same-length : tie.Need-same-length
 same-length c = search needs
 
 returns : tie.Need-returns
-returns c = (put-then (c .before .before .before .before .before .before .before .put-labelled .ensures .0) (c .before .before .put-bytes .ensures), omega (arith, c .before .before .before .before .before .before .before .put-labelled .ensures .1, c .before .before .put-bytes .ensures .place))
+returns c =
+    let at-put-labelled = c .before .before .before .before .before .before .before in
+    let none = within-length (c .before .before .put-bytes .ensures) in
+    within-more (within-then (at-put-labelled .put-labelled .ensures) none) (omega arith)
 
 pub put-none-spec : {M : Type 1} → statement M
 put-none-spec =

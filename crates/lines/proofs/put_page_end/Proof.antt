@@ -1,7 +1,7 @@
 -- `lines::put_page_end` meets its contract: `more`, or `end` and the number behind it. Assumes nothing.
+use Rattle.lines.proofs.Putting.{within-as, within-length, within-more, within-then}
 use mathlib.Core.Path.{sym, ap}
 use Rattle.lines.specs.Lines.{pageEnd}
-use Rattle.buffer.proofs.Puts.{put-as, put-then}
 use native.Mathlib.Omega.{arith}
 use borrow.Author.Needs.{needs}
 use Rattle.lines.proofs.put_page_end.Statement.{statement}
@@ -17,7 +17,10 @@ same-length : tie.Need-same-length
 same-length c = search needs
 
 returns : tie.Need-returns
-returns c = (put-as (sym (ap (pageEnd (c .before .before .before .before .before .before .before .args .lines)) (c .before .before .before .before .before .if1 .taken))) (c .before .before .put-bytes .ensures), omega (arith, c .before .before .put-bytes .ensures .place))
+returns c =
+    let at-if = c .before .before .before .before .before in
+    within-as (sym (ap (pageEnd (at-if .before .before .args .lines)) (at-if .if1 .taken)))
+    (within-more (within-length (c .before .before .put-bytes .ensures)) (omega arith))
 
 slice-aggregate-put-labelled : tie.Need-slice-aggregate-put-labelled
 slice-aggregate-put-labelled c = search needs
@@ -35,10 +38,13 @@ same-length-2 : tie.Need-same-length-2
 same-length-2 c = search needs
 
 returns-2 : tie.Need-returns-2
-returns-2 c = (
-  put-as (sym (ap (pageEnd (c .before .before .before .before .before .before .before .before .before .before .before .before .args .lines)) (c .before .before .before .before .before .before .before .before .before .before .if1 .left))) (put-then (c .before .before .before .before .before .before .before .put-labelled .ensures .0) (c .before .before .put-bytes2 .ensures)),
-  omega (arith, c .before .before .before .before .before .before .before .put-labelled .ensures .1, c .before .before .put-bytes2 .ensures .place),
-)
+returns-2 c =
+    let at-put-labelled = c .before .before .before .before .before .before .before in
+    let at-if = at-put-labelled .before .before .before in
+    let feed = within-length (c .before .before .put-bytes2 .ensures) in
+    let end = within-then (at-put-labelled .put-labelled .ensures) feed in
+    within-as (sym (ap (pageEnd (at-if .before .before .args .lines)) (at-if .if1 .left)))
+    (within-more end (omega arith))
 
 pub put-page-end-spec : {M : Type 1} → statement M
 put-page-end-spec =

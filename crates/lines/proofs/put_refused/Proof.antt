@@ -1,5 +1,5 @@
 -- `lines::put_refused` meets its contract: its parts are put one behind the other. Assumes nothing.
-use Rattle.buffer.proofs.Puts.{put-then}
+use Rattle.lines.proofs.Putting.{within-length, within-more, within-then}
 use native.Mathlib.Omega.{arith}
 use borrow.Author.Needs.{needs}
 use Rattle.lines.proofs.put_refused.Statement.{statement}
@@ -27,10 +27,11 @@ same-length : tie.Need-same-length
 same-length c = search needs
 
 returns : tie.Need-returns
-returns c = (
-  put-then (put-then (c .before .before .before .before .before .before .before .before .before .before .before .before .put-labelled .ensures .0) (c .before .before .before .before .before .before .before .put-labelled2 .ensures .0)) (c .before .before .put-bytes .ensures),
-  omega (arith, c .before .before .before .before .before .before .before .before .before .before .before .before .put-labelled .ensures .1, c .before .before .before .before .before .before .before .put-labelled2 .ensures .1, c .before .before .put-bytes .ensures .place),
-)
+returns c =
+    let second = c .before .before .before .before .before .before .before in
+    let first = second .before .before .before .before .before in
+    let numbers = within-then (first .put-labelled .ensures) (second .put-labelled2 .ensures) in
+    within-more (within-then numbers (within-length (c .before .before .put-bytes .ensures))) (omega arith)
 
 pub put-refused-spec : {M : Type 1} → statement M
 put-refused-spec =

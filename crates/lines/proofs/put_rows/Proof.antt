@@ -1,5 +1,5 @@
 -- `lines::put_rows` meets its contract: its parts are put one behind the other. Assumes nothing.
-use Rattle.buffer.proofs.Puts.{put-then}
+use Rattle.lines.proofs.Putting.{within-length, within-more, within-then}
 use native.Mathlib.Omega.{arith}
 use borrow.Author.Needs.{needs}
 use Rattle.lines.proofs.put_rows.Statement.{statement}
@@ -33,10 +33,13 @@ same-length : tie.Need-same-length
 same-length c = search needs
 
 returns : tie.Need-returns
-returns c = (
-  put-then (put-then (put-then (c .before .before .before .before .before .before .before .before .before .before .before .before .before .before .before .before .before .put-labelled .ensures .0) (c .before .before .before .before .before .before .before .before .before .before .before .before .put-labelled2 .ensures .0)) (c .before .before .before .before .before .before .before .put-labelled3 .ensures .0)) (c .before .before .put-bytes .ensures),
-  omega (arith, c .before .before .before .before .before .before .before .before .before .before .before .before .before .before .before .before .before .put-labelled .ensures .1, c .before .before .before .before .before .before .before .before .before .before .before .before .put-labelled2 .ensures .1, c .before .before .before .before .before .before .before .put-labelled3 .ensures .1, c .before .before .put-bytes .ensures .place),
-)
+returns c =
+    let third = c .before .before .before .before .before .before .before in
+    let second = third .before .before .before .before .before in
+    let first = second .before .before .before .before .before in
+    let two = within-then (first .put-labelled .ensures) (second .put-labelled2 .ensures) in
+    let numbers = within-then two (third .put-labelled3 .ensures) in
+    within-more (within-then numbers (within-length (c .before .before .put-bytes .ensures))) (omega arith)
 
 pub put-rows-spec : {M : Type 1} → statement M
 put-rows-spec =

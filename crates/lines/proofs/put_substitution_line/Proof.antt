@@ -18,7 +18,10 @@ same-length : tie.Need-same-length
 same-length c = search needs
 
 returns : tie.Need-returns
-returns c = ((λ bs e. put-then (c .before .before .before .before .before .before .before .put-substitution .ensures .0 bs e) (c .before .before .put-bytes .ensures)), omega (arith, c .before .before .before .before .before .before .before .put-substitution .ensures .1, c .before .before .put-bytes .ensures .place))
+returns c =
+    let substitution = c .before .before .before .before .before .before .before .put-substitution .ensures in
+    let feed = c .before .before .put-bytes .ensures in
+    ((λ bs e. put-then (substitution .0 bs e) feed), omega (arith, substitution .1, feed .place))
 
 pub put-substitution-line-spec : {M : Type 1} → statement M
 put-substitution-line-spec =

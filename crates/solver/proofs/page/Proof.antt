@@ -16,7 +16,8 @@ wanted-count-requires c κs = search needs
 
 returns : tie.Need-returns
 returns c =
-    let promised = promise-short (subst (λ (n : ℕ). length (c .before .before .before .before .before .args .out .now) < n) (c .before .wanted-count .ensures) (c .if1 .taken)) in
+    let out = c .before .before .before .before .before .args .out .now in
+    let promised = promise-short (subst (λ (n : ℕ). length out < n) (c .before .wanted-count .ensures) (c .if1 .taken)) in
     (promised, page-existence promised)
 
 solve-requires : tie.Need-solve-requires
@@ -33,8 +34,11 @@ page-of-requires c κs = c .before .before .before .before .solve .ensures .the-
 
 returns-2 : tie.Need-returns-2
 returns-2 c =
-    let enough = subst (λ (n : ℕ). n ≤ length (c .before .before .before .before .before .before .before .before .before .before .args .out .now)) (c .before .before .before .before .before .before .wanted-count .ensures) (c .before .before .before .before .before .if1 .left) in
-    let promised = is-refused (first-of-sides enough (c .before .before .before .before .solve .ensures .refused _ (c .before .verdict .given .1))) in
+    let solved = c .before .before .before .before in
+    let long = solved .before in
+    let out = long .before .before .before .before .before .args .out .now in
+    let enough = subst (λ (n : ℕ). n ≤ length out) (long .before .wanted-count .ensures) (long .if1 .left) in
+    let promised = is-refused (first-of-sides enough (solved .solve .ensures .refused _ (c .before .verdict .given .1))) in
     (promised, page-existence promised)
 
 same-length : tie.Need-same-length

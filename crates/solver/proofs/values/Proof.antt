@@ -23,7 +23,9 @@ values-of-requires : tie.Need-values-of-requires
 values-of-requires c κs = c .before .before .before .before .solve .ensures .the-table (c .before .enum-told .given .1) .within
 
 returns-2 : tie.Need-returns-2
-returns-2 c = is-refused (first-of-sides (c .before .before .before .before .before .if1 .left) (c .before .before .before .before .solve .ensures .refused _ (c .before .verdict .given .1)))
+returns-2 c =
+    let solved = c .before .before .before .before in
+    is-refused (first-of-sides (solved .before .if1 .left) (solved .solve .ensures .refused _ (c .before .verdict .given .1)))
 
 same-length : tie.Need-same-length
 same-length c = search needs

@@ -2,21 +2,23 @@
 use Prim.Native.Nat.{ℕ, _*_, _≤_, _<_, _-_}
 use native.Mathlib.Omega.{arith}
 use mathlib.Core.Path.{_≡_, ap}
-use lib.ListN.{length}
 use Rattle.ac.specs.Values.{laidOut}
 use Rattle.buffer.specs.Put.{Put}
 use Rattle.buffer.proofs.Puts.{put-nothing, put-then, put-length, put-as}
-use Rattle.values.specs.Runs.{atomsAt, lengthAt, bindingsBelow}
-use Rattle.values.proofs.Laid.{length-atoms, not-too-long, laidOut-next}
+use Rattle.keys.specs.Runs.{runCount, timesAt, atomOf, atomsAt, lengthAt}
+use Rattle.keys.proofs.Any.{not-above}
+use Rattle.keys.proofs.Runs.{length-runs}
+use Rattle.values.specs.Bindings.{bindingsBelow}
+use Rattle.values.proofs.Laid.{laidOut-next}
 use Rattle.values.proofs.put_bindings.Statement.{statement}
 use Rattle.values.proofs.put_bindings.Tie as tie
 
 abbrev Inv-loop : tie.InvT-loop
-Inv-loop rows constants variables places unbalanced balanced key out₀ next₀ place₀ out next place =
-    (place ≤ places) × (next ≤ 202 * place) × Put out₀ 0 (laidOut (bindingsBelow variables (atomsAt rows constants unbalanced balanced key) place)) next out
+Inv-loop rows variables places selection out₀ next₀ place₀ out next place =
+    (place ≤ places) × (next ≤ 202 * place) × Put out₀ 0 (laidOut (bindingsBelow variables (atomsAt rows selection) place)) next out
 
 abbrev μ-loop : tie.MeasureT-loop
-μ-loop rows constants variables places unbalanced balanced key out₀ next₀ place₀ out next place = places - place
+μ-loop rows variables places selection out₀ next₀ place₀ out next place = places - place
 
 loop-holds : tie.Need-loop-holds Inv-loop μ-loop
 loop-holds c = (omega arith, omega arith, put-nothing _ _)
@@ -26,10 +28,11 @@ element-copy-out-put-binding c = omega arith
 
 put-binding-requires : tie.Need-put-binding-requires Inv-loop μ-loop
 put-binding-requires c κs =
-    let a = c .before .before .before .before .before .args in
+    let entry = c .before .before .before .before .before in
+    let a = entry .args in
     let l = c .before .before .before .loop in
-    let h : l .place < a .places = omega arith in
-    (omega arith, (not-too-long (lengthAt (a .rows .now) (a .unbalanced) (a .balanced) (a .key)) (c .before .before .before .before .before .pre .1 .0) h, omega (arith, put-length (l .inv .2))))
+    let short = not-above (lengthAt (a .rows .now) (a .selection)) (a .places) (entry .pre .1 .0) (let h : l .place < a .places = omega arith in h) in
+    (omega arith, (short, omega (arith, put-length (l .inv .2))))
 
 add-place : tie.Need-add-place Inv-loop μ-loop
 add-place c = omega arith
@@ -39,16 +42,15 @@ loop-less c = omega arith
 
 loop-again : tie.Need-loop-again Inv-loop μ-loop
 loop-again c =
-    let a = c .before .before .before .before .before .before .before .before .args in
+    let entry = c .before .before .before .before .before .before .before .before in
+    let a = entry .args in
     let l = c .before .before .before .before .before .before .loop in
     let p = c .before .before .put-binding .ensures in
-    let h : l .place < a .places = omega arith in
-    let size : length (atomsAt (a .rows .now) (a .constants .now) (a .unbalanced) (a .balanced) (a .key) (l .place))
-    ≡ lengthAt (a .rows .now) (a .unbalanced) (a .balanced) (a .key) (l .place) =
-    length-atoms (a .rows .now) (a .constants .now) (a .unbalanced) (a .balanced) (a .key) (l .place) in (
+    let short = not-above (lengthAt (a .rows .now) (a .selection)) (a .places) (entry .pre .1 .0) (let h : l .place < a .places = omega arith in h) in
+    let size = length-runs (runCount (a .selection)) (timesAt (a .rows .now) (a .selection) (l .place)) (atomOf (a .selection)) in (
       omega arith,
-      omega (arith, p .place, not-too-long (lengthAt (a .rows .now) (a .unbalanced) (a .balanced) (a .key)) (c .before .before .before .before .before .before .before .before .pre .1 .0) h),
-      put-as (laidOut-next (a .variables .now) (atomsAt (a .rows .now) (a .constants .now) (a .unbalanced) (a .balanced) (a .key)) (l .place) size) (put-then (l .inv .2) p),
+      omega (arith, p .place, short),
+      put-as (laidOut-next (a .variables .now) (atomsAt (a .rows .now) (a .selection)) (l .place) size) (put-then (l .inv .2) p),
     )
 
 same-length : tie.Need-same-length Inv-loop μ-loop
@@ -58,7 +60,7 @@ returns : tie.Need-returns Inv-loop μ-loop
 returns c =
     let a = c .before .before .before .args in
     let same : c .before .loop .place ≡ a .places = omega arith in (
-      put-as (ap (λ (n : ℕ). laidOut (bindingsBelow (a .variables .now) (atomsAt (a .rows .now) (a .constants .now) (a .unbalanced) (a .balanced) (a .key)) n)) same)
+      put-as (ap (λ (n : ℕ). laidOut (bindingsBelow (a .variables .now) (atomsAt (a .rows .now) (a .selection)) n)) same)
           (c .before .loop .inv .2),
       omega arith,
     )

@@ -21,14 +21,17 @@ write-requires : tie.Need-write-requires
 write-requires c κs = search needs
 
 returns-2 : tie.Need-returns-2
-returns-2 c = λ M L R full of none. promise-refused of none (omega arith) (c .before .before .before .find-key .ensures M L R full of) (c .before .found .given .1)
+returns-2 c = λ M L R full of none.
+    promise-refused of none (omega arith) (c .before .before .before .find-key .ensures M L R full of) (c .before .found .given .1)
 
 same-length : tie.Need-same-length
 same-length c = search needs
 
 returns-3 : tie.Need-returns-3
 returns-3 c = λ M L R full of none.
-    promise-written of none (omega arith) (c .before .before .before .before .before .before .find-key .ensures M L R full of) (c .before .before .before .before .enum-told .given .1) (c .before .before .write .ensures M L R full of)
+    let found = c .before .before .before .before in
+    promise-written of none (omega arith) (found .before .before .find-key .ensures M L R full of) (found .enum-told .given .1)
+    (c .before .before .write .ensures M L R full of)
 
 pub values-of-spec : {M : Type 1} → statement M
 values-of-spec =

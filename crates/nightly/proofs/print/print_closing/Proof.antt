@@ -24,7 +24,7 @@ put-closing-requires : tie.Need-put-closing-requires
 put-closing-requires c κs = omega (arith, room-at (c .before .before .roomy .given .1) (c .before .before .before .before .make-room .ensures))
 
 flush-requires : tie.Need-flush-requires
-flush-requires c κs = omega (arith, room-at (c .before .before .before .before .before .before .roomy .given .1) (c .before .before .before .before .before .before .before .before .make-room .ensures), c .before .before .before .put-closing .ensures .1, c .before .before .before .put-closing .kept .0)
+flush-requires c κs = omega (arith, room-at (c .before .before .before .before .before .before .roomy .given .1) (c .before .before .before .before .before .before .before .before .make-room .ensures), c .before .before .before .put-closing .ensures .within, c .before .before .before .put-closing .kept .0)
 
 same-length-2 : tie.Need-same-length-2
 same-length-2 c = search needs

@@ -27,7 +27,7 @@ same-length-2 : tie.Need-same-length-2
 same-length-2 c = search needs
 
 returns-2 : tie.Need-returns-2
-returns-2 c = omega (arith, room-at (c .before .before .before .before .before .roomy .given .1) (c .before .before .before .before .before .before .before .make-room .ensures), c .before .before .put-end-line .ensures .1)
+returns-2 c = omega (arith, room-at (c .before .before .before .before .before .roomy .given .1) (c .before .before .before .before .before .before .before .make-room .ensures), c .before .before .put-end-line .ensures .within)
 
 pub print-end-line-spec : {M : Type 1} → statement M
 print-end-line-spec =

@@ -63,7 +63,8 @@ after-plus {bytes} (plus s t) b =
           right = t;
           first = record {
             rest = encode t ++ b .rest;
-            splits = e ∙ append-assoc (encode s) (encode t) (b .rest);
+            splits = e
+                ∙ append-assoc (encode s) (encode t) (b .rest);
             writable = v;
           };
           second = record { rest = b .rest; splits = refl; writable = w };

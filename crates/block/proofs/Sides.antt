@@ -15,10 +15,11 @@ use Rattle.numbers.specs.First.{also}
 use Rattle.numbers.specs.declared.Refusal.{Refusal}
 use Rattle.numbers.specs.declared.Refusal.the-variants as refusal
 use Rattle.block.specs.Front.{Writes, rightSide}
-use Rattle.block.specs.Block.{leftLength, rightLength, leftTerm, rightTerm, filler}
+use Rattle.block.specs.Block.{leftTerm, rightTerm, filler}
 use Rattle.block.specs.Table.{NoTerm}
 use Rattle.block.specs.Read.{lengths, ReadPromise, is-read}
-use Rattle.block.specs.Inner.{TakesApart, atoms, no-term, allZero, Refuses, GoodHeader, SettlesHeader, is-refused, is-good}
+use Rattle.block.specs.Terms.{HeaderLengths}
+use Rattle.block.specs.Inner.{TakesApart, atoms, no-term, allZero, Refuses, SettlesHeader, is-refused, is-good}
 use Rattle.block.specs.declared.header.Header.{Header}
 use Rattle.block.specs.declared.header.Header.the-variants.{Lengths}
 use Rattle.block.specs.declared.term.Side.{Side}
@@ -35,12 +36,6 @@ part-is-slice (suc from) (suc to) [] h = take-nil (suc to - suc from)
 part-is-slice (suc from) (suc to) (a ∷ l) h =
     let e : suc to - suc from ≡ to - from = omega arith in
     ap (λ (n : ℕ). take n (drop from l)) e ∙ part-is-slice from to l (omega arith)
-
--- what `Lengths` tells
-pub record HeaderLengths (block : List ℕ) (number left right : ℕ) : Type 0 where
-  pub good : GoodHeader block number
-  pub left-is : left ≡ leftLength block
-  pub right-is : right ≡ rightLength block
 
 -- where the header is good
 pub when-lengths :
@@ -108,16 +103,8 @@ module _ {bytes after : List ℕ} {count : ℕ} (f : SideTerm bytes count after)
 right-side-is : (t : Term) → rightSide t ≡ flatten t
 right-side-is t = map-id (flatten t)
 
-module _ {block : List ℕ} {number l r : ℕ} (h : HeaderLengths block number l r) where
-  -- both terms end before the check
-  pub terms-fit : (length block ≡ 512) × (l ≤ 127) × (r ≤ 127)
-  terms-fit = (
-    h .good .whole,
-    omega (arith, h .left-is, h .good .left-length),
-    omega (arith, h .right-is, h .good .right-length),
-  )
-
-  -- the parts of the block that are lent: the left term, the right term and the filler
+-- the parts of a block that are lent, for terms of these lengths: the left term, the right term and the filler
+module _ (block : List ℕ) (l r : ℕ) where
   abbrev leftPart : List ℕ
   leftPart = take (4 + l - 4) (drop 4 block)
 
@@ -127,34 +114,44 @@ module _ {block : List ℕ} {number l r : ℕ} (h : HeaderLengths block number l
   abbrev fillerPart : List ℕ
   fillerPart = take (510 - (4 + l + r)) (drop (4 + l + r) block)
 
-  -- each is the part that the block's definition names
-  left-part-is : leftPart ≡ leftTerm block
+  -- a term has at most as many bytes as its length says
+  pub left-short : l ≤ 127 → length leftPart ≤ 127
+  left-short short = simp length-take (omega arith)
+
+  pub right-short : r ≤ 127 → length rightPart ≤ 127
+  right-short short = simp length-take (omega arith)
+
+module _ {block : List ℕ} {number l r : ℕ} (h : HeaderLengths block number l r) where
+  -- both terms end before the check
+  pub terms-fit : (length block ≡ 512) × (l ≤ 127) × (r ≤ 127)
+  terms-fit = (
+    h .good .whole,
+    omega (arith, h .left-is, h .good .left-length),
+    omega
+        (arith, h .right-is, h .good .right-length),
+  )
+
+  -- each part is the one that the block's definition names
+  left-part-is : leftPart block l r ≡ leftTerm block
   left-part-is = part-is-slice 4 (4 + l) block (omega arith) ∙ rw (h .left-is)
 
-  right-part-is : rightPart ≡ rightTerm block
+  right-part-is : rightPart block l r ≡ rightTerm block
   right-part-is = part-is-slice (4 + l) (4 + l + r) block (omega arith) ∙ rw (h .left-is, h .right-is)
 
-  filler-part-is : fillerPart ≡ filler block
+  filler-part-is : fillerPart block l r ≡ filler block
   filler-part-is = part-is-slice (4 + l + r) 510 block (omega (arith, terms-fit)) ∙ rw (h .left-is, h .right-is)
 
-  -- a term has at most 127 bytes
-  pub left-short : length leftPart ≤ 127
-  left-short = simp length-take (omega (arith, terms-fit))
-
-  pub right-short : length rightPart ≤ 127
-  right-short = simp length-take (omega (arith, terms-fit))
-
   -- where a part is no term, the number is 5
-  pub left-missing : NoTerm leftPart → Refuses block number refusal.Term
+  pub left-missing : NoTerm (leftPart block l r) → Refuses block number refusal.Term
   left-missing none = term-first (h .good) (inl (rw left-part-is at none))
 
-  pub right-missing : NoTerm rightPart → Refuses block number refusal.Term
+  pub right-missing : NoTerm (rightPart block l r) → Refuses block number refusal.Term
   right-missing none = term-first (h .good) (inr (rw right-part-is at none))
 
   module _
       {left-after right-after : List ℕ} {m n : ℕ}
-      (f : SideTerm leftPart m left-after)
-      (g : SideTerm rightPart n right-after)
+      (f : SideTerm (leftPart block l r) m left-after)
+      (g : SideTerm (rightPart block l r) n right-after)
     where
       left-writes : Writes (leftTerm block) (f .term)
       left-writes = rw left-part-is at (f .writes)
@@ -163,7 +160,8 @@ module _ {block : List ℕ} {number l r : ℕ} (h : HeaderLengths block number l
       right-writes = rw right-part-is at (g .writes)
 
       -- where a filler byte is not 0, the number is 6
-      pub filler-wrong : {z : Bool} → z ≡ allZero fillerPart → not z ≡ true → Refuses block number refusal.Filler
+      pub filler-wrong : {z : Bool} → z ≡ allZero (fillerPart block l r) → not z ≡ true
+          → Refuses block number refusal.Filler
       filler-wrong {z} e t =
           filler-first (h .good) left-writes right-writes (rw filler-part-is at (sym e ∙ not-true z t))
 
@@ -172,7 +170,7 @@ module _ {block : List ℕ} {number l r : ℕ} (h : HeaderLengths block number l
           {z : Bool} {left right left-exit right-exit : List ℕ} →
           64 ≤ length left →
           64 ≤ length right →
-          z ≡ allZero fillerPart →
+          z ≡ allZero (fillerPart block l r) →
           not z ≡ false →
           left-exit ≡ receives left (flatten (f .term)) →
           right-exit ≡ receives right (flatten (g .term)) →

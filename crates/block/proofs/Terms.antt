@@ -38,7 +38,8 @@ bytes-of-atoms (plus s t) =
       bytes-of-atoms s,
       bytes-of-atoms t,
       length-append (encode s) (encode t),
-      length-append (flatten s) (flatten t),
+      length-append
+          (flatten s) (flatten t),
     )
 
 -- So a term of at most 127 bytes has 1 to 64 atoms.

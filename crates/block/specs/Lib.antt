@@ -3,3 +3,4 @@ pub mod Block
 pub mod Table
 pub mod Read
 pub mod Inner
+pub mod Terms

@@ -10,6 +10,7 @@ ghost use Prim.Native.Nat.{_≤_, min};
 ghost use lib.ListN.{length};
 ghost use Rattle.block.specs.Read.{told, ReadPromise};
 ghost use Rattle.block.specs.Inner.{allZero};
+ghost use Rattle.block.specs.Terms.{ReadsTerms};
 
 // What Read answers: the lengths of the two flattened sides, or why the block is refused.
 pub enum ReadAnswer {
@@ -29,16 +30,14 @@ pub fn read(block: &[u8], number: u16, left: &mut [u8], right: &mut [u8]) -> Rea
     if block.len() != 512 {
         return ReadAnswer::Refused(Refusal::BlockLength);
     }
-    let mut left_atoms = [0u8; 64];
-    let mut right_atoms = [0u8; 64];
-    read_block(
-        block,
-        number,
-        &mut left_atoms,
-        &mut right_atoms,
-        left,
-        right,
-    )
+    let header = header::read_header(block, number);
+    match header {
+        Header::Refused(refusal) => ReadAnswer::Refused(refusal),
+        Header::Lengths {
+            left: left_length,
+            right: right_length,
+        } => read_terms(block, left_length, right_length, left, right),
+    }
 }
 
 // The lesser of two lengths.
@@ -48,49 +47,40 @@ fn lesser(a: usize, b: usize) -> usize
     if a < b { a } else { b }
 }
 
-// Reads a block of the right length. The terms are flattened into the two arrays, and the buffers are written
-// once nothing can be refused any more.
-fn read_block(
+// Reads the terms of a block of the right length, and the filler after them. The terms are flattened into two
+// arrays, and the buffers are written once nothing can be refused any more.
+fn read_terms(
     block: &[u8],
-    number: u16,
-    left_atoms: &mut [u8],
-    right_atoms: &mut [u8],
+    left_length: usize,
+    right_length: usize,
     left: &mut [u8],
     right: &mut [u8],
 ) -> ReadAnswer
-    requires { ⌜ length (now block) ≡ 512 ⌝ }
-    requires { ⌜ (64 ≤ length (now «left_atoms»)) × (64 ≤ length (now «right_atoms»)) ⌝ }
+    requires { ⌜ (length (now block) ≡ 512) × («left_length» ≤ 127) × («right_length» ≤ 127) ⌝ }
     requires { ⌜ (64 ≤ length (now left)) × (64 ≤ length (now right)) ⌝ }
-    ensures { λ r. ⌜ ReadPromise (now (block .entry)) number (now (left .entry)) (now (right .entry))
+    ensures { λ r. ⌜ ReadsTerms (now (block .entry)) «left_length» «right_length» (now (left .entry)) (now (right .entry))
         (told r) (now (left .exit)) (now (right .exit)) ⌝ }
 {
-    let header = header::read_header(block, number);
-    match header {
-        Header::Refused(refusal) => ReadAnswer::Refused(refusal),
-        Header::Lengths {
-            left: left_length,
-            right: right_length,
-        } => {
-            let left_end = 4 + left_length;
-            let right_end = left_end + right_length;
-            let left_side = term::take_apart(&block[4..left_end], left_atoms);
-            let Side::Atoms(left_count) = left_side else {
-                return ReadAnswer::Refused(Refusal::Term);
-            };
-            let right_side = term::take_apart(&block[left_end..right_end], right_atoms);
-            let Side::Atoms(right_count) = right_side else {
-                return ReadAnswer::Refused(Refusal::Term);
-            };
-            if !all_zero(&block[right_end..510]) {
-                return ReadAnswer::Refused(Refusal::Filler);
-            }
-            bytes::copy(&left_atoms[..left_count], left);
-            bytes::copy(&right_atoms[..right_count], right);
-            ReadAnswer::Sides {
-                left: left_count,
-                right: right_count,
-            }
-        }
+    let mut left_atoms = [0u8; 64];
+    let mut right_atoms = [0u8; 64];
+    let left_end = 4 + left_length;
+    let right_end = left_end + right_length;
+    let left_side = term::take_apart(&block[4..left_end], &mut left_atoms);
+    let Side::Atoms(left_count) = left_side else {
+        return ReadAnswer::Refused(Refusal::Term);
+    };
+    let right_side = term::take_apart(&block[left_end..right_end], &mut right_atoms);
+    let Side::Atoms(right_count) = right_side else {
+        return ReadAnswer::Refused(Refusal::Term);
+    };
+    if !all_zero(&block[right_end..510]) {
+        return ReadAnswer::Refused(Refusal::Filler);
+    }
+    bytes::copy(&left_atoms[..left_count], left);
+    bytes::copy(&right_atoms[..right_count], right);
+    ReadAnswer::Sides {
+        left: left_count,
+        right: right_count,
     }
 }
 

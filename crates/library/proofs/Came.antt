@@ -21,6 +21,7 @@ pub record SomeBytes (buffer : List ℕ) (filled n : ℕ) (after : List ℕ) : T
   pub within : filled + n ≤ length after
   pub kept : take filled after ≡ take filled buffer
 
+-- a read that gave bytes tells this
 pub reads-bytes : {buffer after : List ℕ} {filled n : ℕ} {g : Got} → Reads buffer filled g after → g ≡ got.Bytes n
     → SomeBytes buffer filled n after
 reads-bytes {n = n} (Reads.bytes {n = m} some within kept) e =
@@ -29,6 +30,7 @@ reads-bytes {n = n} (Reads.bytes {n = m} some within kept) e =
 reads-bytes (Reads.end kept) e = absurd (let z : _≡_ {A = ℕ} 0 1 = cc e in omega arith)
 reads-bytes Reads.failed e = absurd (let z : _≡_ {A = ℕ} 0 1 = cc e in omega arith)
 
+-- one at the end of the input leaves the first bytes as they are
 pub reads-end : {buffer after : List ℕ} {filled : ℕ} {g : Got} → Reads buffer filled g after → g ≡ got.End
     → take filled after ≡ take filled buffer
 reads-end (Reads.bytes some within kept) e = absurd (let z : _≡_ {A = ℕ} 0 1 = cc e in omega arith)
@@ -46,6 +48,7 @@ pub came-count : (answer : ℤ) (room : ℕ) {n : ℕ} → ltZ answer (pos 0) �
 came-count (pos k) room e same = ap cameOf same
 came-count (negsuc k) room e same = absurd (let z : _≡_ {A = ℕ} 0 1 = cc e in omega arith)
 
+-- where it is not 0, bytes came
 pub came-some : (n : ℕ) → (n ≡ 0 → ⊥) → got.Bytes n ≡ cameOf n
 came-some zero some = absurd (some refl)
 came-some (suc n) some = refl

@@ -35,14 +35,17 @@ pub record EnoughBytes (buffer : List ℕ) (waited wanted n : ℕ) (after : List
   pub enough : wanted ≤ n
   pub grown : Grown buffer waited n after
 
+-- reads that gave enough tell this ..
 pub fills-enough : {buffer after : List ℕ} {waited wanted n : ℕ} {f : Filled} → Fills buffer waited wanted f after
     → f ≡ filled.Enough n →
     EnoughBytes buffer waited wanted n after
-fills-enough {n = n} (Fills.enough {n = m} h g) e = let same : m ≡ n =
-    cc e in rw (← same) (record { enough = h; grown = g })
+fills-enough {n = n} (Fills.enough {n = m} h g) e =
+    let same : m ≡ n = cc e in
+    rw (← same) (record { enough = h; grown = g })
 fills-enough (Fills.ended g) e = absurd (let z : _≡_ {A = ℕ} 0 1 = cc e in omega arith)
 fills-enough Fills.failed e = absurd (let z : _≡_ {A = ℕ} 0 1 = cc e in omega arith)
 
+-- .. and those after which the input has ended this
 pub fills-ended : {buffer after : List ℕ} {waited wanted n : ℕ} {f : Filled} → Fills buffer waited wanted f after
     → f ≡ filled.Ended n →
     Grown buffer waited n after

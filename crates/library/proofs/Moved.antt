@@ -12,6 +12,7 @@ pub record Moved (before : List ℕ) (from i : ℕ) (buffer : List ℕ) : Type 0
   pub moved : take i buffer ≡ take i (drop from before)
   pub rest : drop i buffer ≡ drop i before
 
+-- nothing was moved yet
 pub moved-none : (before : List ℕ) (from : ℕ) → Moved before from 0 before
 moved-none before from = record { same-length = refl; moved = refl; rest = refl }
 

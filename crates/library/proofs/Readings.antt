@@ -49,7 +49,8 @@ pub hands-on : {buffer after : List ℕ} {r full r′ : Reader} {wanted : ℕ} {
 hands-on {buffer} {after} {r} {full} w waits (Hands.nothing none) =
     HandsOn.the-end (waits .fits) (first-none (waiting buffer r) (waits .came)
     (waits .whole ∙ none-wait after full none))
-    (ended-if-short (waits .enough) (omega (arith, waiting-length (waits .fits), w .some)))
+    (none-wait after full none) (ended-if-short (waits .enough)
+    (omega (arith, waiting-length (waits .fits), w .some)))
 hands-on w waits (Hands.remains some none-left) =
     HandsOn.remains (waits .came) (waits .fits) (waits .whole) (omega (arith, waiting-length (waits .fits)))
     (omega (arith, waits .same-left))
@@ -86,6 +87,7 @@ pub record ABlock (r : Reader) (start size : ℕ) (r′ : Reader) (after : List 
   pub ends : start + size ≡ r′ .at
   pub one-less : r .left ≡ r′ .left + 1
 
+-- where a block comes next, it tells this
 pub handed-block : {buffer after : List ℕ} {r r′ : Reader} {n : Next} {start size : ℕ}
     → HandsOn buffer r n r′ after → n ≡ next.Block start size →
     ABlock r start size r′ after
@@ -94,7 +96,7 @@ handed-block {start = start} {size = size}
     let same-start : s ≡ start = cc e in
     let same-size : z ≡ size = cc e in
     record { fits = fits; ends = omega arith; one-less = one-less }
-handed-block (HandsOn.the-end fits none ended) e = absurd (let z : _≡_ {A = ℕ} 0 1 = cc e in omega arith)
+handed-block (HandsOn.the-end fits none left ended) e = absurd (let z : _≡_ {A = ℕ} 0 1 = cc e in omega arith)
 handed-block (HandsOn.remains came fits whole some none-left) e =
     absurd (let z : _≡_ {A = ℕ} 0 1 = cc e in omega arith)
 handed-block HandsOn.failed e = absurd (let z : _≡_ {A = ℕ} 0 1 = cc e in omega arith)

@@ -68,6 +68,7 @@ pub record Waits (buffer : List ℕ) (r : Reader) (wanted : ℕ) (full : Reader)
   pub enough : (wanted ≤ length (waiting after full)) ⊎ (full .ended ≡ true)
   pub same-left : full .left ≡ r .left
 
+-- where a reader is ready, it tells this
 pub ready-waits : {buffer after : List ℕ} {r full : Reader} {wanted : ℕ} {a : Ready}
     → Readies buffer r wanted a after → a ≡ ready.Waits full →
     Waits buffer r wanted full after

@@ -41,7 +41,9 @@ pub data HandsOn (buffer : List ℕ) (r : Reader) : Next → Reader → List ℕ
       (size ≡ 512) ⊎ ((0 < size) × (size < 512) × (r′ .ended ≡ true) × (waiting after r′ ≡ [])) →
       r .left ≡ r′ .left + 1 →
       HandsOn buffer r (next.Block start size) r′ after
-  the-end : {r′ : Reader} {after : List ℕ} → Fits after r′ → waiting buffer r ≡ [] → r′ .ended ≡ true
+  -- all that came was handed on, and the input has ended
+  the-end : {r′ : Reader} {after : List ℕ} → Fits after r′ → waiting buffer r ≡ [] → waiting after r′ ≡ []
+      → r′ .ended ≡ true
       → HandsOn buffer r next.End r′ after
   -- at most so many blocks are read: input remains
   remains :

@@ -1,9 +1,8 @@
-// A library read block by block from a file descriptor, through one lent buffer and with few calls of the
-// system.
+// A library read block by block from a file descriptor, through one lent buffer and with few calls of the system.
 //
 // A read that gives no byte is the end of the input, a negative answer a read that failed. No contract can say
-// which bytes a read gives; these say that the bytes that came are handed on in order, 512 at a time, none lost
-// and none twice.
+// which bytes a read gives. These say that bytes that wait are handed on in order, 512 at a time, none of them lost
+// or twice; and of the bytes that a call reads itself, that they come behind those.
 ghost use mathlib.Core.Path.{_≡_};
 ghost use Prim.Native.Nat.{_≤_, _-_, min};
 ghost use lib.ListN.{length, take};

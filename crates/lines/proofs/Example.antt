@@ -20,6 +20,7 @@ pair a b = record { variable = 0; value = a ∷ [] } ∷ record { variable = 1; 
 abbrev listed : Line
 listed = Listed 0 4 2 false
 
+-- two blocks were read, of which one is listed and one has no unifier
 abbrev counts : Counts
 counts = record { blocks = 2; listed = 1; none = 1; refused = 0 }
 

@@ -1,6 +1,7 @@
 // The nightly program's lines, put into a lent buffer from a place on (document 01, "The nightly program").
 //
-// Every function answers the place after what it put, and leaves every other byte of the buffer as it was.
+// Every function answers the place after what it put, and leaves every other byte of the buffer as it was. The line
+// of a block takes at most 128 bytes, that of the counts 112: words, and numbers of at most 20 digits.
 ghost use Prim.Native.Nat.{_+_, _*_, _≤_};
 ghost use mathlib.Core.Path.{_≡_};
 ghost use mathlib.Core.List.{List};

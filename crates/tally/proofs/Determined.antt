@@ -9,6 +9,7 @@ use Rattle.tally.specs.declared.Tallied.{Tallied}
 tallied : Counts → Returned → Tallied
 tallied c returned = record { place = c .blocks; line = lineOf returned; counts = counted c (lineOf returned) }
 
+-- what meets the promise is this one
 tallies-one : {c : Counts} {returned : Returned} (r : Tallied) → Tallies c returned r → r ≡ tallied c returned
 unfolding tallied
 tallies-one {c} {returned} r p =

@@ -33,7 +33,8 @@ bound-short (x ∷ n ∷ atoms) small some =
       arith,
       length-append (name x) (61 ∷ joined atoms),
       name-short x (small 0),
-      joined-short atoms (λ i. small (suc (suc i))),
+      joined-short atoms
+          (λ i. small (suc (suc i))),
     )
 
 -- what stands behind a binding's first two bytes, however many of them there are
@@ -90,6 +91,7 @@ pub record FirstOf (values : List ℕ) (from end : ℕ) (left : List Binding) : 
   pub its-bytes : bindingOf (take (end - from) (drop from values)) ≡ binding
   pub the-rest : laidOut others ≡ drop end values
 
+-- the first of the bindings that are left, from its bytes
 pub first-of : (values : List ℕ) (from : ℕ) (left : List Binding) → from < length values
     → laidOut left ≡ drop from values →
     FirstOf values from (min (from + (2 + getD values (from + 1) 0)) (length values)) left

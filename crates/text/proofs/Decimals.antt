@@ -64,10 +64,12 @@ below-tens : (k : ℕ) → k < 10 ^ k
 below-tens zero = omega arith
 below-tens (suc k) = omega (arith, below-tens k, pow-suc 10 k)
 
+-- a number below 10 is its digit
 pub decimal-digit : (n : ℕ) → n < 10 → decimal n ≡ digit n ∷ []
 unfolding decimal
 decimal-digit n h = within-digit n n h
 
+-- the fewest digits that hold a number, as the library spells them, are its decimal
 pub digits-decimal : (k n : ℕ) → Fewest 10 1 n k → digits 10 k n ≡ decimal n
 unfolding decimal
 digits-decimal zero n (some, small, large) = absurd (omega arith)
@@ -97,6 +99,7 @@ within-enough (suc p) (suc q) n hp hq = go (decLt n 10) (within-enough p q (n / 
         within-more (suc p) n ten ∙ ap (λ (l : List ℕ). l ++ (digit (n % 10) ∷ [])) same
         ∙ sym (within-more (suc q) n ten)
 
+-- any other is the decimal of its tenth with its last digit behind
 pub decimal-more : (n : ℕ) → 10 ≤ n → decimal n ≡ decimal (n / 10) ++ (digit (n % 10) ∷ [])
 unfolding decimal
 decimal-more zero h = absurd (omega arith)

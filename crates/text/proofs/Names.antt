@@ -18,6 +18,7 @@ pub name-variable : (a : ℕ) → a < 64 → 118 ∷ decimal a ≡ name a
 name-variable a h = sym (ap (λ (b : Bool). cond b (118 ∷ decimal a)
     (cond (ltb a 192) (99 ∷ decimal (a - 64)) (110 ∷ decimal (a - 192)))) (lt-ltb a 64 h))
 
+-- from 64 on constants ..
 pub name-constant : (a : ℕ) → 64 ≤ a → a < 192 → 99 ∷ decimal (a - 64) ≡ name a
 name-constant a h h′ =
     sym
@@ -25,6 +26,7 @@ name-constant a h h′ =
     (cond (ltb a 192) (99 ∷ decimal (a - 64)) (110 ∷ decimal (a - 192)))) (le-ltb a 64 h)
     ∙ ap (λ (b : Bool). cond b (99 ∷ decimal (a - 64)) (110 ∷ decimal (a - 192))) (lt-ltb a 192 h′))
 
+-- .. and from 192 on new variables
 pub name-new : (a : ℕ) → 192 ≤ a → 110 ∷ decimal (a - 192) ≡ name a
 name-new a h =
     sym
@@ -66,7 +68,8 @@ further-short (a ∷ atoms) (suc n) bytes =
       arith,
       length-append (43 ∷ name a) (further (take n atoms)),
       name-short a (bytes 0),
-      further-short atoms n (λ i. bytes (suc i)),
+      further-short
+          atoms n (λ i. bytes (suc i)),
     )
 
 -- a value without atoms has no text
@@ -78,6 +81,7 @@ joined-none (a ∷ atoms) h = absurd (omega arith)
 unfoldable pub tail : List ℕ → List ℕ
 tail atoms = take (length atoms - 1) (drop 1 atoms)
 
+-- they are one less
 pub length-tail : (atoms : List ℕ) → 0 < length atoms → length (tail atoms) ≡ length atoms - 1
 unfolding tail
 length-tail atoms h = omega (arith, length-take (length atoms - 1) (drop 1 atoms), length-drop 1 atoms)

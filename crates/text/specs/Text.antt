@@ -1,6 +1,6 @@
 -- The text of atoms, values and lines (document 01, "The nightly program").
-use Prim.Native.Nat.{ℕ, _+_, _-_}
-use mathlib.Core.Bool.{Bool, true, false, cond}
+use Prim.Native.Nat.{ℕ, _-_}
+use mathlib.Core.Bool.{cond}
 use mathlib.Core.List.{List, [], _∷_, _++_}
 use lib.ListN.{getD, drop}
 use lib.Dec.{ltb}
@@ -10,7 +10,9 @@ use Rattle.text.specs.Decimal.{decimal}
 
 -- v0 to v63, c0 to c63, and n0 and so on
 abbrev pub name : ℕ → List ℕ
-name a = cond (ltb a 64) (ascii "v" ++ decimal a) (cond (ltb a 192) (ascii "c" ++ decimal (a - 64)) (ascii "n" ++ decimal (a - 192)))
+name a =
+    cond (ltb a 64) (ascii "v" ++ decimal a)
+    (cond (ltb a 192) (ascii "c" ++ decimal (a - 64)) (ascii "n" ++ decimal (a - 192)))
 
 -- a further atom of a value: the + that joins it, and its name
 abbrev pub further : List ℕ → List ℕ

@@ -1,6 +1,8 @@
 // The text of numbers, atoms, values and substitutions, put into a lent buffer from a place on.
 //
-// Every function answers the place after what it put, and leaves every other byte of the buffer as it was.
+// Every function answers the place after what it put, and leaves every other byte of the buffer as it was. Its
+// premise asks for the bytes that the text takes at most, 5 for an atom with its + and 6 for a byte of Values, and
+// for some more, since a number is put where there is room for 20 digits.
 ghost use mathlib.Core.Path.{_≡_};
 ghost use mathlib.Core.List.{List, _∷_, _++_};
 ghost use Prim.Native.Nat.{_+_, _*_, _≤_, _<_, min};
@@ -123,7 +125,8 @@ fn binding_end(values: &[u8], from: usize) -> usize
 // Further variables with their values, each after a space.
 fn put_spaced(out: &mut [u8], at: usize, values: &[u8]) -> usize
     requires { ⌜ at + 6 * length (now values) + 31 ≤ length (now out) ⌝ }
-    ensures { λ r. ⌜ ((bs : List Binding) → laidOut bs ≡ now (values .entry) → Put (now (out .entry)) at (spaced bs) r (now (out .exit))) ⌝ }
+    ensures { λ r. ⌜ ((bs : List Binding) → laidOut bs ≡ now (values .entry)
+        → Put (now (out .entry)) at (spaced bs) r (now (out .exit))) ⌝ }
     ensures { λ r. ⌜ r ≤ at + 6 * length (now (values .entry)) ⌝ }
 {
     let mut next = at;
@@ -140,7 +143,8 @@ fn put_spaced(out: &mut [u8], at: usize, values: &[u8]) -> usize
 // The substitution that the bytes of Values say; one without variables is -.
 pub fn put_substitution(out: &mut [u8], at: usize, values: &[u8]) -> usize
     requires { ⌜ at + 6 * length (now values) + 31 ≤ length (now out) ⌝ }
-    ensures { λ r. ⌜ ((bs : List Binding) → laidOut bs ≡ now (values .entry) → Put (now (out .entry)) at (substitution bs) r (now (out .exit))) ⌝ }
+    ensures { λ r. ⌜ ((bs : List Binding) → laidOut bs ≡ now (values .entry)
+        → Put (now (out .entry)) at (substitution bs) r (now (out .exit))) ⌝ }
     ensures { λ r. ⌜ r ≤ at + 6 * length (now (values .entry)) + 1 ⌝ }
 {
     if values.len() == 0 {

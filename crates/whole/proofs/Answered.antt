@@ -51,21 +51,25 @@ module _ {M : Mode} {L R : List ℕ} {pages answers : List (List ℕ)} (asked : 
   at-key : (i : ℕ) → i < length answers → i < length (together pages)
   at-key i h = omega (arith, as-many-answers answered)
 
+  -- so it is on the list
   listed : (i : ℕ) → i < length answers → List·Memᴰ (getD (together pages) i 0) (keys M layout L R (groups M L R))
   listed i h = subst (List·Memᴰ (getD (together pages) i 0)) (list .whole)
       (getD-member (together pages) i 0 (at-key i h))
 
+  -- and what is read back of its answer is what it names
   named : (i : ℕ) → i < length answers
       → Agree (variables M L R) (replacementAt answers i)
       (replacementOf M L R (groups M L R) (getD (together pages) i 0))
   named = answers-name (groups-exist M L R) answered
 
+  -- each unifies, since its key does
   each-unifies : (i : ℕ) → i < length answers → Unifies M L R (replacementAt answers i)
   each-unifies i h =
       let fine = asked-within refl asked in
       unifies-alike M L R (fine .left-side) (fine .right-side) (λ x m. sym (named i h x m))
       (key-unifies fine (groups-exist M L R) (listed i h))
 
+  -- every unifier comes from one, since it comes from a key on the list
   every-comes-from-one : (θ : Replacement) → Unifies M L R θ
       → (i : ℕ) × (i < length answers) × ComesFrom M (layout .new) L R (replacementAt answers i) θ
   every-comes-from-one θ unifies =
@@ -79,6 +83,7 @@ module _ {M : Mode} {L R : List ℕ} {pages answers : List (List ℕ)} (asked : 
             ∙ sym (named (place .0) within x m)) (λ x m. refl) (found .2),
       )
 
+  -- none comes from another, since no key does
   none-from-another : (i j : ℕ) → i < length answers → j < length answers
       → ComesFrom M (layout .new) L R (replacementAt answers i) (replacementAt answers j) → i ≡ j
   none-from-another i j h h′ comes =
@@ -87,6 +92,7 @@ module _ {M : Mode} {L R : List ℕ} {pages answers : List (List ℕ)} (asked : 
       sym (placeOf-getD (list .none-twice) i (at-key i h)) ∙ ap (λ key. placeOf key (together pages)) same
       ∙ placeOf-getD (list .none-twice) j (at-key j h′)
 
+  -- all of it
   pub whole-set : WholeSet M L R answers
   whole-set =
       record {

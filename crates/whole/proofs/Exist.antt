@@ -33,6 +33,7 @@ use Rattle.whole.proofs.Short.{not-long}
 abbrev room : ℕ → List ℕ
 room n = replicate n 0
 
+-- it has them
 room-enough : (n : ℕ) → n ≤ length (room n)
 room-enough n = omega (arith, length-replicate {A = ℕ} n 0)
 

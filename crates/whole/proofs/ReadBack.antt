@@ -16,17 +16,19 @@ atoms-passed : (value bytes : List ℕ) → takenApart (length value) (value ++ 
 atoms-passed [] bytes = refl
 atoms-passed (a ∷ value) bytes = atoms-passed value bytes
 
+-- what is laid out and taken apart is what it was
 pub takenApart-laidOut : (bs : List Binding) → takenApart 0 (laidOut bs) ≡ bs
 takenApart-laidOut [] = refl
 takenApart-laidOut (b ∷ bs) =
-    ap₂ {C = List Binding} (λ (value : List ℕ) (rest : List Binding). record
-    { variable = b .variable; value = value } ∷ rest)
+    ap₂ {C = List Binding}
+    (λ (value : List ℕ) (rest : List Binding). record { variable = b .variable; value = value } ∷ rest)
     (take-append-seam (b .value) (laidOut bs)) (atoms-passed (b .value) (laidOut bs) ∙ takenApart-laidOut bs)
 
 -- Two lists of variables with their values that are laid out alike are the same.
 pub laidOut-one-to-one : (bs cs : List Binding) → laidOut bs ≡ laidOut cs → bs ≡ cs
 laidOut-one-to-one bs cs e = sym (takenApart-laidOut bs) ∙ ap (takenApart 0) e ∙ takenApart-laidOut cs
 
+-- a variable that stands in the layout has its value there
 valueIn-bindings : (θ : Replacement) {xs : List ℕ} {x : ℕ} → List·Memᴰ x xs → valueIn (bindings θ xs) x ≡ θ x
 valueIn-bindings θ {xs = y ∷ ys} {x} (List·Memᴰ·head e) =
     ap (λ t. cond t (θ y) (valueIn (bindings θ ys) x)) (eq-eqb x y e) ∙ ap θ (sym e)
@@ -45,5 +47,6 @@ readBack-laidOut θ {xs} {x} m = ap (λ bs. valueIn bs x) (takenApart-laidOut (b
 abbrev pair-1 : List ℕ
 pair-1 = 0 ∷ 2 ∷ 64 ∷ 192 ∷ 1 ∷ 1 ∷ 192 ∷ []
 
+-- it reads back as the document prints it
 pair-1-read-back : (readBack pair-1 0 ≡ 64 ∷ 192 ∷ []) × (readBack pair-1 1 ≡ 192 ∷ [])
 pair-1-read-back = (refl, refl)

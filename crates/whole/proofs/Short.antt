@@ -1,5 +1,6 @@
 -- The values of a pair within the limits. None has more than 160 atoms: an entry of a row is at most 8, and
--- at most 4 + 16 rows are taken. Their atoms are unbalanced constants and n0 to n15.
+-- at most 4 + 16 rows
+-- are taken. Their atoms are unbalanced constants and n0 to n15.
 use Prim.Native.Nat.{ℕ, zero, suc, _+_, _*_, _≤_}
 use native.Mathlib.Omega.{arith}
 use mathlib.Core.Path.{_≡_, refl}
@@ -34,9 +35,8 @@ near-places f g near (x ∷ xs) zero = near x
 near-places f g near (x ∷ xs) (suc i) = near-places f g near xs i
 
 -- Where no net count is further than 8 from 0, no entry of a row is above 8.
-module _ {M : Mode} {L R : List ℕ} (near : (x : ℕ) → (count x L ≤ count x R + 8)
-    × (count x R ≤ count x L + 8)) {G : Groups}
-    (of : GroupsOf M L R G) where
+module _ {M : Mode} {L R : List ℕ} (near : (x : ℕ) → (count x L ≤ count x R + 8) × (count x R ≤ count x L + 8))
+    {G : Groups} (of : GroupsOf M L R G) where
   balanced-entry : {v : List ℕ} → List·Memᴰ v (G .balanced) → (i : ℕ) → getD v i 0 ≤ 8
   balanced-entry {v} m =
       huet-bound (balancedEquation M L R) (balanced-row-is-minimal M L R v .0 (of .balanced-rows .only v m))
@@ -46,6 +46,7 @@ module _ {M : Mode} {L R : List ℕ} (near : (x : ℕ) → (count x L ≤ count 
         offsets = omega arith;
       })
 
+  -- nor of a row of a constant
   constant-entry : {g : Group} → List·Memᴰ g (G .constants) → {v : List ℕ} → List·Memᴰ v (g .rows) → (i : ℕ)
       → getD v i 0 ≤ 8
   constant-entry {g} of-g {v} m =
@@ -64,6 +65,7 @@ module _ (i : ℕ) where
   length-valueAt [] us = omega arith
   length-valueAt (t ∷ ts) us = simp (length-append, length-replicate) (omega (arith, length-valueAt ts us))
 
+  -- those of the constants, at most 8 of each
   constants-short : {gs : List Group} {is : List ℕ}
       → ((g : Group) → List·Memᴰ g gs → (v : List ℕ) → List·Memᴰ v (g .rows) → getD v i 0 ≤ 8)
       → Within gs is → length (valueAt (takenRows gs is) i) ≤ 8 * length gs
@@ -76,6 +78,7 @@ module _ (i : ℕ) where
         constants-short (λ g m. small g (List·Memᴰ·tail m)) within,
       ))
 
+  -- and those of the balanced rows, at most 8 of each
   balanced-short : (n : ℕ) (rows : List (List ℕ)) (ts : List Bool)
       → ((v : List ℕ) → List·Memᴰ v rows → getD v i 0 ≤ 8)
       → length (valueAt (takenBalanced n rows ts) i) ≤ 8 * length rows
@@ -86,7 +89,8 @@ module _ (i : ℕ) where
       (omega (
         arith,
         small r (List·Memᴰ·head refl),
-        balanced-short (suc n) rows ts (λ v m. small v (List·Memᴰ·tail m)),
+        balanced-short (suc n) rows ts
+            (λ v m. small v (List·Memᴰ·tail m)),
       ))
   balanced-short n (r ∷ rows) (false ∷ ts) small =
       omega (arith, balanced-short (suc n) rows ts (λ v m. small v (List·Memᴰ·tail m)))
@@ -120,7 +124,8 @@ module _ {M : Mode} {L R : List ℕ} (none : NoneOf (PairGiven limits M L R) (7 
       omega (
         arith,
         long .long,
-        value-short (candidate-selection fits (listed-candidates fits M L R .0 m .0)) (long .variable),
+        value-short (candidate-selection fits (listed-candidates fits M L R .0 m .0))
+            (long .variable),
       )
 
   -- In answers 192 to 207 are new variables n0 to n15; the other atoms of a value are unbalanced constants.

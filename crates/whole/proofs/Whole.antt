@@ -1,13 +1,15 @@
 -- What Page and Values give together (document 01, "What every promise has to say", demand 3). This is the
--- file to read first; the words of the statement stand in specs/Whole.antt. It speaks of promises and bytes
--- alone, not of code.
+-- file to read first; the words of the
+-- statement stand in specs/Whole.antt. It speaks of promises and bytes alone, not of code.
 --
 -- For all sides, whatever lists of bytes they are: let pages be asked for one after the other from the start
--- until no more follow, each after the last key of the one before, with any counts and any lent buffers; and
--- let Values be asked for each key on them, with any lent buffer, and answer. If all of these meet the
--- promises, the replacements read back from the bytes each unify, every unifier comes from one of them, none
--- comes from another, and none stands twice. That there are such pages and answers wherever there is a
--- unifier is `pages-and-answers` of Exist.antt.
+-- until no more follow, each after the
+-- last key of the one before, with any counts and any lent buffers; and let Values be asked for each key on
+-- them, with any lent buffer, and answer.
+-- If all of these meet the promises, the replacements read back from the bytes each unify, every unifier
+-- comes from one of them, none comes from
+-- another, and none stands twice. That there are such pages and answers wherever there is a unifier is
+-- `pages-and-answers` of Exist.antt.
 use Prim.Native.Nat.{ℕ}
 use native.Mathlib.Omega.{arith}
 use mathlib.Core.Path.{_≡_, refl, subst}
@@ -48,5 +50,6 @@ module _ {L R : List ℕ} {begin : Begin} {wanted : ℕ} {out : List ℕ} where
   none-at-all promise =
       let exists = page-existence promise in (
         λ e. (none-before-13 promise e, exists .only-where-none e),
-        λ none. exists .always-where-none (none .0) (none .1),
+        λ none. exists .always-where-none (none .0)
+            (none .1),
       )

@@ -13,7 +13,8 @@ use Rattle.ac.specs.Replacement.{Replacement, SameSum, Unifies, ComesFrom}
 use Rattle.values.specs.Values.{ValuesPromise, written}
 
 -- "For each variable ascending, its byte, a byte count and the atoms": the bytes taken apart again. `rest` is
--- how many of the bytes in front are atoms of the variable before.
+-- how many of the bytes in front are
+-- atoms of the variable before.
 abbrev pub takenApart : ℕ → List ℕ → List Binding
 takenApart rest [] = []
 takenApart (suc rest) (atom ∷ bytes) = takenApart rest bytes

@@ -48,6 +48,7 @@ module _ {L R : List ℕ} {G : Groups}
   never-of-rows enough n (of-the-sides given) = never n given
   never-of-rows enough n (short-buffer short) = omega arith
 
+  -- Rows gives the groups of the pair
   pub rows-of-groups : RowsGives L R (sizesOf G) (allRows G)
   rows-of-groups out enough =
       let met = is-answered (none-of (never-of-rows enough) rowsNumbers) groups in
@@ -72,7 +73,8 @@ module _ {L R : List ℕ} {G : Groups}
       met : PagePromise unifying L R begin 0 out (page (length (key ∷ others)) false) (receives out (key ∷ others))
       met =
           subst₂ (λ ks more. PagePromise unifying L R begin 0 out (page (length ks) more) (receives out ks))
-          whole no-more (is-page (none-of-list enough groups nothing
+          whole no-more
+          (is-page (none-of-list enough groups nothing
           (none-of (λ n. list-gives-none on-list (subst (List·Memᴰ key) (sym e) (List·Memᴰ·head refl)))
           (13 ∷ 14 ∷ 15 ∷ []))) groups)
 
@@ -92,6 +94,7 @@ module _ {L R : List ℕ} {G : Groups}
       groups in
       record { meets = met; alone = λ other exit p. values-determined p met }
 
+  -- the groups are within the limits of a key
   fits : Fits layout G
   fits = within-limits nothing .groups-fit G groups
 

@@ -51,6 +51,7 @@ pairTests L R =
     ∷ all (rowTests (groups unifying L R))
     ∷ []
 
+-- all of them together
 abbrev pub within : List ℕ → List ℕ → Bool
 within L R = all (pairTests L R)
 
@@ -59,9 +60,11 @@ module _ (side : List ℕ) (passes : all (sideTests side) ≡ true) where
   length-within (inl few) = omega (arith, leb-true 1 (length side) (each (sideTests side) passes 0))
   length-within (inr many) = omega (arith, leb-true (length side) 64 (each (sideTests side) passes 1))
 
+  -- every byte of a side that passes is at most 127
   byte-within : {byte : ℕ} → List·Memᴰ byte side → byte ≤ 127
   byte-within {byte} m = leb-true byte 127 (every-member (λ a. leb a 127) (each (sideTests side) passes 2) m)
 
+-- groups that pass have not too many rows
 rows-within : {G : Groups} → all (rowTests G) ≡ true → ManyRows limits G → ⊥
 rows-within {G} passes (balanced many) =
     omega (arith, leb-true (length (G .balanced)) 16 (each (rowTests G) passes 0))
@@ -87,6 +90,7 @@ module _ (L R : List ℕ) (passes : within L R ≡ true) where
   passed : (place : ℕ) → getD (pairTests L R) place true ≡ true
   passed = each (pairTests L R) passes
 
+  -- each of the two sides passes
   side-within : {side : List ℕ} → Side L R side → all (sideTests side) ≡ true
   side-within left = passed 0
   side-within right = passed 1

@@ -31,6 +31,7 @@ module _ (L R : List ℕ) where
   abbrev tests : List Bool
   tests = within L R ∷ leb (length list) 200 ∷ []
 
+-- the tests of a pair
 abbrev testPair : Pair → Bool
 testPair pair = all (tests (pair .left) (pair .right))
 
@@ -42,6 +43,7 @@ module _ (L R : List ℕ) (passes : all (tests L R) ≡ true) where
   never : (n : ℕ) → PairGiven limits unifying L R n → ⊥
   never n = never-given L R (each (tests L R) passes 0)
 
+  -- so the questions answer by the groups that the search finds
   computed : AnswersBy L R (groups unifying L R)
   computed =
       record {

@@ -10,10 +10,11 @@ use Rattle.worked.specs.Example.{block-0, block-1}
 use Rattle.worked.proofs.Reading.{block-0-gives, block-1-gives}
 use Rattle.worked.proofs.Wrong as wrong
 
--- the blocks of the example, asked for by their places
+-- block 0 of the example, asked for by its place
 abbrev first : BlockAsked
 first = record { block = block-0; number = 0 }
 
+-- block 1, by its place
 abbrev second : BlockAsked
 second = record { block = block-1; number = 1 }
 

@@ -18,8 +18,8 @@ asked n = ofPair n tt
 
 -- pair 2: rows 0101, 0110, 1001, 1010
 four-rows : RowsGives (numbered 2 .left) (numbered 2 .right)
-    (sizes 4 0 0 0 0 0) ((0 ∷ 1 ∷ 0 ∷ 1 ∷ []) ∷ (0 ∷ 1 ∷ 1 ∷ 0 ∷ []) ∷ (1 ∷ 0 ∷ 0 ∷ 1 ∷ [])
-    ∷ (1 ∷ 0 ∷ 1 ∷ 0 ∷ []) ∷ [])
+    (sizes 4 0 0 0 0 0) ((0 ∷ 1 ∷ 0 ∷ 1 ∷ []) ∷ (0 ∷ 1 ∷ 1 ∷ 0 ∷ []) ∷ (1 ∷ 0 ∷ 0 ∷ 1 ∷ []) ∷
+    (1 ∷ 0 ∷ 1 ∷ 0 ∷ []) ∷ [])
 four-rows = worked-groups 2 (omega arith) (omega arith) .the-rows
 
 -- pair 10: c0 has two rows

@@ -34,6 +34,7 @@ module _ (program : Tally) where
   abbrev first : Tallied
   first = program (counts 0 0 0 0) (Sides 2 2) (Groups 0 2 2 2 0 0) (Page 2 false)
 
+  -- it meets the promise at the first block of the example
   abbrev MeetsFirst : Type 0
   MeetsFirst = MeetsAt (counts 0 0 0 0) (Sides 2 2) (Groups 0 2 2 2 0 0) (Page 2 false)
 
@@ -41,6 +42,7 @@ module _ (program : Tally) where
   abbrev second : Tallied
   second = program (counts 1 1 0 0) (Sides 2 1) (Groups 0 1 0 0 0 0) (Refused refusal.NoUnifier)
 
+  -- and at the second
   abbrev MeetsSecond : Type 0
   MeetsSecond = MeetsAt (counts 1 1 0 0) (Sides 2 1) (Groups 0 1 0 0 0 0) (Refused refusal.NoUnifier)
 

@@ -5,13 +5,14 @@ use Rattle.ac.specs.Pair.{unifying}
 use Rattle.ac.specs.Keys.{Begin}
 use Rattle.block.specs.Read.{ReadOutcome, ReadPromise}
 use Rattle.block.specs.Read as read
-use Rattle.solve.specs.Rows.{RowsOutcome, RowsPromise}
+use Rattle.solve.specs.Rows.{RowsPromise}
 use Rattle.solve.specs.Rows as rows
-use Rattle.solver.specs.Page.{PageOutcome, PagePromise}
+use Rattle.solver.specs.Page.{PagePromise}
 use Rattle.solver.specs.Page as page
-use Rattle.values.specs.Values.{ValuesOutcome, ValuesPromise}
+use Rattle.values.specs.Values.{ValuesPromise}
 use Rattle.values.specs.Values as values
 
+-- a question: what is asked of it, what it is lent, what it comes to, and what it promises of that
 pub record Question : Type 1 where
   pub Asked : Type 0
   -- the lent buffers
@@ -27,10 +28,12 @@ pub record BlockAsked : Type 0 where
   pub block : List ℕ
   pub number : ℕ
 
+-- the two lent buffers, which receive the sides
 pub record TwoBuffers : Type 0 where
   pub left : List ℕ
   pub right : List ℕ
 
+-- Read
 abbrev pub readQuestion : Question
 readQuestion =
     record {
@@ -69,6 +72,7 @@ pub record Request : Type 0 where
   pub begin : Begin
   pub wanted : ℕ
 
+-- Page
 abbrev pub pageQuestion : Question
 pageQuestion =
     ofSides Request page.refused (λ L R request. PagePromise unifying L R (request .begin) (request .wanted))

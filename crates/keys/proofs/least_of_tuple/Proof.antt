@@ -32,7 +32,8 @@ pack-requires : tie.Need-pack-requires Inv-loop μ-loop
 pack-requires c κs = (
   c .before .before .before .pre .1,
   mask-fits
-      (c .before .before .before .pre .0 .sizes-fit 0) (no-bit-left (c .before .loop .mask) _ (c .loop-test .taken)),
+      (c .before .before .before .pre .0 .sizes-fit 0)
+      (no-bit-left (c .before .loop .mask) _ (c .loop-test .taken)),
 )
 
 selection-of-requires : tie.Need-selection-of-requires Inv-loop μ-loop

@@ -38,23 +38,27 @@ all-constants-requires : tie.Need-all-constants-requires
 all-constants-requires c κs = search needs
 
 returns-2 : tie.Need-returns-2
-returns-2 c = simp (c .before .before .before .before .enum-told .given .1, c .before .before .rows .given .1)
-    (c .refused-line2 .ensures)
+returns-2 c =
+    let at-enum-told = c .before .before .before .before in
+    simp (at-enum-told .enum-told .given .1, c .before .before .rows .given .1) (c .refused-line2 .ensures)
 
 returns-3 : tie.Need-returns-3
-returns-3 c = simp (
-  c .before .before .before .before .before .before .before .enum-told .given .1,
-  c .before .before .before .before .before .rows2 .given .1,
-  c .before .before .page .given .1,
-) (c .refused-line3 .ensures)
+returns-3 c =
+    let at-rows2 = c .before .before .before .before .before in
+    let at-enum-told = at-rows2 .before .before in
+    simp (at-enum-told .enum-told .given .1, at-rows2 .rows2 .given .1, c .before .before .page .given .1)
+    (c .refused-line3 .ensures)
 
 returns-4 : tie.Need-returns-4
-returns-4 c = simp (
-  c .before .before .before .before .before .before .before .enum-told .given .1,
-  c .before .before .before .before .before .rows2 .given .1,
-  c .before .before .page2 .given .1,
-  c .all-constants .ensures,
-)
+returns-4 c =
+    let at-rows2 = c .before .before .before .before .before in
+    let at-enum-told = at-rows2 .before .before in
+    simp (
+      at-enum-told .enum-told .given .1,
+      at-rows2 .rows2 .given .1,
+      c .before .before .page2 .given .1,
+      c .all-constants .ensures,
+    )
 
 pub line-of-spec : {M : Type 1} → statement M
 line-of-spec =

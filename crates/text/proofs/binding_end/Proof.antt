@@ -22,11 +22,8 @@ wide-requires c κs = search needs
 
 add-least : tie.Need-add-least
 add-least c =
-    omega (
-      arith,
-      c .before .shared-slice-known2 .given (c .before .before .before .before .args .from + 1),
-      c .wide .ensures,
-    )
+    let entry = c .before .before .before .before in
+    omega (arith, c .before .shared-slice-known2 .given (entry .args .from + 1), c .wide .ensures)
 
 least-requires : tie.Need-least-requires
 least-requires c κs = search needs

@@ -2,7 +2,7 @@
 use native.Mathlib.Omega.{arith}
 use mathlib.Core.Path.{ap, _∙_}
 use lib.ListN.{length, length-set, length-drop}
-use Rattle.text.specs.Text.{name, joined}
+use Rattle.text.specs.Text.{joined}
 use Rattle.buffer.proofs.Puts.{put-byte, put-then, put-length, put-as}
 use Rattle.text.proofs.Names.{name-short}
 use Rattle.text.proofs.Bindings.{after-two}
@@ -30,11 +30,14 @@ least-requires c κs = search needs
 
 add-put-value : tie.Need-add-put-value
 add-put-value c =
+    let at-put-name = c .before .before .before .before in
+    let at-shared-slice-known2 = at-put-name .before in
     omega (
       arith,
-      c .before .before .before .before .put-name .ensures .place,
-      put-length (c .before .before .before .before .put-name .ensures),
-      name-short _ (c .before .before .before .before .before .shared-slice-known2 .given 0 .fits),
+      at-put-name .put-name .ensures .place,
+      put-length (at-put-name .put-name .ensures),
+      name-short _
+          (at-shared-slice-known2 .shared-slice-known2 .given 0 .fits),
     )
 
 sub-put-value : tie.Need-sub-put-value
@@ -62,17 +65,20 @@ put-value-requires c κs =
     ))
 
 same-length : tie.Need-same-length
-same-length c = put-length (c .before .before .put-value .ensures)
-    ∙ simp length-set (put-length (c .before .before .before .before .before .before .before .before .put-name
-    .ensures))
+same-length c =
+    let at-put-name = c .before .before .before .before .before .before .before .before in
+    put-length (c .before .before .put-value .ensures)
+    ∙ simp length-set (put-length (at-put-name .put-name .ensures))
 
 returns : tie.Need-returns
 returns c =
-    let skipped = c .before .before .before .before .before .least in
-    put-then (c .before .before .before .before .before .before .before .before .put-name .ensures)
+    let at-least = c .before .before .before .before .before in
+    let at-put-name = at-least .before .before .before in
+    let entry = at-put-name .before .before .before .before .before in
+    let skipped = at-least .least in
+    put-then (at-put-name .put-name .ensures)
     (put-then (put-byte _ _ 61)
-    (put-as (ap joined (after-two (c .before .before .before .before .before .before .before .before .before
-    .before .before .before .before .args .bytes .now) (skipped .result) (skipped .ensures)))
+    (put-as (ap joined (after-two (entry .args .bytes .now) (skipped .result) (skipped .ensures)))
     (c .before .before .put-value .ensures)))
 
 pub put-bound-spec : {M : Type 1} → statement M

@@ -27,8 +27,8 @@ same-length c = put-length (c .before .before .put-number .ensures) ∙ simp len
 
 returns : tie.Need-returns
 returns c =
-    put-as (ap (λ (n : ℕ). c .before .before .before .before .before .before .args .letter ∷ decimal n)
-    (c .before .before .before .wide .ensures))
+    let entry = c .before .before .before .before .before .before in
+    put-as (ap (λ (n : ℕ). entry .args .letter ∷ decimal n) (c .before .before .before .wide .ensures))
     (put-then (put-byte _ _ _) (c .before .before .put-number .ensures))
 
 pub put-lettered-spec : {M : Type 1} → statement M

@@ -19,22 +19,26 @@ same-length : tie.Need-same-length
 same-length c = search needs
 
 returns : tie.Need-returns
-returns c = put-as (name-variable _ (c .before .before .before .before .if1 .taken))
-    (c .before .before .put-lettered .ensures)
+returns c =
+    let at-if1 = c .before .before .before .before in
+    put-as (name-variable _ (at-if1 .if1 .taken)) (c .before .before .put-lettered .ensures)
 
 same-length-2 : tie.Need-same-length-2
 same-length-2 c = search needs
 
 returns-2 : tie.Need-returns-2
-returns-2 c = put-as (name-constant _ (c .before .before .before .before .before .if1 .left)
-    (c .before .before .before .before .if2 .taken)) (c .before .before .put-lettered2 .ensures)
+returns-2 c =
+    let at-if2 = c .before .before .before .before in
+    let at-if1 = at-if2 .before in
+    put-as (name-constant _ (at-if1 .if1 .left) (at-if2 .if2 .taken)) (c .before .before .put-lettered2 .ensures)
 
 same-length-3 : tie.Need-same-length-3
 same-length-3 c = search needs
 
 returns-3 : tie.Need-returns-3
-returns-3 c = put-as (name-new _ (c .before .before .before .before .if2 .left))
-    (c .before .before .put-lettered3 .ensures)
+returns-3 c =
+    let at-if2 = c .before .before .before .before in
+    put-as (name-new _ (at-if2 .if2 .left)) (c .before .before .put-lettered3 .ensures)
 
 pub put-name-spec : {M : Type 1} → statement M
 put-name-spec =

@@ -21,11 +21,11 @@ slice-aggregate-put-bytes c = search needs
 
 put-bytes-requires : tie.Need-put-bytes-requires
 put-bytes-requires c κs =
-    let a = c .before .before .before .before .before .args in
+    let entry = c .before .before .before .before .before in
+    let a = entry .args in
     let d = c .before .before .decimal in
     let e : length (take (d .result) (d .last .1 .0)) ≤ 20 =
-    digits-fit (a .number) (d .result) (c .before .before .before .before .before .fits .number .fits)
-    (d .ensures .1 .0) (d .ensures .1 .1) in
+    digits-fit (a .number) (d .result) (entry .fits .number .fits) (d .ensures .1 .0) (d .ensures .1 .1) in
     omega arith
 
 same-length : tie.Need-same-length
@@ -33,9 +33,10 @@ same-length c = search needs
 
 returns : tie.Need-returns
 returns c =
-    let d = c .before .before .before .before .before .decimal in
-    put-as (d .ensures .1 .1 ∙ digits-decimal (d .result)
-    (c .before .before .before .before .before .before .before .before .args .number) (d .ensures .1 .0))
+    let at-decimal = c .before .before .before .before .before in
+    let entry = at-decimal .before .before .before in
+    let d = at-decimal .decimal in
+    put-as (d .ensures .1 .1 ∙ digits-decimal (d .result) (entry .args .number) (d .ensures .1 .0))
     (c .before .before .put-bytes .ensures)
 
 pub put-number-spec : {M : Type 1} → statement M

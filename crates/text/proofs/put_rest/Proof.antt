@@ -39,8 +39,10 @@ loop-less c = omega arith
 
 loop-again : tie.Need-loop-again Inv-loop μ-loop
 loop-again c =
-    let a = c .before .before .before .before .before .before .before .before .before .args in
-    let l = c .before .before .before .before .before .before .loop in
+    let turn = c .before .before .before .before .before .before in
+    let entry = turn .before .before .before in
+    let a = entry .args in
+    let l = turn .loop in
     let h : l .i < length (a .atoms .now) = omega arith in (
       omega arith,
       put-as (further-next (a .atoms .now) (l .i) h)
@@ -52,7 +54,8 @@ same-length c = put-length (c .before .loop .inv .1)
 
 returns : tie.Need-returns Inv-loop μ-loop
 returns c =
-    let a = c .before .before .before .before .args in
+    let entry = c .before .before .before .before in
+    let a = entry .args in
     let e : c .before .loop .i ≡ length (a .atoms .now) = omega arith in
     put-as (ap (λ (n : ℕ). further (take n (a .atoms .now))) e ∙ ap further (take-length (a .atoms .now)))
     (c .before .loop .inv .1)

@@ -54,11 +54,15 @@ loop-less c = omega (arith, c .before .before .before .before .before .binding-e
 
 loop-again : tie.Need-loop-again Inv-loop μ-loop
 loop-again c =
-    let a = c .before .before .before .before .before .before .before .before .before .before .args in
+    let at-binding-end = c .before .before .before .before .before in
+    let turn = at-binding-end .before .before in
+    let at-shared-slice-known = turn .before in
+    let entry = at-shared-slice-known .before .before in
+    let a = entry .args in
     let v = a .values .now in
-    let l = c .before .before .before .before .before .before .before .loop in
-    let end = c .before .before .before .before .before .binding-end .result in
-    let ends = c .before .before .before .before .before .binding-end .ensures in
+    let l = turn .loop in
+    let end = at-binding-end .binding-end .result in
+    let ends = at-binding-end .binding-end .ensures in
     let h : l .from < length v = omega arith in
     let within : end ≤ length v = omega (arith, ends) in
     let size : length (take (end - l .from) (drop (l .from) v)) ≡ end - l .from =
@@ -67,12 +71,13 @@ loop-again c =
     let put = put-then (put-byte (l .out) (l .next) 32) (c .before .before .put-bound .ensures) in
     let short : length (bound (bindingOf (take (end - l .from) (drop (l .from) v))))
     ≤ 5 * length (take (end - l .from) (drop (l .from) v)) =
-    bound-short (take (end - l .from) (drop (l .from) v)) (part-small v (l .from) (end - l .from)
-    (λ i. c .before .before .before .before .before .before .before .before .shared-slice-known .given i
-    .fits)) some in (
+    bound-short (take (end - l .from) (drop (l .from) v))
+    (part-small v (l .from) (end - l .from)
+    (λ i. at-shared-slice-known .shared-slice-known .given i .fits)) some in (
       within,
       omega (arith, put .place, ends),
-      put-length put ∙ l .inv .2,
+      put-length put
+          ∙ l .inv .2,
       λ bs e. told-next h ends put (l .inv .3 bs e),
     )
 

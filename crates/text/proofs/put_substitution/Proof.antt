@@ -1,10 +1,9 @@
 -- `text::put_substitution` meets its contract: the first binding, and the others behind it. Assumes nothing.
-use Prim.Native.Nat.{_≤_, _<_, _*_, _-_}
+use Prim.Native.Nat.{_≤_, _<_, _-_}
 use native.Mathlib.Omega.{arith}
 use mathlib.Core.Path.{sym}
-use lib.ListN.{length, take, drop, length-take, length-drop}
+use lib.ListN.{length, drop, length-take, length-drop}
 use lib.Seq.{length-take-le}
-use Rattle.text.specs.Text.{bound, bindingOf}
 use Rattle.buffer.proofs.Puts.{put-byte, put-as, put-length}
 use Rattle.text.proofs.Bindings.{substitution-none, substitution-first, first-short}
 use borrow.Author.Needs.{needs}
@@ -28,7 +27,8 @@ binding-end-requires c κs = search needs
 
 slice-aggregate-put-bound : tie.Need-slice-aggregate-put-bound
 slice-aggregate-put-bound c =
-    let v = c .before .before .before .before .before .before .args .values .now in
+    let entry = c .before .before .before .before .before .before in
+    let v = entry .args .values .now in
     sym (length-take-le (c .before .before .binding-end .result) v
     (omega (arith, c .before .before .binding-end .ensures)))
 
@@ -50,19 +50,20 @@ part-put-spaced-end c = search needs
 
 put-spaced-requires : tie.Need-put-spaced-requires
 put-spaced-requires c κs =
-    let v = c .before .before .before .before .before .before .before .before .before .before .before .args
-    .values .now in
-    let end = c .before .before .before .before .before .before .before .binding-end in
-    let first = c .before .before .before .before .put-bound in
+    let at-put-bound = c .before .before .before .before in
+    let at-binding-end = at-put-bound .before .before .before in
+    let at-shared-slice-known = at-binding-end .before .before in
+    let entry = at-shared-slice-known .before .before in
+    let v = entry .args .values .now in
+    let end = at-binding-end .binding-end in
+    let first = at-put-bound .put-bound in
     let some : 0 < end .result = omega (arith, end .ensures) in
     let within : end .result ≤ length v = omega (arith, end .ensures) in
     omega (
       arith,
       first .ensures .place,
       put-length (first .ensures),
-      first-short v (end .result) some within
-          (λ i. c .before .before .before .before .before .before .before .before .before .shared-slice-known
-          .given i .fits),
+      first-short v (end .result) some within (λ i. at-shared-slice-known .shared-slice-known .given i .fits),
       length-take (length v - end .result) (drop (end .result) v),
       length-drop (end .result) v,
     )
@@ -72,10 +73,13 @@ same-length-2 c = search needs
 
 returns-2 : tie.Need-returns-2
 returns-2 c =
-    let v = c .before .before .before .before .before .before .before .before .before .before .before .before
-    .before .before .args .values .now in
-    let end = c .before .before .before .before .before .before .before .before .before .before .binding-end in
-    let first = c .before .before .before .before .before .before .before .put-bound in
+    let at-put-bound = c .before .before .before .before .before .before .before in
+    let at-binding-end = at-put-bound .before .before .before in
+    let at-shared-slice-known = at-binding-end .before .before in
+    let entry = at-shared-slice-known .before .before in
+    let v = entry .args .values .now in
+    let end = at-binding-end .binding-end in
+    let first = at-put-bound .put-bound in
     let others = c .before .before .put-spaced in
     let some : 0 < end .result = omega (arith, end .ensures) in
     let within : end .result ≤ length v = omega (arith, end .ensures) in (
@@ -84,9 +88,7 @@ returns-2 c =
         arith,
         others .ensures .1,
         first .ensures .place,
-        first-short v (end .result) some within
-            (λ i. c .before .before .before .before .before .before .before .before .before .before .before
-            .before .shared-slice-known .given i .fits),
+        first-short v (end .result) some within (λ i. at-shared-slice-known .shared-slice-known .given i .fits),
         length-take (length v - end .result) (drop (end .result) v),
         length-drop (end .result) v,
       ),

@@ -2,7 +2,6 @@
 use Prim.Native.Nat.{_<_}
 use native.Mathlib.Omega.{arith}
 use lib.ListN.{length}
-use Rattle.text.specs.Text.{name}
 use Rattle.buffer.proofs.Puts.{put-nothing, put-then, put-as, put-length}
 use Rattle.text.proofs.Names.{joined-none, joined-first, name-short, tail, length-tail}
 use borrow.Author.Needs.{needs}
@@ -30,15 +29,19 @@ part-put-rest-end c = search needs
 put-rest-requires : tie.Need-put-rest-requires
 unfolding tail
 put-rest-requires c κs =
-    let a = c .before .before .before .before .before .before .before .before .before .before .args in
-    let n = c .before .before .before .before .put-name in
+    let at-put-name = c .before .before .before .before in
+    let at-shared-slice-known2 = at-put-name .before in
+    let entry = at-shared-slice-known2 .before .before .before .before .before in
+    let a = entry .args in
+    let n = at-put-name .put-name in
     let some : 0 < length (a .atoms .now) = omega arith in
     omega (
       arith,
       length-tail (a .atoms .now) some,
       n .ensures .place,
       put-length (n .ensures),
-      name-short _ (c .before .before .before .before .before .shared-slice-known2 .given 0 .fits),
+      name-short _
+          (at-shared-slice-known2 .shared-slice-known2 .given 0 .fits),
     )
 
 same-length : tie.Need-same-length
@@ -47,12 +50,12 @@ same-length c = search needs
 returns-2 : tie.Need-returns-2
 unfolding tail
 returns-2 c =
-    let a = c .before .before .before .before .before .before .before .before .before .before .before .before
-    .before .args in
+    let at-put-name = c .before .before .before .before .before .before .before in
+    let entry = at-put-name .before .before .before .before .before .before in
+    let a = entry .args in
     let some : 0 < length (a .atoms .now) = omega arith in
     put-as (joined-first (a .atoms .now) some)
-    (put-then (c .before .before .before .before .before .before .before .put-name .ensures)
-    (c .before .before .put-rest .ensures))
+    (put-then (at-put-name .put-name .ensures) (c .before .before .put-rest .ensures))
 
 pub put-value-spec : {M : Type 1} → statement M
 put-value-spec =

@@ -6,6 +6,7 @@ use mathlib.Core.List.{List, [], _∷_, map, List·Memᴰ}
 use lib.ListN.{length}
 use lib.Dec.{ltb, eqb}
 use Rattle.ac.specs.Lists.{filter, flatMap, below}
+use Rattle.ac.specs.Limits.{limits}
 use Rattle.ac.specs.Pair.{Mode}
 use Rattle.ac.specs.Rows.{Group, Groups}
 use Rattle.ac.specs.Selection.{Selection, SelectionOf, Within, admissible}
@@ -18,9 +19,10 @@ pub record Layout : Type 0 where
   pub rows : ℕ
   pub new : ℕ
 
--- 4 fields of 4 bits above the 16 low bits; n0 is byte 192
+-- a field of 4 bits for each unbalanced constant that a pair may have, above a low bit for each balanced row;
+-- n0 is byte 192
 abbrev pub layout : Layout
-layout = record { constants = 4; index-bits = 4; rows = 16; new = 192 }
+layout = record { constants = limits .constants; index-bits = 4; rows = limits .balanced-rows; new = 192 }
 
 -- the row indexes as one number: the lowest constant's in the highest field, unused fields 0
 abbrev pub fields : Layout → ℕ → List ℕ → ℕ

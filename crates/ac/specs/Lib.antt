@@ -1,5 +1,6 @@
 pub mod Lists
 pub mod Term
+pub mod Limits
 pub mod Pair
 pub mod Rows
 pub mod Equation

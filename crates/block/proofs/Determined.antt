@@ -2,31 +2,37 @@
 use Prim.Native.Nat.{ℕ}
 use mathlib.Core.Path.{_≡_, refl, ap}
 use mathlib.Core.List.{List}
-use Rattle.numbers.proofs.Laws.{numberOf-one-to-one, first-unique, first-not-none}
-use Rattle.block.specs.Read.{ReadOutcome, refused, told, ReadPromise, is-refused, is-read}
+use Rattle.numbers.specs.Outcome.{Outcome, refused, given}
+use Rattle.numbers.proofs.Laws.{refusalOf, refusalOf-saidOf}
+use Rattle.numbers.proofs.Promises.{OneResult, answer-determined}
+use Rattle.block.specs.Read.{SideLengths, toldRead, ReadGives, sides, ReadPromise}
 use Rattle.block.specs.declared.ReadAnswer.{ReadAnswer}
 use Rattle.block.specs.declared.ReadAnswer.the-variants.{Sides, Refused}
 use Rattle.block.proofs.Terms.{writes-unique}
 
--- `told` is one-to-one: answers that come to the same outcome are the same answer.
-pub told-one-to-one : (a b : ReadAnswer) → told a ≡ told b → a ≡ b
-told-one-to-one (Sides l r) (Sides l′ r′) e = cc e
-told-one-to-one (Sides l r) (Refused w) e = cc e
-told-one-to-one (Refused w) (Sides l r) e = cc e
-told-one-to-one (Refused v) (Refused w) e =
-    let same : v ≡ w = numberOf-one-to-one v w (cc e) in
-    cc same
+-- which answer an outcome is of
+answerOf : Outcome SideLengths → ReadAnswer
+answerOf (refused said) = Refused (refusalOf said)
+answerOf (given lengths) = Sides (lengths .left) (lengths .right)
 
--- Two outcomes, each with its pair of buffers, that meet the promise are identical.
-pub read-determined :
-    {block : List ℕ} {number : ℕ} {left right : List ℕ} {o o′ : ReadOutcome} {l l′ r r′ : List ℕ} →
-    ReadPromise block number left right o l r →
-    ReadPromise block number left right o′ l′ r′ →
-    (o ≡ o′) × (l ≡ l′) × (r ≡ r′)
-read-determined (is-refused f) (is-refused g) = (ap refused (first-unique f g), refl, refl)
-read-determined (is-refused f) (is-read none w v) = absurd (first-not-none f none)
-read-determined (is-read none w v) (is-refused f) = absurd (first-not-none f none)
-read-determined (is-read none w v) (is-read none′ w′ v′) =
+answerOf-told : (a : ReadAnswer) → answerOf (toldRead a) ≡ a
+unfolding answerOf
+answerOf-told (Sides left right) = refl
+answerOf-told (Refused why) = ap Refused (refusalOf-saidOf why)
+
+-- bytes are one term, so the sides are one
+pub one-result : {block left right : List ℕ} → OneResult (ReadGives block left right)
+one-result _ _ _ _ (sides w v) (sides w′ v′) =
     let left-same = writes-unique w w′ in
     let right-same = writes-unique v v′ in
-    (cc (left-same, right-same), cc left-same, cc right-same)
+    (cc (left-same, right-same), cc (left-same, right-same))
+
+-- Two answers, each with its pair of buffers, that meet the promise are identical.
+pub read-determined :
+    {block : List ℕ} {number : ℕ} {left right : List ℕ} {a a′ : ReadAnswer} {l l′ r r′ : List ℕ} →
+    ReadPromise block number left right (toldRead a) l r →
+    ReadPromise block number left right (toldRead a′) l′ r′ →
+    (a ≡ a′) × (l ≡ l′) × (r ≡ r′)
+read-determined p p′ =
+    let same = answer-determined one-result answerOf answerOf-told p p′ in
+    (same .0, ap (λ b. b .0) (same .1), ap (λ b. b .1) (same .1))

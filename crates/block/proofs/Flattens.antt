@@ -14,13 +14,13 @@ use Rattle.ac.specs.Lists.{receives}
 use Rattle.ac.specs.Term.{Term, atom, plus, flatten}
 use Rattle.block.specs.Front.{encode, MayBeWritten, Writes}
 use Rattle.block.specs.Table.{NoTerm}
-use Rattle.block.specs.Inner.{Classified, variable, constant, refused, Begins, Flattens, found, nothing, TakesApart, atoms}
-use Rattle.block.specs.declared.term.Kind.{Kind}
-use Rattle.block.specs.declared.term.Kind.the-variants.{Plus, Refused}
+use Rattle.block.specs.Inner.{Classified, variable, constant, refused, Begins, Flattens, found, nothing, TakesTermApart, atoms}
+use Rattle.block.specs.declared.term.ByteKind.{ByteKind}
+use Rattle.block.specs.declared.term.ByteKind.the-variants.{Plus, Refused}
 use Rattle.block.specs.declared.term.Flattened.{Flattened}
 use Rattle.block.specs.declared.term.Flattened.the-variants.{Found, Nothing}
-use Rattle.block.specs.declared.term.Side.the-variants.{Atoms}
-use Rattle.block.proofs.term.Kind.{the-type}
+use Rattle.block.specs.declared.term.TakenApart.the-variants.{Atoms}
+use Rattle.block.proofs.term.ByteKind.{the-type}
 use Rattle.block.proofs.Apart.{apart}
 use Rattle.block.proofs.Terms.{one-reading, bytes-of-atoms}
 use Rattle.block.proofs.Begins.{plus-begins, second-missing, writes-begins}
@@ -31,7 +31,7 @@ later-kind above (inl e) = omega arith
 later-kind above (inr e) = omega arith
 
 -- a variable or a constant may be written
-pub atom-may-be-written : {b : ℕ} {kind : Kind} → Classified b kind → OneOf (0 ∷ 1 ∷ []) (tagOf the-type kind)
+pub atom-may-be-written : {b : ℕ} {kind : ByteKind} → Classified b kind → OneOf (0 ∷ 1 ∷ []) (tagOf the-type kind)
     → MayBeWritten b
 atom-may-be-written (variable h) first-two = omega arith
 atom-may-be-written (constant l h) first-two = h
@@ -122,7 +122,7 @@ module _ {bytes buffer after : List ℕ} {used filled : ℕ} (f : FoundTerm byte
       ∙ drop-at (encode (f .term)) (f .begins .rest) used (sym (f .used-is))
 
   -- the term uses exactly the bytes, or no term does
-  pub whole-is-term : length bytes ≤ used → TakesApart bytes buffer (Atoms filled) after
+  pub whole-is-term : length bytes ≤ used → TakesTermApart bytes buffer (Atoms filled) after
   whole-is-term all =
       let sum : length bytes ≡ length (encode (f .term)) + length (f .begins .rest) =
       simp length-append at (ap length (f .begins .splits)) in

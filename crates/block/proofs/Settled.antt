@@ -10,7 +10,8 @@ use borrow.Author.Tests.{eqb-true, eqb-false}
 use lib.Dec.{eqb}
 use lib.ListN.{length}
 use Rattle.ac.specs.Term.{Term}
-use Rattle.numbers.specs.Numbers.{numberOf}
+use Rattle.numbers.specs.Numbers.{saidOf}
+use Rattle.numbers.specs.Order.{blockNumbers}
 use Rattle.numbers.specs.declared.Refusal.{Refusal}
 use Rattle.numbers.specs.First.{First, NoneOf, here, later, end, also}
 use Rattle.numbers.specs.declared.Refusal.the-variants as refusal
@@ -18,8 +19,10 @@ use Rattle.numbers.proofs.Carried.{and-true}
 use Rattle.block.specs.Front.{Writes}
 use Rattle.block.specs.Block.{blockNumber, leftLength, rightLength, leftTerm, rightTerm, filler, check, checkOfBytes}
 use Rattle.block.specs.Table.{ReadGiven, block-length, check-differs, block-number, term-length, no-term, filler-byte, short-buffer, NoLength, NoTerm}
-use Rattle.block.specs.Read.{refused, ReadPromise, is-refused}
-use Rattle.block.specs.Inner.{IsLength, TermLengths, within, outside, allZero, blockNumbers, Refuses, GoodHeader}
+use Rattle.numbers.specs.Outcome.{refused}
+use Rattle.numbers.proofs.Promises.{refuse}
+use Rattle.block.specs.Read.{ReadPromise}
+use Rattle.block.specs.Inner.{IsLength, TermLengths, within, outside, allZero, BlockRefuses, GoodHeader}
 use Rattle.block.proofs.Apart.{apart}
 
 -- a length from 1 to 127 is none that no term may have
@@ -84,17 +87,17 @@ module _ {block : List ℕ} {number : ℕ} {left right : List ℕ} where
 -- the first number that the block itself gives
 module _ {block : List ℕ} {number : ℕ} where
   -- number 1
-  pub block-length-first : (length block ≡ 512 → ⊥) → Refuses block number refusal.BlockLength
+  pub block-length-first : (length block ≡ 512 → ⊥) → BlockRefuses block number refusal.BlockLength
   block-length-first h = record { first = λ left right. here (block-length h) }
 
   module _ (whole : length block ≡ 512) where
     -- number 2
-    pub check-first : (check block ≡ checkOfBytes block → ⊥) → Refuses block number refusal.Check
+    pub check-first : (check block ≡ checkOfBytes block → ⊥) → BlockRefuses block number refusal.Check
     check-first h = record { first = λ left right. later (not-1 whole) (here (check-differs h)) }
 
     module _ (checked : check block ≡ checkOfBytes block) where
       -- number 3, where the check agrees
-      pub block-number-first : (blockNumber block ≡ number → ⊥) → Refuses block number refusal.BlockNumber
+      pub block-number-first : (blockNumber block ≡ number → ⊥) → BlockRefuses block number refusal.BlockNumber
       block-number-first h =
           record { first = λ left right. later (not-1 whole) (later (not-2 checked) (here (block-number h))) }
 
@@ -102,7 +105,7 @@ module _ {block : List ℕ} {number : ℕ} where
       pub term-length-first :
           blockNumber block ≡ number →
           NoLength (leftLength block) ⊎ NoLength (rightLength block) →
-          Refuses block number refusal.TermLength
+          BlockRefuses block number refusal.TermLength
       term-length-first numbered h =
           record {
             first = λ left right. later (not-1 whole)
@@ -122,12 +125,12 @@ module _ {block : List ℕ} {number : ℕ} where
         (later (not-4 (good .left-length) (good .right-length)) f)))
 
     -- number 5
-    pub term-first : NoTerm (leftTerm block) ⊎ NoTerm (rightTerm block) → Refuses block number refusal.Term
+    pub term-first : NoTerm (leftTerm block) ⊎ NoTerm (rightTerm block) → BlockRefuses block number refusal.Term
     term-first h = record { first = λ left right. after-header (here (no-term h)) }
 
     module _ {s t : Term} (v : Writes (leftTerm block) s) (w : Writes (rightTerm block) t) where
       -- number 6
-      pub filler-first : allZero (filler block) ≡ false → Refuses block number refusal.Filler
+      pub filler-first : allZero (filler block) ≡ false → BlockRefuses block number refusal.Filler
       filler-first e =
           let other = other-than-zero (filler block) e in
           record {
@@ -155,8 +158,8 @@ shorter-is-short m n h = go (decLt m 64)
 -- what is promised with number 16, and with the block's own where both buffers are long enough
 module _ {block : List ℕ} {number : ℕ} {left right : List ℕ} where
   pub short-buffer-first : min (length left) (length right) < 64
-      → ReadPromise block number left right (refused 16) left right
-  short-buffer-first h = is-refused (here (short-buffer (shorter-is-short (length left) (length right) h)))
+      → ReadPromise block number left right (refused (saidOf refusal.ShortBuffer)) left right
+  short-buffer-first h = refuse (here (short-buffer (shorter-is-short (length left) (length right) h)))
 
   module _ (left-fits : 64 ≤ length left) (right-fits : 64 ≤ length right) where
     -- both buffers are long enough
@@ -165,6 +168,6 @@ module _ {block : List ℕ} {number : ℕ} {left right : List ℕ} where
     not-16 (short-buffer (inr h)) = omega arith
 
     -- the block's own number, where 16 is not given
-    pub promised-refusal : {why : Refusal} → Refuses block number why
-        → ReadPromise block number left right (refused (numberOf why)) left right
-    promised-refusal r = is-refused (later not-16 (r .first left right))
+    pub promised-refusal : {why : Refusal} → BlockRefuses block number why
+        → ReadPromise block number left right (refused (saidOf why)) left right
+    promised-refusal r = refuse (later not-16 (r .first left right))

@@ -17,13 +17,14 @@ use Rattle.numbers.specs.declared.Refusal.the-variants as refusal
 use Rattle.block.specs.Front.{Writes, rightSide}
 use Rattle.block.specs.Block.{leftTerm, rightTerm, filler}
 use Rattle.block.specs.Table.{NoTerm}
-use Rattle.block.specs.Read.{lengths, ReadPromise, is-read}
+use Rattle.numbers.specs.Outcome.{given, is-given}
+use Rattle.block.specs.Read.{ReadPromise, sides}
 use Rattle.block.specs.Terms.{HeaderLengths}
-use Rattle.block.specs.Inner.{TakesApart, atoms, no-term, allZero, Refuses, SettlesHeader, is-refused, is-good}
+use Rattle.block.specs.Inner.{TakesTermApart, atoms, no-term, allZero, BlockRefuses, SettlesHeader, is-refused, is-good}
 use Rattle.block.specs.declared.header.Header.{Header}
 use Rattle.block.specs.declared.header.Header.the-variants.{Lengths}
-use Rattle.block.specs.declared.term.Side.{Side}
-use Rattle.block.specs.declared.term.Side.the-variants as side
+use Rattle.block.specs.declared.term.TakenApart.{TakenApart}
+use Rattle.block.specs.declared.term.TakenApart.the-variants as side
 use Rattle.block.proofs.Settled.{term-first, filler-first, none-given, not-16}
 use Rattle.block.proofs.Terms.{atoms-of-term}
 use Rattle.block.proofs.Apart.{apart}
@@ -51,7 +52,7 @@ pub when-refused :
     {block : List ℕ} {number : ℕ} {h : Header} {why : Refusal} →
     SettlesHeader block number h →
     h ≡ Header.Refused why →
-    Refuses block number why
+    BlockRefuses block number why
 when-refused {why = why} (is-refused {refusal = r} f) e = let same : r ≡ why = cc e in rw (← same) f
 when-refused (is-good g) e = apart (cc e)
 
@@ -65,8 +66,8 @@ pub record SideTerm (bytes : List ℕ) (count : ℕ) (after : List ℕ) : Type 0
 
 -- where the bytes are a term
 pub when-atoms :
-    {bytes buffer after : List ℕ} {count : ℕ} {s : Side} →
-    TakesApart bytes buffer s after →
+    {bytes buffer after : List ℕ} {count : ℕ} {s : TakenApart} →
+    TakesTermApart bytes buffer s after →
     s ≡ side.Atoms count →
     SideTerm bytes count after
 when-atoms {buffer = buffer} (atoms {t} w) e =
@@ -74,7 +75,7 @@ when-atoms {buffer = buffer} (atoms {t} w) e =
 when-atoms (no-term none) e = apart (cc e)
 
 -- and where they are none
-pub when-no-term : {bytes buffer after : List ℕ} {s : Side} → TakesApart bytes buffer s after
+pub when-no-term : {bytes buffer after : List ℕ} {s : TakenApart} → TakesTermApart bytes buffer s after
     → s ≡ side.NoTerm → NoTerm bytes
 when-no-term (atoms w) e = apart (cc e)
 when-no-term (no-term none) e = none
@@ -142,10 +143,10 @@ module _ {block : List ℕ} {number l r : ℕ} (h : HeaderLengths block number l
   filler-part-is = part-is-slice (4 + l + r) 510 block (omega (arith, terms-fit)) ∙ rw (h .left-is, h .right-is)
 
   -- where a part is no term, the number is 5
-  pub left-missing : NoTerm (leftPart block l r) → Refuses block number refusal.Term
+  pub left-missing : NoTerm (leftPart block l r) → BlockRefuses block number refusal.Term
   left-missing none = term-first (h .good) (inl (rw left-part-is at none))
 
-  pub right-missing : NoTerm (rightPart block l r) → Refuses block number refusal.Term
+  pub right-missing : NoTerm (rightPart block l r) → BlockRefuses block number refusal.Term
   right-missing none = term-first (h .good) (inr (rw right-part-is at none))
 
   module _
@@ -161,7 +162,7 @@ module _ {block : List ℕ} {number l r : ℕ} (h : HeaderLengths block number l
 
       -- where a filler byte is not 0, the number is 6
       pub filler-wrong : {z : Bool} → z ≡ allZero (fillerPart block l r) → not z ≡ true
-          → Refuses block number refusal.Filler
+          → BlockRefuses block number refusal.Filler
       filler-wrong {z} e t =
           filler-first (h .good) left-writes right-writes (rw filler-part-is at (sym e ∙ not-true z t))
 
@@ -174,11 +175,10 @@ module _ {block : List ℕ} {number l r : ℕ} (h : HeaderLengths block number l
           not z ≡ false →
           left-exit ≡ receives left (flatten (f .term)) →
           right-exit ≡ receives right (flatten (g .term)) →
-          ReadPromise block number left right (lengths m n) left-exit right-exit
+          ReadPromise block number left right (given (record { left = m; right = n })) left-exit right-exit
       sides-read {z} {left} {right} left-fits right-fits e t left-is right-is =
           rw (f .count-is, g .count-is, left-is, right-is, ← right-side-is (g .term))
-          (is-read
+          (is-given
           (also (not-16 left-fits right-fits)
           (none-given (h .good) left-writes right-writes (rw filler-part-is at (sym e ∙ not-false z t)) left right))
-          left-writes
-          right-writes)
+          (sides left-writes right-writes))

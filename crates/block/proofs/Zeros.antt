@@ -6,7 +6,8 @@ use mathlib.Core.List.{List}
 use lib.ListN.{length, replicate}
 use Rattle.numbers.specs.First.{First, here, later}
 use Rattle.block.specs.Block.{check, checkOfBytes}
-use Rattle.block.specs.Table.{ReadGiven, check-differs, readNumbers}
+use Rattle.block.specs.Table.{ReadGiven, check-differs}
+use Rattle.numbers.specs.Order.{readNumbers}
 use Rattle.block.proofs.Settled.{not-1, not-16}
 
 -- a block of zeros

@@ -11,21 +11,22 @@ use Rattle.ac.specs.Lists.{receives}
 use Rattle.ac.specs.Term.{Term, flatten}
 use Rattle.numbers.specs.Numbers.{numberOf}
 use Rattle.numbers.specs.First.{First}
+use Rattle.numbers.specs.Order.{blockNumbers}
 use Rattle.numbers.specs.declared.Refusal.{Refusal}
 use Rattle.block.specs.Front.{encode, Writable, Writes}
 use Rattle.block.specs.Block.{blockNumber, leftLength, rightLength, check, checkOfBytes}
 use Rattle.block.specs.Table.{ReadGiven, NoLength, NoTerm}
 use Rattle.block.specs.declared.header.Header.{Header}
 use Rattle.block.specs.declared.header.Header.the-variants.{Lengths}
-use Rattle.block.specs.declared.term.Kind.{Kind}
-use Rattle.block.specs.declared.term.Kind.the-variants.{Variable, Constant, Plus, Refused}
+use Rattle.block.specs.declared.term.ByteKind.{ByteKind}
+use Rattle.block.specs.declared.term.ByteKind.the-variants.{Variable, Constant, Plus, Refused}
 use Rattle.block.specs.declared.term.Flattened.{Flattened}
 use Rattle.block.specs.declared.term.Flattened.the-variants.{Found, Nothing}
-use Rattle.block.specs.declared.term.Side.{Side}
-use Rattle.block.specs.declared.term.Side.the-variants as side
+use Rattle.block.specs.declared.term.TakenApart.{TakenApart}
+use Rattle.block.specs.declared.term.TakenApart.the-variants as side
 
 -- 0 to 63 are variables, 64 to 127 are constants, 128 is followed by two terms, and a byte 129 to 255 is no term.
-pub data Classified (byte : ℕ) : Kind → Type 0 where
+pub data Classified (byte : ℕ) : ByteKind → Type 0 where
   variable : byte < 64 → Classified byte Variable
   constant : 64 ≤ byte → byte < 128 → Classified byte Constant
   plus : byte ≡ 128 → Classified byte Plus
@@ -45,10 +46,10 @@ pub data Flattens (bytes buffer : List ℕ) : Flattened → List ℕ → Type 0 
   nothing : {after : List ℕ} → ((t : Term) → Begins bytes t → ⊥) → Flattens bytes buffer Nothing after
 
 -- The term that the bytes are, by how many atoms it has, which stand at the start of the buffer.
-pub data TakesApart (bytes buffer : List ℕ) : Side → List ℕ → Type 0 where
+pub data TakesTermApart (bytes buffer : List ℕ) : TakenApart → List ℕ → Type 0 where
   atoms : {t : Term} → Writes bytes t
-      → TakesApart bytes buffer (side.Atoms (length (flatten t))) (receives buffer (flatten t))
-  no-term : {after : List ℕ} → NoTerm bytes → TakesApart bytes buffer side.NoTerm after
+      → TakesTermApart bytes buffer (side.Atoms (length (flatten t))) (receives buffer (flatten t))
+  no-term : {after : List ℕ} → NoTerm bytes → TakesTermApart bytes buffer side.NoTerm after
 
 -- Each is 1 to 127.
 abbrev pub IsLength : ℕ → Type 0
@@ -64,12 +65,8 @@ abbrev pub allZero : List ℕ → Bool
 allZero [] = true
 allZero (b ∷ bytes) = eqb b 0 && allZero bytes
 
--- the numbers that the block alone decides
-abbrev pub blockNumbers : List ℕ
-blockNumbers = 1 ∷ 2 ∷ 3 ∷ 4 ∷ 5 ∷ 6 ∷ []
-
 -- The block is refused with this number, whatever the buffers: it is the first that the block itself gives.
-pub record Refuses (block : List ℕ) (number : ℕ) (refusal : Refusal) : Type 0 where
+pub record BlockRefuses (block : List ℕ) (number : ℕ) (refusal : Refusal) : Type 0 where
   pub first : (left right : List ℕ) → First (ReadGiven block number left right) blockNumbers (numberOf refusal)
 
 -- Nothing is wrong with the block before its terms.
@@ -82,6 +79,6 @@ pub record GoodHeader (block : List ℕ) (number : ℕ) : Type 0 where
 
 -- Numbers 2 to 4 are settled: one of them is given, or the two lengths are good.
 pub data SettlesHeader (block : List ℕ) (number : ℕ) : Header → Type 0 where
-  is-refused : {refusal : Refusal} → Refuses block number refusal
+  is-refused : {refusal : Refusal} → BlockRefuses block number refusal
       → SettlesHeader block number (Header.Refused refusal)
   is-good : GoodHeader block number → SettlesHeader block number (Lengths (leftLength block) (rightLength block))

@@ -34,7 +34,3 @@ pub data ReadGiven (block : List ℕ) (number : ℕ) (left right : List ℕ) : �
   filler-byte : (b : ℕ) → List·Memᴰ b (filler block) → (b ≡ 0 → ⊥) → ReadGiven block number left right 6
   -- a lent buffer is too short: two lent buffers of at least 64 bytes
   short-buffer : (length left < 64) ⊎ (length right < 64) → ReadGiven block number left right 16
-
--- Order: 16 first, then by number. Read gives 1 to 6 and 16.
-abbrev pub readNumbers : List ℕ
-readNumbers = 16 ∷ 1 ∷ 2 ∷ 3 ∷ 4 ∷ 5 ∷ 6 ∷ []

@@ -2,13 +2,14 @@
 mod header;
 mod term;
 
+use buffer::least;
 use header::Header;
 use numbers::Refusal;
-use term::Side;
+use term::TakenApart;
 ghost use mathlib.Core.Path.{_≡_};
-ghost use Prim.Native.Nat.{_≤_, min};
+ghost use Prim.Native.Nat.{_≤_};
 ghost use lib.ListN.{length};
-ghost use Rattle.block.specs.Read.{told, ReadPromise};
+ghost use Rattle.block.specs.Read.{toldRead, ReadPromise};
 ghost use Rattle.block.specs.Inner.{allZero};
 ghost use Rattle.block.specs.Terms.{ReadsTerms};
 
@@ -21,9 +22,9 @@ pub enum ReadAnswer {
 // The question Read: reads a block that is to have this number, and puts its flattened sides into the two buffers.
 pub fn read(block: &[u8], number: u16, left: &mut [u8], right: &mut [u8]) -> ReadAnswer
     ensures { λ r. ⌜ ReadPromise (now (block .entry)) number (now (left .entry)) (now (right .entry))
-        (told r) (now (left .exit)) (now (right .exit)) ⌝ }
+        (toldRead r) (now (left .exit)) (now (right .exit)) ⌝ }
 {
-    let room = lesser(left.len(), right.len());
+    let room = least(left.len(), right.len());
     if room < 64 {
         return ReadAnswer::Refused(Refusal::ShortBuffer);
     }
@@ -40,13 +41,6 @@ pub fn read(block: &[u8], number: u16, left: &mut [u8], right: &mut [u8]) -> Rea
     }
 }
 
-// The lesser of two lengths.
-fn lesser(a: usize, b: usize) -> usize
-    ensures { λ r. ⌜ r ≡ min a b ⌝ }
-{
-    if a < b { a } else { b }
-}
-
 // Reads the terms of a block of the right length, and the filler after them. The terms are flattened into two
 // arrays, and the buffers are written once nothing can be refused any more.
 fn read_terms(
@@ -59,18 +53,18 @@ fn read_terms(
     requires { ⌜ (length (now block) ≡ 512) × («left_length» ≤ 127) × («right_length» ≤ 127) ⌝ }
     requires { ⌜ (64 ≤ length (now left)) × (64 ≤ length (now right)) ⌝ }
     ensures { λ r. ⌜ ReadsTerms (now (block .entry)) «left_length» «right_length» (now (left .entry)) (now (right .entry))
-        (told r) (now (left .exit)) (now (right .exit)) ⌝ }
+        (toldRead r) (now (left .exit)) (now (right .exit)) ⌝ }
 {
     let mut left_atoms = [0u8; 64];
     let mut right_atoms = [0u8; 64];
     let left_end = 4 + left_length;
     let right_end = left_end + right_length;
     let left_side = term::take_apart(&block[4..left_end], &mut left_atoms);
-    let Side::Atoms(left_count) = left_side else {
+    let TakenApart::Atoms(left_count) = left_side else {
         return ReadAnswer::Refused(Refusal::Term);
     };
     let right_side = term::take_apart(&block[left_end..right_end], &mut right_atoms);
-    let Side::Atoms(right_count) = right_side else {
+    let TakenApart::Atoms(right_count) = right_side else {
         return ReadAnswer::Refused(Refusal::Term);
     };
     if !all_zero(&block[right_end..510]) {

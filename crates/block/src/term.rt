@@ -3,10 +3,10 @@ ghost use Prim.Native.Nat.{ℕ, _+_, _*_, _<_};
 ghost use mathlib.Core.List.{List, _∷_};
 ghost use lib.ListN.{length};
 ghost use Rattle.block.specs.Front.{MayBeWritten};
-ghost use Rattle.block.specs.Inner.{Classified, Flattens, TakesApart};
+ghost use Rattle.block.specs.Inner.{Classified, Flattens, TakesTermApart};
 
 // What a byte stands for where a term begins.
-pub enum Kind {
+pub enum ByteKind {
     Variable,
     Constant,
     Plus,
@@ -14,14 +14,14 @@ pub enum Kind {
 }
 
 // Decides by the byte's range: variable, constant, plus, or no term.
-pub fn classify(byte: u8) -> Kind
+pub fn classify(byte: u8) -> ByteKind
     ensures { λ r. ⌜ Classified byte r ⌝ }
 {
     match byte {
-        0..=63 => Kind::Variable,
-        64..=127 => Kind::Constant,
-        128 => Kind::Plus,
-        _ => Kind::Refused,
+        0..=63 => ByteKind::Variable,
+        64..=127 => ByteKind::Constant,
+        128 => ByteKind::Plus,
+        _ => ByteKind::Refused,
     }
 }
 
@@ -44,9 +44,9 @@ pub fn flatten(bytes: &[u8], buffer: &mut [u8]) -> Flattened
     let byte = bytes[0];
     let kind = classify(byte);
     match kind {
-        Kind::Variable | Kind::Constant => flatten_atom(byte, buffer),
-        Kind::Plus => flatten_two(&bytes[1..], buffer),
-        Kind::Refused => Flattened::Nothing,
+        ByteKind::Variable | ByteKind::Constant => flatten_atom(byte, buffer),
+        ByteKind::Plus => flatten_two(&bytes[1..], buffer),
+        ByteKind::Refused => Flattened::Nothing,
     }
 }
 
@@ -88,22 +88,22 @@ fn flatten_two(bytes: &[u8], buffer: &mut [u8]) -> Flattened
 }
 
 // What a term's bytes are: a whole term, by how many atoms it has, or no term.
-pub enum Side {
+pub enum TakenApart {
     Atoms(usize),
     NoTerm,
 }
 
 // Takes apart the term that the bytes are: it must use all of them.
-pub fn take_apart(bytes: &[u8], buffer: &mut [u8]) -> Side
+pub fn take_apart(bytes: &[u8], buffer: &mut [u8]) -> TakenApart
     requires { ⌜ length (now bytes) < 2 * length (now buffer) ⌝ }
-    ensures { λ r. ⌜ TakesApart (now (bytes .entry)) (now (buffer .entry)) r (now (buffer .exit)) ⌝ }
+    ensures { λ r. ⌜ TakesTermApart (now (bytes .entry)) (now (buffer .entry)) r (now (buffer .exit)) ⌝ }
 {
     let flattened = flatten(bytes, buffer);
     let Flattened::Found { bytes: used, atoms } = flattened else {
-        return Side::NoTerm;
+        return TakenApart::NoTerm;
     };
     if used < bytes.len() {
-        return Side::NoTerm;
+        return TakenApart::NoTerm;
     }
-    Side::Atoms(atoms)
+    TakenApart::Atoms(atoms)
 }

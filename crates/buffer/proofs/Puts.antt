@@ -62,3 +62,9 @@ pub put-received : {out after bytes : List ℕ} {next : ℕ} → Put out 0 bytes
 put-received {out} {after} {bytes} put room =
     put .stored ∙ sets-eq bytes out 0 (omega (arith, put .place))
     ∙ ap (λ n. bytes ++ drop n out) (let e : 0 + length bytes ≡ length bytes = omega arith in e)
+
+-- what is put in the middle of a buffer stands between what stays before it and after it
+pub put-pasted : {out after bytes : List ℕ} {at next : ℕ} → Put out at bytes next after
+    → at + length bytes ≤ length out
+    → after ≡ take at out ++ bytes ++ drop (at + length bytes) out
+put-pasted {out} {after} {bytes} {at} put room = put .stored ∙ sets-eq bytes out at room

@@ -7,9 +7,9 @@ use lib.ListN.{length, take, drop, length-append}
 use lib.Seq.{take-append-seam}
 use Rattle.ac.specs.Pair.{Mode}
 use Rattle.ac.specs.Rows.{Groups}
-use Rattle.values.specs.Given.{LongValue}
-use Rattle.values.specs.Values.{ValuesOutcome, refused, written, valuesOf}
-use Rattle.values.specs.Steps.{Writes, too-long, fits}
+use Rattle.solver.specs.ValuesGiven.{LongValue}
+use Rattle.solver.specs.Values.{ValuesOutcome, refused, written, valuesOf}
+use Rattle.solver.specs.ValuesSteps.{Writes, too-long, fits}
 
 -- of a listed key only 17 is refused, and then nothing is written
 pub refused-is-long : {M : Mode} {L R : List ℕ} {G : Groups} {key n : ℕ} {out after : List ℕ} {o : ValuesOutcome} →

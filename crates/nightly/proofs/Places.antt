@@ -2,10 +2,10 @@
 use Prim.Native.Nat.{ℕ, _+_, _≤_}
 use mathlib.Core.Path.{_≡_, subst}
 use mathlib.Core.Bool.{Bool}
-use Rattle.table.specs.Table.{Within}
+use Rattle.table.specs.Table.{InRoom}
 use Rattle.table.specs.declared.Table.{Table}
-use Rattle.solver.specs.declared.PageAnswer.{PageAnswer}
-use Rattle.solver.specs.declared.PageAnswer.the-variants.{Page}
+use Rattle.solver.specs.declared.page.PageAnswer.{PageAnswer}
+use Rattle.solver.specs.declared.page.PageAnswer.the-variants.{Page}
 use Rattle.nightly.specs.Printed.{HasRoom, Inside, PageReady}
 use Rattle.nightly.specs.declared.print.Place.{Place}
 use Rattle.nightly.specs.declared.print.Place.the-variants.{At}
@@ -19,5 +19,5 @@ module _ {size at : ℕ} {p : Place} (e : p ≡ At at) where
 
 -- a page is ready: it has no more keys than there are, and its table's numbers are within its room
 pub ready-page : {p : PageAnswer} {table : Table} {size written : ℕ} {more : Bool} → p ≡ Page written more
-    → PageReady p table size → (written ≤ size) × Within table
+    → PageReady p table size → (written ≤ size) × InRoom table
 ready-page {table = table} {size = size} e h = subst (λ q. PageReady q table size) e h

@@ -15,9 +15,9 @@ use Rattle.solver.specs.Request.{wantedCount}
 use Rattle.solver.specs.Page.{PagePromise, is-page}
 use Rattle.solver.specs.Page as outcome
 use Rattle.solver.specs.Page.{told as toldPage}
-use Rattle.solver.specs.declared.PageAnswer.{PageAnswer}
-use Rattle.solver.specs.declared.PageAnswer.the-variants.{Page}
-use Rattle.solver.specs.declared.PageAnswer.the-variants as page
+use Rattle.solver.specs.declared.page.PageAnswer.{PageAnswer}
+use Rattle.solver.specs.declared.page.PageAnswer.the-variants.{Page}
+use Rattle.solver.specs.declared.page.PageAnswer.the-variants as page
 use Rattle.nightly.specs.Asked.{leftLength, rightLength, PairAsked, BlockAsked}
 use Rattle.nightly.specs.Printed.{PageReady}
 use Rattle.nightly.specs.declared.ask.Asked.{Asked}

@@ -12,11 +12,11 @@ use Rattle.block.specs.Read.{told as toldRead}
 use Rattle.block.specs.declared.ReadAnswer.{ReadAnswer}
 use Rattle.block.specs.declared.ReadAnswer.the-variants.{Sides}
 use Rattle.block.specs.declared.ReadAnswer.the-variants as read
-use Rattle.solve.specs.Rows.{RowsPromise}
-use Rattle.solve.specs.Rows.{told as toldRows}
+use Rattle.solver.specs.Rows.{RowsPromise}
+use Rattle.solver.specs.Rows.{told as toldRows}
 use Rattle.solver.specs.Page.{PagePromise}
 use Rattle.solver.specs.Page.{told as toldPage}
-use Rattle.solver.specs.declared.PageAnswer.the-variants.{Page}
+use Rattle.solver.specs.declared.page.PageAnswer.the-variants.{Page}
 use Rattle.table.specs.Table.{TableOf}
 use Rattle.tally.specs.Line.{told, lineOf}
 use Rattle.tally.specs.Counts.{counted}

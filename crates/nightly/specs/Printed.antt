@@ -8,11 +8,11 @@ use Rattle.ac.specs.Selection.{value}
 use Rattle.ac.specs.Keys.{layout, keys, selectionAt}
 use Rattle.ac.specs.Values.{Binding, bindings}
 use Rattle.buffer.specs.Put.{Put}
-use Rattle.table.specs.Table.{Within, TableOf, groupsIn}
+use Rattle.table.specs.Table.{InRoom, TableOf, groupsIn}
 use Rattle.table.specs.declared.Table.{Table}
-use Rattle.solver.specs.declared.PageAnswer.{PageAnswer}
-use Rattle.solver.specs.declared.PageAnswer.the-variants.{Page, Refused}
-use Rattle.values.specs.Given.{LongValue}
+use Rattle.solver.specs.declared.page.PageAnswer.{PageAnswer}
+use Rattle.solver.specs.declared.page.PageAnswer.the-variants.{Page, Refused}
+use Rattle.solver.specs.ValuesGiven.{LongValue}
 use Rattle.lines.specs.Lines.{substitutionLine}
 use Rattle.nightly.specs.declared.print.Place.{Place}
 use Rattle.nightly.specs.declared.print.Place.the-variants.{At, Closed}
@@ -29,7 +29,7 @@ Inside size Closed = Unit {0}
 
 -- a page of no more keys than there are, of a table whose numbers are within its room; or none
 abbrev pub PageReady : PageAnswer → Table → ℕ → Type 0
-PageReady (Page written more) table keys = (written ≤ keys) × Within table
+PageReady (Page written more) table keys = (written ≤ keys) × InRoom table
 PageReady (Refused refusal) table keys = Unit {0}
 
 -- the variables with the values that a key gives them, of the pair that the table is of

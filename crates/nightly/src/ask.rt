@@ -1,10 +1,10 @@
 // The questions asked of a block: Read, and of the sides that it gives Rows and Page. The pair is solved once.
 use block::ReadAnswer;
-use sides::Verdict;
-use solve::RowsAnswer;
-use solver::Begin;
-use solver::PageAnswer;
-use solver::PageRequest;
+use numbers::Verdict;
+use solver::page::Begin;
+use solver::page::PageAnswer;
+use solver::page::PageRequest;
+use solver::rows::RowsAnswer;
 use table::Table;
 ghost use mathlib.Core.Path.{_≡_};
 ghost use Prim.Native.Nat.{_≤_};
@@ -61,7 +61,7 @@ fn ask_sides(read: ReadAnswer, left: &[u8], right: &[u8], keys: &mut [u32]) -> A
     requires { ⌜ 200 ≤ length (now keys) ⌝ }
     ensures { λ r. ⌜ PairAsked read (now (left .entry)) (now (right .entry)) (now (keys .entry)) r (now (keys .exit)) ⌝ }
 {
-    let solved = solve::solve(left, right);
+    let solved = table::solve(left, right);
     let verdict = solved.verdict;
     let table = solved.table;
     match verdict {
@@ -73,12 +73,12 @@ fn ask_sides(read: ReadAnswer, left: &[u8], right: &[u8], keys: &mut [u32]) -> A
         },
         Verdict::Accepted => {
             let mut bytes = [0u8; 480];
-            let rows = solve::rows_of(table, &mut bytes);
+            let rows = solver::rows::rows_of(table, &mut bytes);
             let request = PageRequest {
                 begin: Begin::Start,
                 wanted: PAGE,
             };
-            let page = solver::page_of(table, request, keys);
+            let page = solver::page::page_of(table, request, keys);
             Asked {
                 read,
                 rows,

@@ -4,16 +4,16 @@ use lines::put_block_line;
 use lines::put_closing;
 use lines::put_end_line;
 use lines::put_substitution_line;
-use solver::PageAnswer;
+use solver::page::PageAnswer;
+use solver::values::ValuesAnswer;
 use table::Table;
 use tally::Closing;
 use tally::Line;
 use tally::Tallied;
-use values::ValuesAnswer;
 ghost use mathlib.Core.Path.{_≡_};
 ghost use Prim.Native.Nat.{_+_, _≤_, min};
 ghost use lib.ListN.{length};
-ghost use Rattle.table.specs.Table.{Within};
+ghost use Rattle.table.specs.Table.{InRoom};
 ghost use Rattle.nightly.specs.Printed.{HasRoom, Inside, PageReady, KeyPut};
 
 // More than a line takes.
@@ -49,13 +49,13 @@ fn make_room(output: &[u8], at: usize) -> Place
 
 // The line of a key, from its values. Of a solved pair no value is too long to be written.
 fn put_key(table: Table, key: u32, output: &mut [u8], at: usize) -> usize
-    requires { ⌜ Within table ⌝ }
+    requires { ⌜ InRoom table ⌝ }
     requires { ⌜ at + 8192 ≤ length (now output) ⌝ }
     ensures { λ r. ⌜ r ≤ at + 8192 ⌝ }
     ensures { λ r. ⌜ KeyPut table key (now (output .entry)) at r (now (output .exit)) ⌝ }
 {
     let mut bytes = [0u8; 1212];
-    let answer = values::write(table, key, &mut bytes);
+    let answer = solver::values::write(table, key, &mut bytes);
     let ValuesAnswer::Values { length } = answer else {
         return at;
     };
@@ -72,7 +72,7 @@ fn least(a: usize, b: usize) -> usize
 
 // The lines of the keys, one after the other.
 fn print_keys(table: Table, keys: &[u32], output: &mut [u8], at: usize) -> Place
-    requires { ⌜ Within table ⌝ }
+    requires { ⌜ InRoom table ⌝ }
     requires { ⌜ at ≤ length (now output) ⌝ }
     requires { ⌜ 8192 ≤ length (now output) ⌝ }
     ensures { λ r. ⌜ Inside (length (now (output .entry))) r ⌝ }

@@ -1,13 +1,13 @@
 -- The answer to a question's list of numbers, carried from one table to another and past numbers that are not
 -- given.
-use Prim.Native.Nat.{ℕ, _≤_}
+use Prim.Native.Nat.{ℕ}
 use native.Mathlib.Omega.{arith}
 use mathlib.Core.Path.{_≡_, refl, subst}
 use mathlib.Core.Bool.{Bool, true, false, not, _&&_}
 use mathlib.Core.Logic.{_↔_}
 use mathlib.Core.List.{List, [], _∷_, _++_, List·Memᴰ, List·Memᴰ·head, List·Memᴰ·tail, List·Memᴰ·not-nil}
-use borrow.Author.Tests.{leb-true, eqb-false, not-true}
-use lib.Dec.{leb, eqb}
+use borrow.Author.Tests.{eqb-true, eqb-false, not-true}
+use lib.Dec.{eqb}
 use Rattle.numbers.specs.First.{First, NoneOf, here, later, end, also}
 
 -- where two truth values are true together, each is
@@ -15,25 +15,45 @@ pub and-true : (a b : Bool) → (a && b) ≡ true → (a ≡ true) × (b ≡ tru
 and-true true b e = (refl, e)
 and-true false b e = absurd (let z : _≡_ {A = ℕ} 0 1 = cc e in omega arith)
 
--- the numbers of a list lie between two, by a test that computes
-abbrev pub inside : ℕ → ℕ → List ℕ → Bool
-inside low high [] = true
-inside low high (n ∷ ns) = leb low n && (leb n high && inside low high ns)
+-- a number is none of the list's, by a test that computes
+abbrev pub elsewhere : ℕ → List ℕ → Bool
+elsewhere n [] = true
+elsewhere n (m ∷ ms) = not (eqb n m) && elsewhere n ms
 
--- so each of its numbers lies between them
-pub numbers-between : (low high : ℕ) (ns : List ℕ) → inside low high ns ≡ true → {m : ℕ} → List·Memᴰ m ns
-    → (low ≤ m) × (m ≤ high)
-numbers-between low high [] e mem = absurd (List·Memᴰ·not-nil mem)
-numbers-between low high (n ∷ ns) e (List·Memᴰ·head same) =
-    let first = and-true (leb low n) (leb n high && inside low high ns) e in
-    omega (
-      arith,
-      leb-true low n (first .0),
-      leb-true n high (and-true (leb n high) (inside low high ns) (first .1) .0),
-    )
-numbers-between low high (n ∷ ns) e (List·Memᴰ·tail mem) =
-    let first = and-true (leb low n) (leb n high && inside low high ns) e in
-    numbers-between low high ns (and-true (leb n high) (inside low high ns) (first .1) .1) mem
+-- so it is no member
+pub not-elsewhere : {n : ℕ} (ms : List ℕ) → elsewhere n ms ≡ true → List·Memᴰ n ms → ⊥
+not-elsewhere [] e mem = List·Memᴰ·not-nil mem
+not-elsewhere {n} (m ∷ ms) e (List·Memᴰ·head same) =
+    eqb-false n m (not-true (eqb n m) (and-true (not (eqb n m)) (elsewhere n ms) e .0)) same
+not-elsewhere {n} (m ∷ ms) e (List·Memᴰ·tail mem) =
+    not-elsewhere ms (and-true (not (eqb n m)) (elsewhere n ms) e .1) mem
+
+-- a number that is not elsewhere is a member
+pub its-member : {n : ℕ} (ms : List ℕ) → elsewhere n ms ≡ false → List·Memᴰ n ms
+its-member [] e = absurd (let z : _≡_ {A = ℕ} 0 1 = cc e in omega arith)
+its-member {n} (m ∷ ms) e = go (eqb n m) refl (its-member ms)
+  where
+    go : (b : Bool) → eqb n m ≡ b → (elsewhere n ms ≡ false → List·Memᴰ n ms) → List·Memᴰ n (m ∷ ms)
+    go true same rest = List·Memᴰ·head (eqb-true n m same)
+    go false other rest = List·Memᴰ·tail (rest (rw other at e))
+
+-- a member of a list's front is one of the list
+pub within-front : {ms : List ℕ} (ns : List ℕ) (n : ℕ) → List·Memᴰ n ms → List·Memᴰ n (ms ++ ns)
+within-front ns n (List·Memᴰ·head same) = List·Memᴰ·head same
+within-front ns n (List·Memᴰ·tail mem) = List·Memᴰ·tail (within-front ns n mem)
+
+-- two lists share no number, by a test that computes
+abbrev pub disjoint : List ℕ → List ℕ → Bool
+disjoint [] ns = true
+disjoint (m ∷ ms) ns = elsewhere m ns && disjoint ms ns
+
+-- so no number is a member of both
+pub not-both : (ms ns : List ℕ) → disjoint ms ns ≡ true → {n : ℕ} → List·Memᴰ n ms → List·Memᴰ n ns → ⊥
+not-both [] ns e mem mem′ = List·Memᴰ·not-nil mem
+not-both (m ∷ ms) ns e {n} (List·Memᴰ·head same) mem′ =
+    not-elsewhere ns (and-true (elsewhere m ns) (disjoint ms ns) e .0) (subst (λ k. List·Memᴰ k ns) same mem′)
+not-both (m ∷ ms) ns e (List·Memᴰ·tail mem) mem′ =
+    not-both ms ns (and-true (elsewhere m ns) (disjoint ms ns) e .1) mem mem′
 
 module _ {Given Other : ℕ → Type 0} where
   -- where two tables agree on a list's numbers, its first number is the same
@@ -85,11 +105,6 @@ none-given (also skip none) (List·Memᴰ·tail mem) given = none-given none mem
 pub none-of : {Given : ℕ → Type 0} → ((n : ℕ) → Given n → ⊥) → (ns : List ℕ) → NoneOf Given ns
 none-of never [] = end
 none-of never (n ∷ ns) = also (never n) (none-of never ns)
-
--- a number is none of the list's, by a test that computes
-abbrev pub elsewhere : ℕ → List ℕ → Bool
-elsewhere n [] = true
-elsewhere n (m ∷ ms) = not (eqb n m) && elsewhere n ms
 
 -- where the first number is none of a list's front, none of the front is given
 pub first-past : {Given : ℕ → Type 0} (ms ns : List ℕ) {n : ℕ} → elsewhere n ms ≡ true

@@ -1,10 +1,11 @@
 -- Laws of document 01's table: a number names one refusal, and a question's list gives at most one number,
 -- one of its own.
-use mathlib.Core.Path.{_≡_, refl, ap, sym, _∙_}
+use mathlib.Core.Path.{_≡_, refl}
 use mathlib.Core.List.{List, [], _∷_, List·Memᴰ, List·Memᴰ·head, List·Memᴰ·tail}
 use Prim.Native.Nat.{ℕ}
 use lib.ListN.{getD}
-use Rattle.numbers.specs.Numbers.{numberOf}
+use Rattle.numbers.specs.Numbers.{saidOf}
+use Rattle.numbers.specs.Outcome.{Said}
 use Rattle.numbers.specs.declared.Refusal.{Refusal}
 use Rattle.numbers.specs.declared.Refusal.the-variants.{BlockLength, Check, BlockNumber, TermLength, Term, Filler, SideLength, NoAtom, Variables, NetCount, Constants, Rows, NoUnifier, NotListed, LastKey, ShortBuffer, LongValue}
 use Rattle.numbers.specs.First.{First, NoneOf, here, later, also}
@@ -32,34 +33,30 @@ rows =
     ∷ LongValue
     ∷ []
 
--- the refusal that stands in a row
-refusalOf : ℕ → Refusal
-refusalOf n = getD rows n BlockLength
+-- the refusal that says this: the one in the row of its number
+pub refusalOf : Said → Refusal
+refusalOf said = getD rows (said .number) BlockLength
 
--- each refusal stands in the row of its number
-refusalOf-numberOf : (r : Refusal) → refusalOf (numberOf r) ≡ r
+-- each refusal is told by what it says
+pub refusalOf-saidOf : (r : Refusal) → refusalOf (saidOf r) ≡ r
 unfolding rows refusalOf
-refusalOf-numberOf BlockLength = refl
-refusalOf-numberOf Check = refl
-refusalOf-numberOf BlockNumber = refl
-refusalOf-numberOf TermLength = refl
-refusalOf-numberOf Term = refl
-refusalOf-numberOf Filler = refl
-refusalOf-numberOf SideLength = refl
-refusalOf-numberOf NoAtom = refl
-refusalOf-numberOf Variables = refl
-refusalOf-numberOf NetCount = refl
-refusalOf-numberOf Constants = refl
-refusalOf-numberOf Rows = refl
-refusalOf-numberOf NoUnifier = refl
-refusalOf-numberOf NotListed = refl
-refusalOf-numberOf LastKey = refl
-refusalOf-numberOf ShortBuffer = refl
-refusalOf-numberOf LongValue = refl
-
--- a number names one refusal
-pub numberOf-one-to-one : (r s : Refusal) → numberOf r ≡ numberOf s → r ≡ s
-numberOf-one-to-one r s e = sym (refusalOf-numberOf r) ∙ ap refusalOf e ∙ refusalOf-numberOf s
+refusalOf-saidOf BlockLength = refl
+refusalOf-saidOf Check = refl
+refusalOf-saidOf BlockNumber = refl
+refusalOf-saidOf TermLength = refl
+refusalOf-saidOf Term = refl
+refusalOf-saidOf Filler = refl
+refusalOf-saidOf SideLength = refl
+refusalOf-saidOf NoAtom = refl
+refusalOf-saidOf Variables = refl
+refusalOf-saidOf NetCount = refl
+refusalOf-saidOf Constants = refl
+refusalOf-saidOf Rows = refl
+refusalOf-saidOf NoUnifier = refl
+refusalOf-saidOf NotListed = refl
+refusalOf-saidOf LastKey = refl
+refusalOf-saidOf ShortBuffer = refl
+refusalOf-saidOf LongValue = refl
 
 module _ {Given : ℕ → Type 0} where
   -- two first numbers of one list are the same

@@ -1,3 +1,5 @@
 pub mod Laws
 pub mod Carried
 pub mod Parts
+pub mod Promises
+pub mod Verdicts

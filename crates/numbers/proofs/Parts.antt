@@ -1,46 +1,55 @@
--- The table of a question on two sides, by what its rows speak of: 7 to 12 of the sides, 13 to 15 of the
--- list, 16 of a lent buffer and 17 of the values. "Order: 16 first, then by number."
+-- The table of a question on two sides, by what its rows speak of: the numbers that the sides decide, those
+-- that the list decides, 16 of a lent buffer and 17 of the values. "Order: 16 first, then by number."
 use Prim.Native.Nat.{ℕ, _<_, _≤_}
 use native.Mathlib.Omega.{arith}
 use mathlib.Core.Path.{_≡_, refl}
 use mathlib.Core.Bool.{true}
 use mathlib.Core.Logic.{_↔_}
-use mathlib.Core.List.{List, _∷_, _++_, List·Memᴰ}
+use mathlib.Core.List.{List, [], _∷_, _++_, List·Memᴰ, List·Memᴰ·head}
 use Rattle.numbers.specs.First.{First, NoneOf, here, later, also}
-use Rattle.numbers.proofs.Carried.{inside, numbers-between, first-carried, none-carried, first-before, first-after, none-after}
+use Rattle.numbers.specs.Numbers.{saidOf}
+use Rattle.numbers.specs.Order.{sidesNumbers, beginningNumbers, lengthNumbers}
+use Rattle.numbers.specs.Outcome.{refused, Promise}
+use Rattle.numbers.specs.Verdict.{Decides}
+use Rattle.numbers.specs.declared.Refusal.{Refusal}
+use Rattle.numbers.specs.declared.Refusal.the-variants.{ShortBuffer}
+use Rattle.numbers.specs.declared.Verdict.{Verdict}
+use Rattle.numbers.specs.declared.Verdict.the-variants.{Refused}
+use Rattle.numbers.proofs.Promises.{refuse}
+use Rattle.numbers.proofs.Carried.{not-both, first-carried, none-carried, first-before, first-after, none-after}
 
 -- what a row speaks of, where a lent buffer has a size and has to have room
 pub data Row (OfSides OfList : ℕ → Type 0) (size room : ℕ) (Long : Type 0) : ℕ → Type 0 where
-  sides-row : {n : ℕ} → (7 ≤ n) × (n ≤ 12) → OfSides n → Row OfSides OfList size room Long n
-  list-row : {n : ℕ} → (13 ≤ n) × (n ≤ 15) → OfList n → Row OfSides OfList size room Long n
+  sides-row : {n : ℕ} → List·Memᴰ n sidesNumbers → OfSides n → Row OfSides OfList size room Long n
+  list-row : {n : ℕ} → List·Memᴰ n beginningNumbers → OfList n → Row OfSides OfList size room Long n
   buffer-row : size < room → Row OfSides OfList size room Long 16
   values-row : Long → Row OfSides OfList size room Long 17
 
 module _ {OfSides OfList : ℕ → Type 0} {size room : ℕ} {Long : Type 0} where
   -- its number tells
-  row-of-sides : {n : ℕ} → n ≤ 12 → Row OfSides OfList size room Long n → OfSides n
-  row-of-sides h (sides-row between given) = given
-  row-of-sides h (list-row between given) = absurd (omega arith)
-  row-of-sides h (buffer-row short) = absurd (omega arith)
-  row-of-sides h (values-row long) = absurd (omega arith)
+  row-of-sides : {n : ℕ} → List·Memᴰ n sidesNumbers → Row OfSides OfList size room Long n → OfSides n
+  row-of-sides m (sides-row its given) = given
+  row-of-sides m (list-row its given) = absurd (not-both sidesNumbers beginningNumbers refl m its)
+  row-of-sides m (buffer-row short) = absurd (not-both sidesNumbers (16 ∷ []) refl m (List·Memᴰ·head refl))
+  row-of-sides m (values-row long) = absurd (not-both sidesNumbers lengthNumbers refl m (List·Memᴰ·head refl))
 
-  row-of-list : {n : ℕ} → (13 ≤ n) × (n ≤ 15) → Row OfSides OfList size room Long n → OfList n
-  row-of-list h (sides-row between given) = absurd (omega arith)
-  row-of-list h (list-row between given) = given
-  row-of-list h (buffer-row short) = absurd (omega arith)
-  row-of-list h (values-row long) = absurd (omega arith)
+  row-of-list : {n : ℕ} → List·Memᴰ n beginningNumbers → Row OfSides OfList size room Long n → OfList n
+  row-of-list m (sides-row its given) = absurd (not-both sidesNumbers beginningNumbers refl its m)
+  row-of-list m (list-row its given) = given
+  row-of-list m (buffer-row short) = absurd (not-both beginningNumbers (16 ∷ []) refl m (List·Memᴰ·head refl))
+  row-of-list m (values-row long) = absurd (not-both beginningNumbers lengthNumbers refl m (List·Memᴰ·head refl))
 
-  row-of-buffer : {n : ℕ} → n ≡ 16 → Row OfSides OfList size room Long n → size < room
-  row-of-buffer e (sides-row between given) = absurd (omega arith)
-  row-of-buffer e (list-row between given) = absurd (omega arith)
-  row-of-buffer e (buffer-row short) = short
-  row-of-buffer e (values-row long) = absurd (omega arith)
+  row-of-buffer : {n : ℕ} → List·Memᴰ n (16 ∷ []) → Row OfSides OfList size room Long n → size < room
+  row-of-buffer m (sides-row its given) = absurd (not-both sidesNumbers (16 ∷ []) refl its m)
+  row-of-buffer m (list-row its given) = absurd (not-both beginningNumbers (16 ∷ []) refl its m)
+  row-of-buffer m (buffer-row short) = short
+  row-of-buffer m (values-row long) = absurd (not-both (16 ∷ []) lengthNumbers refl m (List·Memᴰ·head refl))
 
-  row-of-values : {n : ℕ} → n ≡ 17 → Row OfSides OfList size room Long n → Long
-  row-of-values e (sides-row between given) = absurd (omega arith)
-  row-of-values e (list-row between given) = absurd (omega arith)
-  row-of-values e (buffer-row short) = absurd (omega arith)
-  row-of-values e (values-row long) = long
+  row-of-values : {n : ℕ} → List·Memᴰ n lengthNumbers → Row OfSides OfList size room Long n → Long
+  row-of-values m (sides-row its given) = absurd (not-both sidesNumbers lengthNumbers refl its m)
+  row-of-values m (list-row its given) = absurd (not-both beginningNumbers lengthNumbers refl its m)
+  row-of-values m (buffer-row short) = absurd (not-both (16 ∷ []) lengthNumbers refl (List·Memᴰ·head refl) m)
+  row-of-values m (values-row long) = long
 
 -- the table gives what the sides, the list and a short buffer give, and beside that 17 alone
 pub record MadeOf (Given OfSides OfList : ℕ → Type 0) (size room : ℕ) (Long : Type 0) : Type 0 where
@@ -51,11 +60,11 @@ pub record MadeOf (Given OfSides OfList : ℕ → Type 0) (size room : ℕ) (Lon
 
 module _ {Given OfSides OfList : ℕ → Type 0} {size room : ℕ} {Long : Type 0}
     (made : MadeOf Given OfSides OfList size room Long) where
-  pub given-list : {n : ℕ} → (13 ≤ n) × (n ≤ 15) → Given n → OfList n
-  given-list between given = row-of-list between (made .row-of given)
+  pub given-list : {n : ℕ} → List·Memᴰ n beginningNumbers → Given n → OfList n
+  given-list m given = row-of-list m (made .row-of given)
 
-  pub given-17 : Given 17 → Long
-  given-17 given = row-of-values refl (made .row-of given)
+  pub given-length : Given 17 → Long
+  given-length given = row-of-values (List·Memᴰ·head refl) (made .row-of given)
 
   -- a buffer that is too short is refused first
   pub first-short : {ns : List ℕ} → size < room → First Given (16 ∷ ns) 16
@@ -63,45 +72,54 @@ module _ {Given OfSides OfList : ℕ → Type 0} {size room : ℕ} {Long : Type 
 
   module _ (enough : room ≤ size) where
     not-16 : Given 16 → ⊥
-    not-16 given = omega (arith, row-of-buffer refl (made .row-of given))
+    not-16 given = omega (arith, row-of-buffer (List·Memᴰ·head refl) (made .row-of given))
 
     -- the sides' numbers are given where the sides give them, the list's where the list does
-    sides-agree : (sides : List ℕ) → inside 7 12 sides ≡ true → (n : ℕ) → List·Memᴰ n sides → OfSides n ↔ Given n
-    sides-agree sides these n m =
-        (made .of-sides, λ given. row-of-sides (numbers-between 7 12 sides these m .1) (made .row-of given))
+    sides-agree : (n : ℕ) → List·Memᴰ n sidesNumbers → OfSides n ↔ Given n
+    sides-agree n m = (made .of-sides, λ given. row-of-sides m (made .row-of given))
 
-    list-agrees : (list : List ℕ) → inside 13 15 list ≡ true → (n : ℕ) → List·Memᴰ n list → OfList n ↔ Given n
-    list-agrees list these n m = (made .of-list, given-list (numbers-between 13 15 list these m))
+    list-agrees : {list : List ℕ} → ((n : ℕ) → List·Memᴰ n list → List·Memᴰ n beginningNumbers)
+        → (n : ℕ) → List·Memᴰ n list → OfList n ↔ Given n
+    list-agrees its n m = (made .of-list, given-list (its n m))
 
     -- then the first number of the sides
-    pub first-of-sides : {sides : List ℕ} {n : ℕ} → inside 7 12 sides ≡ true → (others : List ℕ)
-        → First OfSides sides n
-        → First Given (16 ∷ (sides ++ others)) n
-    first-of-sides {sides} these others first =
-        later not-16 (first-before others (first-carried (sides-agree sides these) first))
+    pub first-of-sides : {n : ℕ} (others : List ℕ) → First OfSides sidesNumbers n
+        → First Given (16 ∷ (sidesNumbers ++ others)) n
+    first-of-sides others first = later not-16 (first-before others (first-carried sides-agree first))
 
-    pub none-of-sides : {sides : List ℕ} → inside 7 12 sides ≡ true → NoneOf OfSides sides
-        → NoneOf Given (16 ∷ sides)
-    none-of-sides {sides} these none = also not-16 (none-carried (λ n m. sides-agree sides these n m .1) none)
+    pub none-of-sides : NoneOf OfSides sidesNumbers → NoneOf Given (16 ∷ sidesNumbers)
+    none-of-sides none = also not-16 (none-carried (λ n m. sides-agree n m .1) none)
 
-    module _ {sides : List ℕ} (these : inside 7 12 sides ≡ true) (none : NoneOf OfSides sides) where
+    module _ (none : NoneOf OfSides sidesNumbers) {list : List ℕ}
+        (its : (n : ℕ) → List·Memᴰ n list → List·Memᴰ n beginningNumbers) (others : List ℕ) where
       -- then the first of the list
-      pub first-of-list : {list : List ℕ} {n : ℕ} → inside 13 15 list ≡ true → (others : List ℕ)
-          → First OfList list n
-          → First Given (16 ∷ (sides ++ (list ++ others))) n
-      first-of-list {list} those others first =
-          first-after (none-of-sides these none)
-          (first-before others (first-carried (list-agrees list those) first))
+      pub first-of-list : {n : ℕ} → First OfList list n → First Given (16 ∷ (sidesNumbers ++ (list ++ others))) n
+      first-of-list first =
+          first-after (none-of-sides none) (first-before others (first-carried (list-agrees its) first))
 
-      none-of-list : {list : List ℕ} → inside 13 15 list ≡ true → NoneOf OfList list → NoneOf Given list
-      none-of-list {list} those nothing = none-carried (λ n m. list-agrees list those n m .1) nothing
+      none-of-list : NoneOf OfList list → NoneOf Given list
+      none-of-list nothing = none-carried (λ n m. list-agrees its n m .1) nothing
 
       -- and then what is left
-      module _ {list others : List ℕ} (those : inside 13 15 list ≡ true) (nothing : NoneOf OfList list) where
-        pub first-of-others : {n : ℕ} → First Given others n → First Given (16 ∷ (sides ++ (list ++ others))) n
-        first-of-others first =
-            first-after (none-of-sides these none) (first-after (none-of-list those nothing) first)
+      module _ (nothing : NoneOf OfList list) where
+        pub first-of-others : {n : ℕ} → First Given others n
+            → First Given (16 ∷ (sidesNumbers ++ (list ++ others))) n
+        first-of-others first = first-after (none-of-sides none) (first-after (none-of-list nothing) first)
 
-        pub none-at-all : NoneOf Given others → NoneOf Given (16 ∷ (sides ++ (list ++ others)))
-        none-at-all none-left =
-            none-after (none-of-sides these none) (none-after (none-of-list those nothing) none-left)
+        pub none-at-all : NoneOf Given others → NoneOf Given (16 ∷ (sidesNumbers ++ (list ++ others)))
+        none-at-all none-left = none-after (none-of-sides none) (none-after (none-of-list nothing) none-left)
+
+-- What a question on two sides promises where it is refused, step by step: 16, then what a verdict on the
+-- sides refuses, then the list's numbers.
+module _ {Given OfSides OfList : ℕ → Type 0} {size room : ℕ} {Long : Type 0}
+    (made : MadeOf Given OfSides OfList size room Long) {Values Buffers : Type 0}
+    {Gives : Values → Buffers → Type 0} {entry : Buffers} where
+  pub short-promised : {ns : List ℕ} → size < room
+      → Promise Given (16 ∷ ns) Gives entry (refused (saidOf ShortBuffer)) entry
+  short-promised short = refuse (first-short made short)
+
+  module _ (enough : room ≤ size) {So : Type 0} {verdict : Verdict}
+      (decided : Decides OfSides sidesNumbers So verdict) where
+    pub verdict-promised : (others : List ℕ) {why : Refusal} → verdict ≡ Refused why
+        → Promise Given (16 ∷ (sidesNumbers ++ others)) Gives entry (refused (saidOf why)) entry
+    verdict-promised others e = refuse (first-of-sides made enough others (decided .refused _ e .first))

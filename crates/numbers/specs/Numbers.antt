@@ -1,5 +1,6 @@
 -- Document 01, "Numbers given in place of a result": the number of each refusal.
 use Prim.Native.Nat.{ℕ}
+use Rattle.numbers.specs.Outcome.{Said}
 use Rattle.numbers.specs.declared.Refusal.{Refusal}
 use Rattle.numbers.specs.declared.Refusal.the-variants.{BlockLength, Check, BlockNumber, TermLength, Term, Filler, SideLength, NoAtom, Variables, NetCount, Constants, Rows, NoUnifier, NotListed, LastKey, ShortBuffer, LongValue}
 
@@ -22,3 +23,7 @@ numberOf NotListed = 14
 numberOf LastKey = 15
 numberOf ShortBuffer = 16
 numberOf LongValue = 17
+
+-- what a refusal says
+abbrev pub saidOf : Refusal → Said
+saidOf refusal = record { number = numberOf refusal }

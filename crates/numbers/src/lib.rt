@@ -1,4 +1,7 @@
-// The numbers that are given in place of a result (document 01's table), as one enum for every question.
+// The numbers that are given in place of a result (document 01's table), as one enum for every question, and
+// the verdict that a step of a question comes to.
+pub mod limits;
+
 ghost use mathlib.Core.Path.{_≡_};
 ghost use Rattle.numbers.specs.Numbers.{numberOf};
 
@@ -21,6 +24,12 @@ pub enum Refusal {
     LastKey,
     ShortBuffer,
     LongValue,
+}
+
+// Whether something is refused, and why.
+pub enum Verdict {
+    Refused(Refusal),
+    Accepted,
 }
 
 // The row's number in the table.

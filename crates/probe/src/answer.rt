@@ -2,9 +2,9 @@
 use block::ReadAnswer;
 use numbers::Refusal;
 use runs::put;
-use solve::RowsAnswer;
-use solver::PageAnswer;
-use values::ValuesAnswer;
+use solver::page::PageAnswer;
+use solver::rows::RowsAnswer;
+use solver::values::ValuesAnswer;
 ghost use Prim.Native.Nat.{_≤_};
 ghost use lib.ListN.{length};
 

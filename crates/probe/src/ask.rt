@@ -10,8 +10,8 @@ use crate::question::Question;
 use runs::front;
 use runs::least;
 use runs::put;
-use solver::Begin;
-use solver::PageRequest;
+use solver::page::Begin;
+use solver::page::PageRequest;
 ghost use mathlib.Core.Path.{_≡_};
 ghost use Prim.Native.Nat.{_≤_, _<_};
 ghost use lib.ListN.{length};
@@ -55,7 +55,7 @@ fn ask_rows(asked: Question, left: &[u8], right: &[u8], answers: &mut [u8], at: 
 {
     let mut out = lent(asked.fill);
     let room = least(asked.first_room, 4096);
-    let rows = solve::rows(left, right, &mut out[..room]);
+    let rows = solver::rows::rows(left, right, &mut out[..room]);
     let end = put_returned(answers, at, of_rows(rows));
     put(answers, end, front(&out, room))
 }
@@ -70,7 +70,7 @@ fn ask_page(asked: Question, left: &[u8], right: &[u8], answers: &mut [u8], at: 
         begin: begin_of(asked.after, asked.number),
         wanted: asked.wanted,
     };
-    let page = solver::page(left, right, request, &mut keys[..room]);
+    let page = solver::page::page(left, right, request, &mut keys[..room]);
     let end = put_returned(answers, at, of_page(page));
     put_numbers(answers, end, &keys[..room])
 }
@@ -81,7 +81,7 @@ fn ask_values(asked: Question, left: &[u8], right: &[u8], answers: &mut [u8], at
 {
     let mut out = lent(asked.fill);
     let room = least(asked.first_room, 4096);
-    let values = solver::values(left, right, asked.number, &mut out[..room]);
+    let values = solver::values::values(left, right, asked.number, &mut out[..room]);
     let end = put_returned(answers, at, of_values(values));
     put(answers, end, front(&out, room))
 }

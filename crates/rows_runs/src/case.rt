@@ -20,7 +20,7 @@ pub fn run_in(name: &[u8], left: &[u8], right: &[u8], places: u8, size: usize) {
     let right_count = read_side(right, &mut right_atoms);
     let mut buffer = [FILL; 512];
     let room = least(size, 512);
-    let answer = solve::rows(
+    let answer = solver::rows::rows(
         &left_atoms[..left_count],
         &right_atoms[..right_count],
         &mut buffer[..room],

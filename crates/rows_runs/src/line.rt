@@ -4,7 +4,7 @@ use runs::is_kept;
 use runs::least;
 use runs::put;
 use runs::put_number;
-use solve::RowsAnswer;
+use solver::rows::RowsAnswer;
 ghost use Prim.Native.Nat.{_≤_};
 ghost use lib.ListN.{length};
 

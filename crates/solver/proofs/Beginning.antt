@@ -7,19 +7,20 @@ use Rattle.ac.specs.Keys.{Begin, start, after}
 use Rattle.ac.specs.Pages.{LeastFrom, NoneFrom, boundOf}
 use Rattle.ac.proofs.Pages.{least-first, none-remains}
 use Rattle.numbers.specs.Numbers.{numberOf}
+use Rattle.numbers.specs.Order.{keyNumbers, beginningNumbers}
 use Rattle.numbers.specs.First.{First, here}
 use Rattle.numbers.specs.declared.Refusal.{Refusal}
 use Rattle.numbers.specs.declared.Refusal.the-variants.{NoUnifier, LastKey}
 use Rattle.numbers.proofs.Carried.{none-of, first-before, first-after}
-use Rattle.keys.specs.Given.{ListGiven, none-admissible, last-listed}
-use Rattle.keys.proofs.Given.{start-not-after, listed-after, list-gives-none}
-use Rattle.keys.proofs.Finding.{not-refused}
+use Rattle.list.specs.Given.{ListGiven, none-admissible, last-listed}
+use Rattle.list.proofs.Given.{start-not-after, listed-after, list-gives-none}
+use Rattle.list.proofs.Finding.{not-refused}
 use Rattle.solver.specs.Steps.{SettledOf, to-refuse, to-answer}
-use Rattle.solver.specs.declared.Settled.the-variants.{FirstKey, Refused}
+use Rattle.solver.specs.declared.page.Settled.the-variants.{FirstKey, Refused}
 
 -- a key that is not listed is refused with 13 or 14
 pub settled-unlisted : {listed : List ℕ} {key : ℕ} {why : Refusal}
-    → First (ListGiven listed (after key)) (13 ∷ 14 ∷ []) (numberOf why)
+    → First (ListGiven listed (after key)) keyNumbers (numberOf why)
     → SettledOf listed (after key) (Refused why)
 settled-unlisted first = to-refuse (first-before (15 ∷ []) first)
 
@@ -36,7 +37,7 @@ module _ {listed : List ℕ} (ascending : Ascending _<_ listed) where
       let remains = least-first ascending begin least in
       to-answer
       (none-of (λ n. list-gives-none on-list (subst (List·Memᴰ first) (sym remains) (List·Memᴰ·head refl)))
-      (13 ∷ 14 ∷ 15 ∷ [])) remains
+      beginningNumbers) remains
 
   -- from the start, the least key
   pub settled-start : {first : ℕ} → LeastFrom listed 0 first → SettledOf listed start (FirstKey first)

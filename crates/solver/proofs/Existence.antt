@@ -4,7 +4,7 @@ use native.Mathlib.Omega.{arith}
 use mathlib.Core.Path.{_≡_, refl, sym, _∙_, ap, subst}
 use mathlib.Core.Bool.{Bool, true, false}
 use mathlib.Core.Logic.{_⊎_, inl, inr, ⊎-elim}
-use mathlib.Core.List.{List, [], _∷_, List·Memᴰ, List·Memᴰ·head, List·Memᴰ·tail, List·Memᴰ·not-nil}
+use mathlib.Core.List.{List, [], _∷_, _++_, List·Memᴰ, List·Memᴰ·head, List·Memᴰ·tail, List·Memᴰ·not-nil}
 use borrow.Author.Tests.{ltb-false}
 use lib.Dec.{lit≤}
 use lib.ListN.{length, getD, take, List·getD-append}
@@ -12,7 +12,6 @@ use lib.Seq.{take-all}
 use Rattle.ac.specs.Lists.{receives}
 use Rattle.ac.specs.Pair.{Mode}
 use Rattle.ac.specs.Rows.{Groups, GroupsOf}
-use Rattle.ac.specs.Search.{groups}
 use Rattle.ac.specs.Selection.{Selection, value}
 use Rattle.ac.specs.Keys.{layout, keys, keyOf, Begin, start, remaining}
 use Rattle.ac.specs.Pages.{more}
@@ -23,16 +22,17 @@ use Rattle.ac.proofs.Listed.{listed-exactly, listed-candidates}
 use Rattle.ac.proofs.Pages.{remaining-members}
 use Rattle.ac.proofs.Places.{getD-member}
 use Rattle.ac.proofs.Theorems.{sound, complete}
-use Rattle.numbers.specs.First.{First, NoneOf, here, also, end}
+use Rattle.numbers.specs.First.{First, NoneOf, here, also}
+use Rattle.numbers.specs.Order.{rowsNumbers, pageNumbers, beginningNumbers}
+use Rattle.numbers.specs.Outcome.{Outcome, refused, is-refused, is-given}
 use Rattle.numbers.proofs.Laws.{first-unique, first-not-none}
-use Rattle.numbers.proofs.Carried.{none-carried, first-after, none-front, first-given, elsewhere, first-past}
-use Rattle.solver.specs.Request.{wantedCount}
-use Rattle.keys.specs.Given.{none-admissible}
-use Rattle.keys.proofs.Given.{given-13}
-use Rattle.solver.specs.Given.{PageGiven, of-the-sides, of-the-list, pageNumbers}
-use Rattle.solver.specs.Page.{nextKeys, moreFollow, PageOutcome, refused, page, PagePromise, is-refused, is-page}
+use Rattle.numbers.proofs.Carried.{none-carried, first-after, none-front, first-given, none-given, its-member, elsewhere, first-past}
+use Rattle.list.specs.Given.{none-admissible}
+use Rattle.list.proofs.Given.{given-13}
+use Rattle.solver.specs.Page.{wantedCount, nextKeys, moreFollow, PageGiven, of-the-sides, of-the-list, PageWritten, next, PagePromise}
+use Rattle.numbers.proofs.Promises.{refused-not-given, same-values, same-number}
 use Rattle.solver.specs.Existence.{SomeUnifies, NoneUnifies, replacementOf, PageExistence}
-use Rattle.solver.proofs.Given.{given-list}
+use Rattle.solver.proofs.Given.{page-given}
 use Rattle.solver.proofs.Limits.{WithinLimits, within-limits}
 
 -- a member of a list stands at a place
@@ -86,51 +86,52 @@ module _ {M : Mode} {L R : List ℕ} (fine : WithinLimits M L R) {G : Groups} (o
       ⊎-elim (λ empty. absurd (some empty)) (λ one. (replacementOf M L R G (one .0), key-unifies (one .1)))
       (empty-or-member (keys M layout L R G))
 
+-- the numbers up to the one that says that the list is empty
+abbrev uptoEmpty : List ℕ
+uptoEmpty = rowsNumbers ++ (13 ∷ [])
+
 module _ {M : Mode} {L R : List ℕ} {begin : Begin} {wanted : ℕ} {out : List ℕ} where
   -- where nothing up to 12 is given, the sides and the groups are within the limits
-  fine-sides : NoneOf (PageGiven M L R begin wanted out) (16 ∷ 7 ∷ 8 ∷ 9 ∷ 10 ∷ 11 ∷ 12 ∷ []) → WithinLimits M L R
+  fine-sides : NoneOf (PageGiven M L R begin wanted out) rowsNumbers → WithinLimits M L R
   fine-sides (also no-16 none) = within-limits (none-carried (λ n m given. of-the-sides given) none)
 
   -- 13 is the answer where nothing before it is given and nothing unifies
-  first-13 : NoneOf (PageGiven M L R begin wanted out) (16 ∷ 7 ∷ 8 ∷ 9 ∷ 10 ∷ 11 ∷ 12 ∷ []) → NoneUnifies M L R
+  first-13 : NoneOf (PageGiven M L R begin wanted out) rowsNumbers → NoneUnifies M L R
       → First (PageGiven M L R begin wanted out) pageNumbers 13
   first-13 none nothing =
       let empty = none-empty (fine-sides none) (groups-exist M L R) nothing in
       first-after none (here (of-the-list (groups-exist M L R) (none-admissible empty)))
 
   -- and something unifies where 13 is not given either
-  some-past-13 : NoneOf (PageGiven M L R begin wanted out) (16 ∷ 7 ∷ 8 ∷ 9 ∷ 10 ∷ 11 ∷ 12 ∷ 13 ∷ [])
+  some-past-13 : NoneOf (PageGiven M L R begin wanted out) uptoEmpty
       → SomeUnifies M L R
   some-past-13 none =
-      listed-some (fine-sides (none-front (16 ∷ 7 ∷ 8 ∷ 9 ∷ 10 ∷ 11 ∷ 12 ∷ []) (13 ∷ []) none))
-      (groups-exist M L R) (λ e. last-skip none e)
-    where
-      last-skip : NoneOf (PageGiven M L R begin wanted out) (16 ∷ 7 ∷ 8 ∷ 9 ∷ 10 ∷ 11 ∷ 12 ∷ 13 ∷ [])
-          → keys M layout L R (groups M L R) ≡ [] → ⊥
-      last-skip (also _ (also _ (also _ (also _ (also _ (also _ (also _ (also no-13 end)))))))) e =
-          no-13 (of-the-list (groups-exist M L R) (none-admissible e))
+      listed-some (fine-sides (none-front rowsNumbers (13 ∷ []) none))
+      (groups-exist M L R)
+      (λ e. none-given none (its-member uptoEmpty refl) (of-the-list (groups-exist M L R) (none-admissible e)))
 
   -- Of a refusal.
   module _ {n : ℕ} (first : First (PageGiven M L R begin wanted out) pageNumbers n) where
     only-13 : n ≡ 13 → NoneUnifies M L R
     only-13 e =
         let at-13 = subst (First (PageGiven M L R begin wanted out) pageNumbers) e first in
-        let none = first-past (16 ∷ 7 ∷ 8 ∷ 9 ∷ 10 ∷ 11 ∷ 12 ∷ []) (13 ∷ 14 ∷ 15 ∷ []) refl at-13 in
+        let none = first-past rowsNumbers beginningNumbers refl at-13 in
         empty-none (fine-sides none) (groups-exist M L R)
-        (given-13 e (given-list (groups-exist M L R) (omega arith) (first-given first)))
+        (given-13 e (page-given (groups-exist M L R)
+        (subst (λ k. List·Memᴰ k beginningNumbers) (sym e) (its-member beginningNumbers refl)) (first-given first)))
 
-    some-later : {m : ℕ} → elsewhere m (16 ∷ 7 ∷ 8 ∷ 9 ∷ 10 ∷ 11 ∷ 12 ∷ 13 ∷ []) ≡ true → n ≡ m → SomeUnifies M L R
+    some-later : {m : ℕ} → elsewhere m uptoEmpty ≡ true → n ≡ m → SomeUnifies M L R
     some-later {m} past e =
         let at-m = subst (First (PageGiven M L R begin wanted out) pageNumbers) e first in
-        some-past-13 (first-past (16 ∷ 7 ∷ 8 ∷ 9 ∷ 10 ∷ 11 ∷ 12 ∷ 13 ∷ []) (14 ∷ 15 ∷ []) past at-m)
+        some-past-13 (first-past uptoEmpty (14 ∷ 15 ∷ []) past at-m)
 
   -- Of a page.
   module _ {G : Groups} (none : NoneOf (PageGiven M L R begin wanted out) pageNumbers) (of : GroupsOf M L R G) where
     pub fine-page : WithinLimits M L R
-    fine-page = fine-sides (none-front (16 ∷ 7 ∷ 8 ∷ 9 ∷ 10 ∷ 11 ∷ 12 ∷ []) (13 ∷ 14 ∷ 15 ∷ []) none)
+    fine-page = fine-sides (none-front rowsNumbers beginningNumbers none)
 
     page-some : SomeUnifies M L R
-    page-some = some-past-13 (none-front (16 ∷ 7 ∷ 8 ∷ 9 ∷ 10 ∷ 11 ∷ 12 ∷ 13 ∷ []) (14 ∷ 15 ∷ []) none)
+    page-some = some-past-13 (none-front uptoEmpty (14 ∷ 15 ∷ []) none)
 
     -- what stands in the buffer is a key of the page, and so of the list
     at-place : (i : ℕ) → i < length (nextKeys M L R G begin wanted)
@@ -167,49 +168,38 @@ module _ {M : Mode} {L R : List ℕ} {begin : Begin} {wanted : ℕ} {out : List 
             (ltb-false (wantedCount wanted) (length (remaining begin (keys M layout L R G))) no-more)
             ∙ ap (λ b. remaining b (keys M layout L R G)) from-start
 
-refused-not-page : {n written : ℕ} {more : Bool} → refused n ≡ page written more → ⊥
-refused-not-page e = let z : _≡_ {A = ℕ} 0 1 = cc e in omega arith
-
-page-not-refused : {n written : ℕ} {more : Bool} → page written more ≡ refused n → ⊥
-page-not-refused e = let z : _≡_ {A = ℕ} 0 1 = cc e in omega arith
-
-page-count : {w w′ : ℕ} {m m′ : Bool} → page w m ≡ page w′ m′ → w ≡ w′
-page-count e = cc e
-
-page-more : {w w′ : ℕ} {m m′ : Bool} → page w m ≡ page w′ m′ → m ≡ m′
-page-more e = cc e
-
 -- Whatever meets Page's promise meets demand 3.
 pub page-existence : {M : Mode} {L R : List ℕ} {begin : Begin} {wanted : ℕ} {out : List ℕ}
-    {outcome : PageOutcome} {out′ : List ℕ}
+    {outcome : Outcome PageWritten} {out′ : List ℕ}
     → PagePromise M L R begin wanted out outcome out′ → PageExistence M L R begin wanted out outcome out′
-page-existence (is-refused first) =
+page-existence (is-refused refuses) =
     record {
-      only-where-none = λ e. only-13 first (cc e);
-      always-where-none = λ none nothing. ap refused (first-unique first (first-13 none nothing));
-      unlisted-where-some = λ e. some-later first {m = 14} refl (cc e);
-      last-where-some = λ e. some-later first {m = 15} refl (cc e);
-      page-where-some = λ e. absurd (refused-not-page e);
-      written-unify = λ i of e h. absurd (refused-not-page e);
-      written-cover = λ of from-start e θ unifies. absurd (refused-not-page e);
+      only-where-none = λ e. only-13 (refuses .first) (same-number e);
+      always-where-none = λ none nothing. ap (λ n. refused (record { number = n }))
+          (first-unique (refuses .first) (first-13 none nothing));
+      unlisted-where-some = λ e. some-later (refuses .first) {m = 14} refl (same-number e);
+      last-where-some = λ e. some-later (refuses .first) {m = 15} refl (same-number e);
+      page-where-some = λ e. absurd (refused-not-given e);
+      written-unify = λ i of e h. absurd (refused-not-given e);
+      written-cover = λ of from-start e θ unifies. absurd (refused-not-given e);
     }
-page-existence {M} {L} {R} {begin} {wanted} {out} (is-page {G = G} none of) =
+page-existence {M} {L} {R} {begin} {wanted} {out} (is-given none (next {G = G} of)) =
     record {
-      only-where-none = λ e. absurd (page-not-refused e);
+      only-where-none = λ e. absurd (refused-not-given (sym e));
       always-where-none = λ up-to-12 nothing. absurd (first-not-none (first-13 up-to-12 nothing) none);
-      unlisted-where-some = λ e. absurd (page-not-refused e);
-      last-where-some = λ e. absurd (page-not-refused e);
+      unlisted-where-some = λ e. absurd (refused-not-given (sym e));
+      last-where-some = λ e. absurd (refused-not-given (sym e));
       page-where-some = λ e. page-some none of;
       written-unify =
           λ i other e h.
           subst (λ H. Unifies M L R (replacementOf M L R H
           (getD (receives out (nextKeys M L R G begin wanted)) i 0)))
-          (groups-unique M L R of other) (page-unifies none of i (omega (arith, page-count e)));
+          (groups-unique M L R of other) (page-unifies none of i (omega (arith, ap (λ p. p .written) (same-values e))));
       written-cover =
           λ other from-start e θ unifies.
-          let covered = page-covers none of from-start (page-more e) θ unifies in (
+          let covered = page-covers none of from-start (ap (λ p. p .more) (same-values e)) θ unifies in (
             covered .0,
-            omega (arith, covered .1, page-count e),
+            omega (arith, covered .1, ap (λ p. p .written) (same-values e)),
             subst
                 (λ H. ComesFrom M (layout .new) L R
                 (replacementOf M L R H (getD (receives out (nextKeys M L R G begin wanted)) (covered .0) 0)) θ)

@@ -2,15 +2,17 @@
 use Prim.Native.Nat.{ℕ, _<_, _≤_}
 use native.Mathlib.Omega.{arith}
 use native.Mathlib.Decide.{decLt}
-use mathlib.Core.Path.{ap}
-use mathlib.Core.List.{List, [], _∷_}
+use mathlib.Core.Path.{refl, ap}
+use mathlib.Core.List.{List}
 use lib.ListN.{length, length-map}
 use Rattle.ac.specs.Pair.{Mode, IsSide, unbalanced}
 use Rattle.ac.specs.Rows.{Group, Groups, GroupsOf}
 use Rattle.ac.specs.Keys.{layout, Fits}
-use Rattle.numbers.specs.First.{NoneOf, end, also}
-use Rattle.sides.specs.Limits.{limits}
-use Rattle.sides.specs.Given.{PairGiven, Side, left, right, no-atom, many-constants, many-rows, balanced, of-a-constant}
+use Rattle.numbers.specs.First.{NoneOf}
+use Rattle.numbers.specs.Order.{sidesNumbers}
+use Rattle.numbers.proofs.Carried.{none-given, its-member}
+use Rattle.ac.specs.Limits.{limits}
+use Rattle.pair.specs.Given.{PairGiven, SideOf, left, right, no-atom, many-constants, many-rows, balanced, of-a-constant}
 
 -- a bound that cannot be passed is kept
 kept : (a b : ℕ) → (a < b → ⊥) → b ≤ a
@@ -27,26 +29,38 @@ pub record WithinLimits (M : Mode) (L R : List ℕ) : Type 0 where
 
 module _ {M : Mode} {L R : List ℕ} where
   -- where 8 is not given, a side holds atoms only
-  pub atoms-only : {side : List ℕ} → (PairGiven limits M L R 8 → ⊥) → Side L R side → IsSide side
+  pub atoms-only : {side : List ℕ} → (PairGiven limits M L R 8 → ⊥) → SideOf L R side → IsSide side
   atoms-only no-8 side a m =
-      let low : a ≤ 127 =
-      kept 127 a (λ above. no-8 (no-atom side (record { byte = a; held = m; above = above }))) in
+      let low : a ≤ limits .highest-atom =
+      kept (limits .highest-atom) a (λ above. no-8 (no-atom side (record { byte = a; held = m; above = above }))) in
       omega arith
 
-  pub within-limits : NoneOf (PairGiven limits M L R) (7 ∷ 8 ∷ 9 ∷ 10 ∷ 11 ∷ 12 ∷ []) → WithinLimits M L R
-  within-limits (also no-7 (also no-8 (also no-9 (also no-10 (also no-11 (also no-12 end)))))) =
-      record { left-side = atoms-only no-8 left; right-side = atoms-only no-8 right; groups-fit = fit }
+  pub within-limits : NoneOf (PairGiven limits M L R) sidesNumbers → WithinLimits M L R
+  within-limits none =
+      record {
+        left-side = atoms-only (none-given none (its-member sidesNumbers refl)) left;
+        right-side = atoms-only (none-given none (its-member sidesNumbers refl)) right;
+        groups-fit = fit;
+      }
     where
+      no-11 : PairGiven limits M L R 11 → ⊥
+      no-11 = none-given none (its-member sidesNumbers refl)
+
+      no-12 : PairGiven limits M L R 12 → ⊥
+      no-12 = none-given none (its-member sidesNumbers refl)
+
       fit : (G : Groups) → GroupsOf M L R G → Fits layout G
       fit G groups =
           record {
             few-constants =
                 omega (
                   arith,
-                  kept 4 (length (unbalanced M L R)) (λ many. no-11 (many-constants many)),
+                  kept (limits .constants) (length (unbalanced M L R)) (λ many. no-11 (many-constants many)),
                   ap length (groups .the-constants),
                   length-map (G .constants) (λ (g : Group). g .constant),
                 );
-            few-rows = λ g m. kept 16 (length (g .rows)) (λ many. no-12 (many-rows groups (of-a-constant m many)));
-            few-balanced = kept 16 (length (G .balanced)) (λ many. no-12 (many-rows groups (balanced many)));
+            few-rows = λ g m. kept (limits .constant-rows) (length (g .rows))
+                (λ many. no-12 (many-rows groups (of-a-constant m many)));
+            few-balanced = kept (limits .balanced-rows) (length (G .balanced))
+                (λ many. no-12 (many-rows groups (balanced many)));
           }

@@ -15,21 +15,23 @@ use Rattle.ac.specs.Pages.{together, WholeList}
 use Rattle.ac.proofs.Groups.{groups-exist, groups-unique}
 use Rattle.ac.proofs.Listed.{keys-ascending}
 use Rattle.ac.proofs.Pages.{remaining-after-page}
-use Rattle.numbers.proofs.Carried.{first-given}
-use Rattle.keys.proofs.Given.{given-15}
-use Rattle.solver.specs.Request.{wantedCount}
-use Rattle.solver.specs.Page.{nextKeys, moreFollow, page, PagePromise, is-refused, is-page}
+use Rattle.numbers.proofs.Carried.{first-given, its-member}
+use Rattle.numbers.proofs.Promises.{refused-first}
+use Rattle.list.proofs.Given.{given-15}
+use Rattle.numbers.specs.Order.{beginningNumbers}
+use Rattle.numbers.specs.Outcome.{given, is-given}
+use Rattle.solver.specs.Page.{wantedCount, nextKeys, moreFollow, next, PagePromise}
 use Rattle.solver.specs.Pages.{PagesAsked, one-more, no-more, was-last}
-use Rattle.solver.proofs.Given.{given-list}
+use Rattle.solver.proofs.Given.{page-given}
 use Rattle.solver.proofs.Limits.{WithinLimits}
 use Rattle.solver.proofs.Existence.{fine-page}
 
 module _ {M : Mode} {L R : List ℕ} {G : Groups} (of : GroupsOf M L R G) where
   -- what a page's promise says of it: the next keys, and whether more follow
   pub page-written : {begin : Begin} {wanted written : ℕ} {more : Bool} {out out′ : List ℕ}
-      → PagePromise M L R begin wanted out (page written more) out′
+      → PagePromise M L R begin wanted out (given (record { written = written; more = more })) out′
       → (take written out′ ≡ nextKeys M L R G begin wanted) × (more ≡ moreFollow M L R G begin wanted)
-  page-written {begin} {wanted} {out = out} (is-page {G = H} none others) =
+  page-written {begin} {wanted} {out = out} (is-given none (next {G = H} others)) =
       let same : H ≡ G = groups-unique M L R others of in (
         take-append-seam (nextKeys M L R H begin wanted) (drop (length (nextKeys M L R H begin wanted)) out)
             ∙ ap (λ K. nextKeys M L R K begin wanted) same,
@@ -53,20 +55,21 @@ module _ {M : Mode} {L R : List ℕ} {G : Groups} (of : GroupsOf M L R G) where
       append-nil _ ∙ this .0
       ∙ take-all (wantedCount wanted) (remaining begin (keys M layout L R G))
       (ltb-false (wantedCount wanted) (length (remaining begin (keys M layout L R G))) (sym (this .1)))
-  pages-together ascending (was-last (is-refused first)) =
-      sym (given-15 refl (given-list of (omega arith) (first-given first)) .0)
+  pages-together ascending (was-last promise) =
+      sym (given-15 refl (page-given of (its-member beginningNumbers refl) (first-given (refused-first promise))) .0)
 
 -- a page tells that the pair is within the limits
 page-within : {M : Mode} {L R : List ℕ} {begin : Begin} {wanted written : ℕ} {more : Bool} {out out′ : List ℕ}
-    → PagePromise M L R begin wanted out (page written more) out′ → WithinLimits M L R
-page-within (is-page none of) = fine-page none of
+    → PagePromise M L R begin wanted out (given (record { written = written; more = more })) out′ → WithinLimits M L R
+page-within (is-given none (next of)) = fine-page none of
 
 pub asked-within : {M : Mode} {L R : List ℕ} {begin : Begin} {pages : List (List ℕ)} → begin ≡ start
     → PagesAsked M L R begin pages → WithinLimits M L R
 asked-within from-start (one-more before last promise ends rest) = page-within promise
 asked-within from-start (no-more promise) = page-within promise
-asked-within {M} {L} {R} from-start (was-last (is-refused first)) =
-    absurd (given-15 refl (given-list (groups-exist M L R) (omega arith) (first-given first)) .1 from-start)
+asked-within {M} {L} {R} from-start (was-last promise) =
+    absurd (given-15 refl (page-given (groups-exist M L R) (its-member beginningNumbers refl)
+    (first-given (refused-first promise))) .1 from-start)
 
 -- Pages asked for one after the other from the start hold together the whole list, no key twice.
 pub pages-hold-the-list : {M : Mode} {L R : List ℕ} {G : Groups} {pages : List (List ℕ)} → GroupsOf M L R G

@@ -1,59 +1,119 @@
--- Page's promise from its steps, of a table that is the pair's.
-use Prim.Native.Nat.{ℕ, _<_, _≤_}
-use mathlib.Core.Path.{_≡_, sym, subst, subst₂}
-use mathlib.Core.List.{List, [], _∷_}
-use lib.ListN.{length}
+-- The questions' promises from their steps, of a table that is the pair's.
+use Prim.Native.Nat.{ℕ, _≤_}
+use native.Mathlib.Omega.{arith}
+use mathlib.Core.Path.{_≡_, refl, sym, subst, subst₂}
+use mathlib.Core.List.{List, _∷_, List·Memᴰ}
+use lib.ListN.{length, getD}
+use Rattle.ac.specs.Limits.{limits}
 use Rattle.ac.specs.Pair.{Mode}
 use Rattle.ac.specs.Keys.{layout, keys, Begin, after, remaining}
-use Rattle.numbers.specs.Numbers.{numberOf}
+use Rattle.buffer.specs.Put.{Put}
+use Rattle.buffer.proofs.Puts.{put-received}
+use Rattle.numbers.specs.Numbers.{numberOf, saidOf}
 use Rattle.numbers.specs.First.{First, NoneOf}
+use Rattle.numbers.specs.Order.{sidesNumbers, beginningNumbers}
+use Rattle.numbers.specs.Outcome.{Outcome, refused, given, is-given}
 use Rattle.numbers.specs.declared.Refusal.{Refusal}
-use Rattle.sides.specs.Limits.{limits}
-use Rattle.sides.specs.Given.{PairGiven}
+use Rattle.numbers.proofs.Promises.{refuse}
+use Rattle.numbers.proofs.Parts.{none-of-sides}
+use Rattle.pair.specs.Given.{PairGiven}
 use Rattle.table.specs.Table.{TableOf, groupsIn}
 use Rattle.table.specs.declared.Table.{Table}
-use Rattle.keys.specs.Given.{ListGiven}
-use Rattle.solver.specs.Request.{wantedCount}
-use Rattle.solver.specs.Page.{PageOutcome, refused, PagePromise, is-refused, is-page}
-use Rattle.solver.specs.Steps.{SettledOf, to-refuse, to-answer, WrittenOf}
-use Rattle.solver.specs.declared.Settled.{Settled}
-use Rattle.solver.specs.declared.Settled.the-variants.{FirstKey, Refused}
-use Rattle.solver.proofs.Given.{first-short, first-of-list, none-of-list}
+use Rattle.table.proofs.TableGroups.{length-groupAt, how-many-constants}
+use Rattle.list.specs.Given.{ListGiven}
+use Rattle.list.specs.List.{FoundOf}
+use Rattle.list.specs.declared.Found.{Found}
+use Rattle.list.specs.declared.Found.the-variants as lookup
+use Rattle.list.proofs.Finding.{told-listed, told-refused}
+use Rattle.solver.specs.Rows.{rowsBuffer, GroupSizes, size, sizesOf, allRows, bytesOf, RowsPromise}
+use Rattle.solver.specs.Rows as its-rows
+use Rattle.solver.specs.Page.{wantedCount, PageWritten, PagePromise, next}
+use Rattle.solver.specs.Values.{valuesBuffer, ValuesPromise}
+use Rattle.solver.specs.Values as its-values
+use Rattle.solver.specs.Steps.{SettledOf, to-refuse, to-answer, KeysWritten, WritesValues, too-long, fits}
+use Rattle.solver.specs.declared.page.Settled.{Settled}
+use Rattle.solver.specs.declared.page.Settled.the-variants.{FirstKey, Refused}
+use Rattle.solver.proofs.Given.{rows-made, page-first, page-none, values-first, values-long, values-none}
 
 -- the cases of what is settled
 settled-refusal : {listed : List ℕ} {begin : Begin} {why : Refusal} → SettledOf listed begin (Refused why)
-    → First (ListGiven listed begin) (13 ∷ 14 ∷ 15 ∷ []) (numberOf why)
+    → First (ListGiven listed begin) beginningNumbers (numberOf why)
 settled-refusal (to-refuse first) = first
 
 settled-first : {listed : List ℕ} {begin : Begin} {key : ℕ} → SettledOf listed begin (FirstKey key)
-    → NoneOf (ListGiven listed begin) (13 ∷ 14 ∷ 15 ∷ [])
+    → NoneOf (ListGiven listed begin) beginningNumbers
     × (remaining begin listed ≡ key ∷ remaining (after key) listed)
 settled-first (to-answer none e) = (none, e)
 
-module _ {M : Mode} {L R : List ℕ} {begin : Begin} {wanted : ℕ} {out : List ℕ} where
-  -- 16 comes first
-  pub promise-short : length out < wantedCount wanted → PagePromise M L R begin wanted out (refused 16) out
-  promise-short short = is-refused (first-short short)
+module _ {M : Mode} {L R : List ℕ} {t : Table} (of : TableOf M L R t)
+    (none : NoneOf (PairGiven limits M L R) sidesNumbers) where
+  -- Rows: the rows, and the sizes of the groups
+  pub rows-promised : {out after : List ℕ} {put first second third fourth : ℕ} → rowsBuffer ≤ length out
+      → Put out 0 (bytesOf (allRows (groupsIn t))) put after
+      → put ≤ rowsBuffer
+      → first ≡ size (groupsIn t) 0 → second ≡ size (groupsIn t) 1 → third ≡ size (groupsIn t) 2
+      → fourth ≡ size (groupsIn t) 3
+      → RowsPromise M L R out
+      (given (record {
+        balanced = getD (t .sizes) 0 0;
+        constants = t .unbalanced;
+        first = first;
+        second = second;
+        third = third;
+        fourth = fourth;
+      }))
+      after
+  rows-promised {out} {after} {put} {first} {second} {third} {fourth} long written within e₁ e₂ e₃ e₄ =
+      subst₂ (λ sizes after. RowsPromise M L R out (given sizes) after) sizes
+      (sym (put-received written (omega arith)))
+      (is-given (none-of-sides rows-made long none) (its-rows.rows (of .the-groups)))
+    where
+      sizes : sizesOf (groupsIn t) ≡ record {
+        balanced = getD (t .sizes) 0 0;
+        constants = t .unbalanced;
+        first = first;
+        second = second;
+        third = third;
+        fourth = fourth;
+      }
+      sizes = cc (length-groupAt t 0, how-many-constants t (of .within), e₁, e₂, e₃, e₄)
 
-  module _ {t : Table} (of : TableOf M L R t)
-      (none : NoneOf (PairGiven limits M L R) (7 ∷ 8 ∷ 9 ∷ 10 ∷ 11 ∷ 12 ∷ []))
-      (enough : wantedCount wanted ≤ length out) {settled : Settled}
-      (told : SettledOf (keys M layout L R (groupsIn t)) begin settled) where
-    -- 13, 14 and 15 change no buffer
-    pub promise-refused : {why : Refusal} → settled ≡ Refused why
-        → PagePromise M L R begin wanted out (refused (numberOf why)) out
-    promise-refused e =
-        is-refused (first-of-list enough (of .the-groups) none
+  module _ {begin : Begin} {wanted : ℕ} {out : List ℕ} (enough : wantedCount wanted ≤ length out)
+      {settled : Settled} (told : SettledOf (keys M layout L R (groupsIn t)) begin settled) where
+    -- Page: 13, 14 and 15 change no buffer
+    pub page-refused : {why : Refusal} → settled ≡ Refused why
+        → PagePromise M L R begin wanted out (refused (saidOf why)) out
+    page-refused e = refuse (page-first (of .the-groups) none enough
         (settled-refusal (subst (SettledOf (keys M layout L R (groupsIn t)) begin) e told)))
 
     -- a page is what was written of the keys that remain
-    pub promise-page : {first : ℕ} {outcome : PageOutcome} {out′ : List ℕ} → settled ≡ FirstKey first
-        → WrittenOf (first ∷ remaining (after first) (keys M layout L R (groupsIn t))) (wantedCount wanted)
+    pub page-promised : {first : ℕ} {outcome : Outcome PageWritten} {out′ : List ℕ} → settled ≡ FirstKey first
+        → KeysWritten (first ∷ remaining (after first) (keys M layout L R (groupsIn t))) (wantedCount wanted)
         out outcome out′
         → PagePromise M L R begin wanted out outcome out′
-    promise-page {outcome = outcome} {out′ = out′} e written =
+    page-promised {outcome = outcome} {out′ = out′} e written =
         let answer = settled-first (subst (SettledOf (keys M layout L R (groupsIn t)) begin) e told) in
         let whole =
-        subst (λ left. WrittenOf left (wantedCount wanted) out outcome out′) (sym (answer .1)) written in
+        subst (λ left. KeysWritten left (wantedCount wanted) out outcome out′) (sym (answer .1)) written in
         subst₂ (λ o b. PagePromise M L R begin wanted out o b) (sym (whole .the-outcome)) (sym (whole .the-buffer))
-        (is-page (none-of-list enough (of .the-groups) none (answer .0)) (of .the-groups))
+        (is-given (page-none (of .the-groups) none enough (answer .0)) (next (of .the-groups)))
+
+  module _ {key : ℕ} {out : List ℕ} (enough : valuesBuffer ≤ length out) {found : Found}
+      (told : FoundOf (keys M layout L R (groupsIn t)) key found) where
+    -- Values: 13 and 14 change no buffer
+    pub values-refused : {why : Refusal} → found ≡ lookup.Refused why
+        → ValuesPromise M L R key out (refused (saidOf why)) out
+    values-refused e = refuse (values-first (of .the-groups) none enough (told-refused told e))
+
+    -- of a listed key 17, or its values
+    pub values-promised : found ≡ lookup.Listed → {outcome : Outcome ℕ} {out′ : List ℕ}
+        → (List·Memᴰ key (keys M layout L R (groupsIn t)) → WritesValues M L R (groupsIn t) key out outcome out′)
+        → ValuesPromise M L R key out outcome out′
+    values-promised e writes = go (writes (told-listed told e))
+      where
+        go : {outcome : Outcome ℕ} {out′ : List ℕ} → WritesValues M L R (groupsIn t) key out outcome out′
+            → ValuesPromise M L R key out outcome out′
+        go (too-long long) = refuse (values-long (of .the-groups) none enough (told-listed told e) long)
+        go (fits short) =
+            is-given (values-none (of .the-groups) none enough (told-listed told e) short)
+            (its-values.values (of .the-groups))

@@ -2,7 +2,7 @@
 use Prim.Native.Nat.{ℕ, zero, suc, _<_}
 use native.Mathlib.Omega.{arith}
 use mathlib.Core.Path.{_≡_, refl}
-use Rattle.solver.specs.Request.{wantedCount}
+use Rattle.solver.specs.Page.{wantedCount}
 
 -- a count that is not 0 means itself
 pub wanted-itself : (n : ℕ) → (n ≡ 0 → ⊥) → n ≡ wantedCount n

@@ -1,47 +1,72 @@
--- The question Page (document 01, "The questions"): what it promises.
-use Prim.Native.Nat.{ℕ}
+-- The question Page (document 01, "The questions"): its request, which numbers it gives, and what it promises.
+use Prim.Native.Nat.{ℕ, zero, suc, _<_}
 use mathlib.Core.Bool.{Bool}
 use mathlib.Core.List.{List}
 use lib.ListN.{length}
 use Rattle.ac.specs.Lists.{receives}
+use Rattle.ac.specs.Limits.{limits}
 use Rattle.ac.specs.Pair.{Mode}
 use Rattle.ac.specs.Rows.{Groups, GroupsOf}
-use Rattle.ac.specs.Keys.{layout, keys, Begin}
-use Rattle.ac.specs.Pages.{more, page as pageOf}
-use Rattle.numbers.specs.Numbers.{numberOf}
-use Rattle.numbers.specs.First.{First, NoneOf}
-use Rattle.solver.specs.Request.{wantedCount}
-use Rattle.solver.specs.Given.{PageGiven, pageNumbers}
-use Rattle.solver.specs.declared.PageAnswer.{PageAnswer}
-use Rattle.solver.specs.declared.PageAnswer.the-variants.{Page, Refused}
+use Rattle.ac.specs.Keys.{layout, keys, start, after, Begin as Beginning}
+use Rattle.ac.specs.Pages.{page, more}
+use Rattle.numbers.specs.Numbers.{saidOf}
+use Rattle.numbers.specs.Order.{pageNumbers}
+use Rattle.numbers.specs.Outcome.{Outcome, refused, given, Promise}
+use Rattle.pair.specs.Given.{PairGiven}
+use Rattle.list.specs.Given.{ListGiven}
+use Rattle.solver.specs.declared.page.Begin.{Begin}
+use Rattle.solver.specs.declared.page.Begin.the-variants.{Start, After}
+use Rattle.solver.specs.declared.page.PageAnswer.{PageAnswer}
+use Rattle.solver.specs.declared.page.PageAnswer.the-variants.{Page, Refused}
 
--- What Page comes to: a number of the table, or the number written and whether more follow.
-pub data PageOutcome : Type 0 where
-  refused : ℕ → PageOutcome
-  page : ℕ → Bool → PageOutcome
+-- where to begin, either the start or after a key
+abbrev pub beginningOf : Begin → Beginning
+beginningOf Start = start
+beginningOf (After key) = after key
 
--- this paper's number and values for each case of the answer
-abbrev pub told : PageAnswer → PageOutcome
-told (Page written more) = page written more
-told (Refused refusal) = refused (numberOf refusal)
+-- how many are wanted, 0 meaning 200
+abbrev pub wantedCount : ℕ → ℕ
+wantedCount zero = 200
+wantedCount (suc n) = suc n
 
-module _ (M : Mode) (L R : List ℕ) (G : Groups) (begin : Begin) (wanted : ℕ) where
+-- The rows of the table that Page gives: when each number is given, whatever else is wrong.
+pub data PageGiven (M : Mode) (L R : List ℕ) (begin : Beginning) (wanted : ℕ) (out : List ℕ) : ℕ → Type 0 where
+  -- 7 to 12 speak of the two sides
+  of-the-sides : {n : ℕ} → PairGiven limits M L R n → PageGiven M L R begin wanted out n
+  -- 13 to 15 of the list of the pair's groups
+  of-the-list : {n : ℕ} {G : Groups} → GroupsOf M L R G → ListGiven (keys M layout L R G) begin n
+      → PageGiven M L R begin wanted out n
+  -- a lent buffer is too short
+  short-buffer : length out < wantedCount wanted → PageGiven M L R begin wanted out 16
+
+-- What Page returns: the number written and whether more follow.
+pub record PageWritten : Type 0 where
+  pub written : ℕ
+  pub more : Bool
+
+-- document 01's number and values for each case of the answer
+abbrev pub toldPage : PageAnswer → Outcome PageWritten
+toldPage (Page written more) = given (record { written = written; more = more })
+toldPage (Refused refusal) = refused (saidOf refusal)
+
+module _ (M : Mode) (L R : List ℕ) (G : Groups) (begin : Beginning) (wanted : ℕ) where
   -- the next keys, as many as are wanted or, if fewer remain, all that remain
   abbrev pub nextKeys : List ℕ
-  nextKeys = pageOf begin (wantedCount wanted) (keys M layout L R G)
+  nextKeys = page begin (wantedCount wanted) (keys M layout L R G)
 
   -- whether more follow
   abbrev pub moreFollow : Bool
   moreFollow = more begin (wantedCount wanted) (keys M layout L R G)
 
--- What Page promises of its outcome and of the lent buffer at exit.
-pub data PagePromise (M : Mode) (L R : List ℕ) (begin : Begin) (wanted : ℕ) (out : List ℕ) : PageOutcome
+-- The buffer receives the next keys. The number written and whether more follow are returned.
+pub data PageGives (M : Mode) (L R : List ℕ) (begin : Beginning) (wanted : ℕ) (out : List ℕ) : PageWritten
     → List ℕ → Type 0 where
-  -- Each returns its number alone and changes no buffer.
-  is-refused : {n : ℕ} → First (PageGiven M L R begin wanted out) pageNumbers n
-      → PagePromise M L R begin wanted out (refused n) out
-  -- The buffer receives the next keys. The number written and whether more follow are returned.
-  is-page : {G : Groups} → NoneOf (PageGiven M L R begin wanted out) pageNumbers → GroupsOf M L R G
-      → PagePromise M L R begin wanted out
-      (page (length (nextKeys M L R G begin wanted)) (moreFollow M L R G begin wanted))
+  next : {G : Groups} → GroupsOf M L R G
+      → PageGives M L R begin wanted out
+      (record { written = length (nextKeys M L R G begin wanted); more = moreFollow M L R G begin wanted })
       (receives out (nextKeys M L R G begin wanted))
+
+-- What Page promises of its outcome and of the lent buffer at exit.
+abbrev pub PagePromise : Mode → List ℕ → List ℕ → Beginning → ℕ → List ℕ → Outcome PageWritten → List ℕ → Type 0
+PagePromise M L R begin wanted out =
+    Promise (PageGiven M L R begin wanted out) pageNumbers (PageGives M L R begin wanted out) out

@@ -1,43 +1,75 @@
--- What the steps of Page give, over the list of the pair that a table is of.
+-- What the steps of the questions give, on a pair that is already solved (document 01, "The questions").
 use Prim.Native.Nat.{ℕ}
 use mathlib.Core.Path.{_≡_}
-use mathlib.Core.List.{List, [], _∷_}
+use mathlib.Core.Bool.{false}
+use mathlib.Core.List.{List, _∷_, List·Memᴰ}
 use lib.Dec.{ltb}
 use lib.ListN.{length, take}
 use Rattle.ac.specs.Lists.{receives}
-use Rattle.ac.specs.Keys.{Begin, after, remaining}
-use Rattle.numbers.specs.Numbers.{numberOf}
+use Rattle.ac.specs.Limits.{limits}
+use Rattle.ac.specs.Pair.{Mode}
+use Rattle.ac.specs.Rows.{Groups}
+use Rattle.ac.specs.Keys.{layout, keys, Begin, after, remaining}
+use Rattle.numbers.specs.Numbers.{numberOf, saidOf}
 use Rattle.numbers.specs.First.{First, NoneOf}
+use Rattle.numbers.specs.Order.{sidesNumbers, beginningNumbers}
+use Rattle.numbers.specs.Outcome.{Outcome, refused, given}
 use Rattle.numbers.specs.declared.Refusal.{Refusal}
-use Rattle.sides.specs.Limits.{limits}
-use Rattle.sides.specs.Given.{PairGiven}
+use Rattle.numbers.specs.declared.Refusal.the-variants.{LongValue as TooLong}
+use Rattle.pair.specs.Given.{PairGiven}
+use Rattle.table.specs.Table.{TableOf, groupsIn}
 use Rattle.table.specs.declared.Table.{Table}
-use Rattle.keys.specs.Given.{ListGiven}
-use Rattle.keys.specs.List.{OfItsPair}
-use Rattle.solver.specs.Request.{beginningOf}
-use Rattle.solver.specs.Page.{PageOutcome, page, PagePromise}
-use Rattle.solver.specs.declared.PageRequest.{PageRequest}
-use Rattle.solver.specs.declared.Settled.{Settled}
-use Rattle.solver.specs.declared.Settled.the-variants.{FirstKey, Refused}
+use Rattle.list.specs.Given.{ListGiven}
+use Rattle.list.specs.List.{OfItsPair}
+use Rattle.solver.specs.Rows.{GroupSizes, RowsPromise}
+use Rattle.solver.specs.Page.{PageWritten, beginningOf, PagePromise}
+use Rattle.solver.specs.Values.{LongValue, valuesOf, ValuesPromise}
+use Rattle.solver.specs.declared.page.PageRequest.{PageRequest}
+use Rattle.solver.specs.declared.page.Settled.{Settled}
+use Rattle.solver.specs.declared.page.Settled.the-variants.{FirstKey, Refused}
+
+-- it is so for all sides whose table it is and that give no number
+abbrev pub OfSolved : Table → (Mode → List ℕ → List ℕ → Type 0) → Type 0
+OfSolved table So =
+    (M : Mode) (L R : List ℕ) → TableOf M L R table → NoneOf (PairGiven limits M L R) sidesNumbers → So M L R
+
+-- the promises of the questions
+abbrev pub RowsOfTable : Table → List ℕ → Outcome GroupSizes → List ℕ → Type 0
+RowsOfTable table out outcome out′ = OfSolved table (λ M L R. RowsPromise M L R out outcome out′)
+
+abbrev pub PageOfTable : Table → PageRequest → List ℕ → Outcome PageWritten → List ℕ → Type 0
+PageOfTable table request out outcome out′ =
+    OfSolved table (λ M L R. M .empties ≡ false
+    → PagePromise M L R (beginningOf (request .begin)) (request .wanted) out outcome out′)
+
+abbrev pub ValuesOfTable : Table → ℕ → List ℕ → Outcome ℕ → List ℕ → Type 0
+ValuesOfTable table key out outcome out′ =
+    OfSolved table (λ M L R. M .empties ≡ false → ValuesPromise M L R key out outcome out′)
 
 -- 13, 14 or 15, or the first of the keys that remain
 pub data SettledOf (listed : List ℕ) (begin : Begin) : Settled → Type 0 where
-  to-refuse : {why : Refusal} → First (ListGiven listed begin) (13 ∷ 14 ∷ 15 ∷ []) (numberOf why)
+  to-refuse : {why : Refusal} → First (ListGiven listed begin) beginningNumbers (numberOf why)
       → SettledOf listed begin (Refused why)
-  to-answer : {key : ℕ} → NoneOf (ListGiven listed begin) (13 ∷ 14 ∷ 15 ∷ [])
+  to-answer : {key : ℕ} → NoneOf (ListGiven listed begin) beginningNumbers
       → remaining begin listed ≡ key ∷ remaining (after key) listed
       → SettledOf listed begin (FirstKey key)
 
 -- of the keys that remain as many are written as are wanted, and it is told how many they are and whether
 -- more follow
-pub record WrittenOf (left : List ℕ) (wanted : ℕ) (out : List ℕ) (outcome : PageOutcome) (out′ : List ℕ) :
-    Type 0 where
-  pub the-outcome : outcome ≡ page (length (take wanted left)) (ltb wanted (length left))
+pub record KeysWritten (left : List ℕ) (wanted : ℕ) (out : List ℕ) (outcome : Outcome PageWritten)
+    (out′ : List ℕ) : Type 0 where
+  pub the-outcome : outcome
+      ≡ given (record { written = length (take wanted left); more = ltb wanted (length left) })
   pub the-buffer : out′ ≡ receives out (take wanted left)
 
--- the promise of Page, for each pair that the table is of and whose sides give no number
-abbrev pub PromiseOfTable : Table → PageRequest → List ℕ → PageOutcome → List ℕ → Type 0
-PromiseOfTable table request out outcome out′ =
-    OfItsPair table
-    (λ M L R. NoneOf (PairGiven limits M L R) (7 ∷ 8 ∷ 9 ∷ 10 ∷ 11 ∷ 12 ∷ [])
-    → PagePromise M L R (beginningOf (request .begin)) (request .wanted) out outcome out′)
+-- Of a listed key: 17 where a value would be too long, else the values are written and their length is told.
+pub data WritesValues (M : Mode) (L R : List ℕ) (G : Groups) (key : ℕ) (out : List ℕ) : Outcome ℕ → List ℕ
+    → Type 0 where
+  too-long : LongValue M L R G key → WritesValues M L R G key out (refused (saidOf TooLong)) out
+  fits : (LongValue M L R G key → ⊥)
+      → WritesValues M L R G key out (given (length (valuesOf M L R G key))) (receives out (valuesOf M L R G key))
+
+abbrev pub ValuesWritten : Table → ℕ → List ℕ → Outcome ℕ → List ℕ → Type 0
+ValuesWritten table key out outcome out′ =
+    OfItsPair table (λ M L R. List·Memᴰ key (keys M layout L R (groupsIn table))
+    → WritesValues M L R (groupsIn table) key out outcome out′)

@@ -1,17 +1,36 @@
 -- What a table says: the groups of rows that it holds, and that it is the table of a pair (document 01, "From
 -- sides to equations").
-use Prim.Native.Nat.{ℕ, suc, _+_, _*_, _≤_}
+use Prim.Native.Nat.{ℕ, zero, suc, _+_, _*_, _≤_}
 use mathlib.Core.Path.{_≡_}
 use mathlib.Core.List.{List, [], _∷_, map}
 use lib.ListN.{length, getD, take, drop}
 use Rattle.ac.specs.Lists.{below}
+use Rattle.ac.specs.Limits.{limits}
 use Rattle.ac.specs.Pair.{Mode, variables}
 use Rattle.ac.specs.Rows.{Group, Groups, GroupsOf}
 use Rattle.table.specs.declared.Table.{Table}
 
+-- the most rows of a group: the balanced rows are group 0, those of each unbalanced constant the groups after it
+abbrev pub mostRows : ℕ → ℕ
+mostRows zero = limits .balanced-rows
+mostRows (suc g) = limits .constant-rows
+
+-- Where group g begins: each group has room for as many rows as it may have.
+abbrev pub groupStart : ℕ → ℕ
+groupStart zero = 0
+groupStart (suc g) = limits .variables * limits .balanced-rows + limits .variables * limits .constant-rows * g
+
+-- Where row i of group g begins.
+abbrev pub rowStart : ℕ → ℕ → ℕ
+rowStart g i = groupStart g + limits .variables * i
+
+-- the room of all groups: where one more would begin
+abbrev pub roomOfRows : ℕ
+roomOfRows = groupStart (suc (limits .constants))
+
 -- row i of group g, where rows have fixed places: an entry for each variable
 abbrev pub rowIn : ℕ → List ℕ → ℕ → ℕ → List ℕ
-rowIn places rows g i = take places (drop (96 * g + 6 * i) rows)
+rowIn places rows g i = take places (drop (rowStart g i) rows)
 
 -- the first rows of group g
 abbrev pub groupIn : ℕ → List ℕ → ℕ → ℕ → List (List ℕ)
@@ -34,15 +53,15 @@ abbrev pub groupsIn : Table → Groups
 groupsIn t = record { balanced = groupAt t 0; constants = groupsFrom t 1 (take (t .unbalanced) (t .constants)) }
 
 -- the numbers in the table are within its room
-pub record Within (t : Table) : Type 0 where
-  pub places-fit : t .places ≤ 6
-  pub constants-fit : t .unbalanced ≤ 4
+pub record InRoom (t : Table) : Type 0 where
+  pub places-fit : t .places ≤ limits .variables
+  pub constants-fit : t .unbalanced ≤ limits .constants
   pub constants-held : t .unbalanced ≤ length (t .constants)
-  pub sizes-fit : (g : ℕ) → getD (t .sizes) g 0 ≤ 16
+  pub sizes-fit : (g : ℕ) → getD (t .sizes) g 0 ≤ mostRows g
 
 -- the table is that of the pair: its variables and exactly its rows
 pub record TableOf (M : Mode) (L R : List ℕ) (t : Table) : Type 0 where
-  pub within : Within t
+  pub within : InRoom t
   pub the-variables : take (t .places) (t .variables) ≡ variables M L R
   pub the-places : t .places ≡ length (variables M L R)
   pub the-groups : GroupsOf M L R (groupsIn t)

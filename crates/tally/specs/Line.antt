@@ -6,12 +6,12 @@ use Rattle.numbers.specs.Numbers.{numberOf}
 use Rattle.block.specs.declared.ReadAnswer.{ReadAnswer}
 use Rattle.block.specs.declared.ReadAnswer.the-variants.{Sides}
 use Rattle.block.specs.declared.ReadAnswer.the-variants as read
-use Rattle.solve.specs.declared.RowsAnswer.{RowsAnswer}
-use Rattle.solve.specs.declared.RowsAnswer.the-variants.{Groups}
-use Rattle.solve.specs.declared.RowsAnswer.the-variants as rows
-use Rattle.solver.specs.declared.PageAnswer.{PageAnswer}
-use Rattle.solver.specs.declared.PageAnswer.the-variants.{Page}
-use Rattle.solver.specs.declared.PageAnswer.the-variants as page
+use Rattle.solver.specs.declared.rows.RowsAnswer.{RowsAnswer}
+use Rattle.solver.specs.declared.rows.RowsAnswer.the-variants.{Groups}
+use Rattle.solver.specs.declared.rows.RowsAnswer.the-variants as rows
+use Rattle.solver.specs.declared.page.PageAnswer.{PageAnswer}
+use Rattle.solver.specs.declared.page.PageAnswer.the-variants.{Page}
+use Rattle.solver.specs.declared.page.PageAnswer.the-variants as page
 use Rattle.tally.specs.declared.Line.{Line}
 use Rattle.tally.specs.declared.Line.the-variants.{Listed, NoUnifier, Refused}
 

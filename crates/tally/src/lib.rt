@@ -8,8 +8,8 @@ ghost use Rattle.tally.specs.Line.{told, lineOf, lineOfNumber, constants
 ghost use Rattle.tally.specs.Counts.{oneMore, counted, Tallies, closingOf};
 use block::ReadAnswer;
 use numbers::Refusal;
-use solve::RowsAnswer;
-use solver::PageAnswer;
+use solver::page::PageAnswer;
+use solver::rows::RowsAnswer;
 
 // The number that says that there is no unifier.
 const NO_UNIFIER: u8 = 13;

@@ -14,7 +14,7 @@ use Rattle.ac.specs.Replacement.{Replacement, put, isNew, SameSum, Unifies, Com
 use Rattle.ac.proofs.Groups.{groups-exist}
 use Rattle.ac.proofs.Places.{getD-member, placeOf-getD}
 use Rattle.ac.proofs.Fages.{Agree, unifies-alike, comes-alike}
-use Rattle.sides.proofs.Lists.{member-at}
+use Rattle.pair.proofs.Lists.{member-at}
 use Rattle.solver.specs.Existence.{replacementOf}
 use Rattle.solver.specs.Pages.{PagesAsked}
 use Rattle.solver.proofs.Existence.{key-unifies, unifier-listed}

@@ -14,18 +14,19 @@ use Rattle.ac.specs.Pages.{together}
 use Rattle.ac.proofs.Groups.{groups-exist}
 use Rattle.numbers.specs.First.{NoneOf}
 use Rattle.numbers.proofs.Carried.{none-of}
-use Rattle.keys.proofs.Given.{start-not-after, list-gives-none}
-use Rattle.sides.specs.Limits.{limits}
-use Rattle.sides.specs.Given.{PairGiven}
-use Rattle.solver.specs.Page.{page, PagePromise, is-page}
+use Rattle.list.proofs.Given.{start-not-after, list-gives-none}
+use Rattle.ac.specs.Limits.{limits}
+use Rattle.pair.specs.Given.{PairGiven}
+use Rattle.numbers.specs.Order.{sidesNumbers, beginningNumbers}
+use Rattle.numbers.specs.Outcome.{given, is-given}
+use Rattle.solver.specs.Page.{PagePromise, next}
 use Rattle.solver.specs.Existence.{SomeUnifies}
 use Rattle.solver.specs.Pages.{PagesAsked, no-more as no-more-pages}
-use Rattle.solver.proofs.Given.{none-of-list}
+use Rattle.solver.proofs.Given.{page-none, values-none}
 use Rattle.solver.proofs.Limits.{within-limits}
 use Rattle.solver.proofs.Existence.{unifier-listed}
 use Rattle.solver.proofs.Pages.{pages-hold-the-list}
-use Rattle.values.specs.Values.{is-written}
-use Rattle.values.proofs.Given.{none-at-all}
+use Rattle.solver.specs.Values.{valuesBuffer, values}
 use Rattle.whole.specs.Whole.{ValuesAsked, no-more, one-more}
 use Rattle.whole.proofs.Short.{not-long}
 
@@ -40,12 +41,12 @@ room-enough n = omega (arith, length-replicate {A = ℕ} n 0)
 module _ {M : Mode} {L R : List ℕ} where
   -- a page after which no more follow is the last one
   last-page : {begin : Begin} {wanted written : ℕ} {more : Bool} {out out′ : List ℕ} → more ≡ false
-      → PagePromise M L R begin wanted out (page written more) out′
+      → PagePromise M L R begin wanted out (given (record { written = written; more = more })) out′
       → PagesAsked M L R begin (take written out′ ∷ [])
   last-page {begin} {wanted} {written} {out = out} {out′ = out′} ends promise =
-      no-more-pages (subst (λ more. PagePromise M L R begin wanted out (page written more) out′) ends promise)
+      no-more-pages (subst (λ more. PagePromise M L R begin wanted out (given (record { written = written; more = more })) out′) ends promise)
 
-module _ {M : Mode} {L R : List ℕ} (none : NoneOf (PairGiven limits M L R) (7 ∷ 8 ∷ 9 ∷ 10 ∷ 11 ∷ 12 ∷ []))
+module _ {M : Mode} {L R : List ℕ} (none : NoneOf (PairGiven limits M L R) sidesNumbers)
     {G : Groups} (of : GroupsOf M L R G) where
   -- one page from the start, with room for more than all keys
   all-keys : {key : ℕ} → List·Memᴰ key (keys M layout L R G)
@@ -53,10 +54,10 @@ module _ {M : Mode} {L R : List ℕ} (none : NoneOf (PairGiven limits M L R) (7 
   all-keys m =
       let wanted = suc (length (keys M layout L R G)) in
       let nothing =
-      none-of (λ n. list-gives-none (λ k same. absurd (start-not-after same)) m) (13 ∷ 14 ∷ 15 ∷ []) in (
+      none-of (λ n. list-gives-none (λ k same. absurd (start-not-after same)) m) beginningNumbers in (
         _,
         last-page {wanted = wanted} {out = room wanted} (le-ltb wanted (length (keys M layout L R G)) (omega arith))
-            (is-page (none-of-list (room-enough wanted) of none nothing) of),
+            (is-given (page-none of none (room-enough wanted) nothing) (next of)),
       )
 
   -- Values answers each listed key
@@ -67,13 +68,14 @@ module _ {M : Mode} {L R : List ℕ} (none : NoneOf (PairGiven limits M L R) (7 
       let m = listed key (List·Memᴰ·head refl) in
       let others = all-answered asked (λ other m. listed other (List·Memᴰ·tail m)) in (
         _,
-        one-more {out = room 1212} (is-written
-            (none-at-all (room-enough 1212) of none m (not-long none of m)) of) (others .1),
+        one-more {out = room valuesBuffer}
+            (is-given (values-none of none (room-enough valuesBuffer) m (not-long none of m)) (values of))
+            (others .1),
       )
 
 -- Sides that give none of 7 to 12 and have a unifier have pages, and answers to their keys.
 pub pages-and-answers : {M : Mode} {L R : List ℕ}
-    → NoneOf (PairGiven limits M L R) (7 ∷ 8 ∷ 9 ∷ 10 ∷ 11 ∷ 12 ∷ []) → SomeUnifies M L R
+    → NoneOf (PairGiven limits M L R) sidesNumbers → SomeUnifies M L R
     → (pages answers : List (List ℕ)) × PagesAsked M L R start pages × ValuesAsked M L R (together pages) answers
 pages-and-answers {M} {L} {R} none some =
     let of = groups-exist M L R in

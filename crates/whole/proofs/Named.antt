@@ -17,7 +17,8 @@ use Rattle.ac.proofs.Theorems.{independent}
 use Rattle.ac.proofs.Fages.{Agree}
 use Rattle.solver.specs.Existence.{replacementOf}
 use Rattle.solver.proofs.Limits.{WithinLimits}
-use Rattle.values.specs.Values.{ValuesPromise, is-written, written, valuesOf}
+use Rattle.numbers.specs.Outcome.{given, is-given}
+use Rattle.solver.specs.Values.{ValuesPromise, values, valuesOf}
 use Rattle.whole.specs.Whole.{readBack, replacementAt, ValuesAsked, no-more, one-more}
 use Rattle.whole.proofs.ReadBack.{readBack-laidOut}
 
@@ -43,9 +44,9 @@ module _ {M : Mode} {L R : List ℕ} {G : Groups} (of : GroupsOf M L R G) where
       ∙ packed fits (two .0)
 
   -- what Values writes of a key is read back as the replacement that the key names
-  pub values-name : {key n : ℕ} {out out′ : List ℕ} → ValuesPromise M L R key out (written n) out′
+  pub values-name : {key n : ℕ} {out out′ : List ℕ} → ValuesPromise M L R key out (given n) out′
       → Agree (variables M L R) (readBack (take n out′)) (replacementOf M L R G key)
-  values-name {key} {out = out} (is-written {G = H} none others) x m =
+  values-name {key} {out = out} (is-given none (values {G = H} others)) x m =
       ap (λ (bytes : List ℕ). readBack bytes x)
       (take-append-seam (valuesOf M L R H key) (drop (length (valuesOf M L R H key)) out))
       ∙ readBack-laidOut (replacementOf M L R H key) m

@@ -21,11 +21,12 @@ use Rattle.ac.proofs.Listed.{listed-candidates}
 use Rattle.ac.proofs.Places.{getD-member}
 use Rattle.numbers.specs.First.{NoneOf}
 use Rattle.numbers.proofs.Carried.{none-front}
-use Rattle.sides.specs.Limits.{limits}
-use Rattle.sides.specs.Given.{PairGiven}
-use Rattle.sides.proofs.Laws.{within-limits as within-the-limits}
+use Rattle.ac.specs.Limits.{limits}
+use Rattle.pair.specs.Given.{PairGiven}
+use Rattle.pair.proofs.Laws.{within-limits as within-the-limits}
 use Rattle.solver.proofs.Limits.{within-limits}
-use Rattle.values.specs.Given.{LongValue}
+use Rattle.numbers.specs.Order.{partingNumbers, rowLimitNumbers, sidesNumbers}
+use Rattle.solver.specs.Values.{LongValue}
 
 -- counts that are at most 8 apart for every atom are so at every place
 near-places : (f g : ℕ → ℕ) → ((x : ℕ) → (f x ≤ g x + 8) × (g x ≤ f x + 8)) → (xs : List ℕ) (i : ℕ)
@@ -95,11 +96,11 @@ module _ (i : ℕ) where
   balanced-short n (r ∷ rows) (false ∷ ts) small =
       omega (arith, balanced-short (suc n) rows ts (λ v m. small v (List·Memᴰ·tail m)))
 
-module _ {M : Mode} {L R : List ℕ} (none : NoneOf (PairGiven limits M L R) (7 ∷ 8 ∷ 9 ∷ 10 ∷ 11 ∷ 12 ∷ []))
+module _ {M : Mode} {L R : List ℕ} (none : NoneOf (PairGiven limits M L R) sidesNumbers)
     {G : Groups} (of : GroupsOf M L R G) where
   near : (x : ℕ) → (count x L ≤ count x R + 8) × (count x R ≤ count x L + 8)
   near x =
-      let within = within-the-limits (none-front (7 ∷ 8 ∷ 9 ∷ 10 ∷ 11 ∷ []) (12 ∷ []) none) in
+      let within = within-the-limits (none-front partingNumbers rowLimitNumbers none) in
       omega (arith, within .near-left x, within .near-right x)
 
   -- No value has more than 160 atoms.

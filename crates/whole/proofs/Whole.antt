@@ -11,17 +11,20 @@
 -- another, and none stands twice. That there are such pages and answers wherever there is a unifier is
 -- `pages-and-answers` of Exist.antt.
 use Prim.Native.Nat.{ℕ}
-use native.Mathlib.Omega.{arith}
 use mathlib.Core.Path.{_≡_, refl, subst}
 use mathlib.Core.Logic.{_↔_}
-use mathlib.Core.List.{List, [], _∷_}
+use mathlib.Core.List.{List}
 use Rattle.ac.specs.Pair.{unifying}
 use Rattle.ac.specs.Keys.{Begin, start}
 use Rattle.ac.specs.Pages.{together}
-use Rattle.numbers.specs.First.{First, NoneOf}
+use Rattle.numbers.specs.First.{NoneOf}
 use Rattle.numbers.proofs.Carried.{first-past}
-use Rattle.solver.specs.Given.{PageGiven, pageNumbers}
-use Rattle.solver.specs.Page.{PageOutcome, refused, PagePromise, is-refused, is-page}
+use Rattle.numbers.specs.Numbers.{saidOf}
+use Rattle.numbers.specs.Order.{rowsNumbers, beginningNumbers}
+use Rattle.numbers.specs.Outcome.{Outcome, refused}
+use Rattle.numbers.specs.declared.Refusal.the-variants.{NoUnifier}
+use Rattle.numbers.proofs.Promises.{refused-first}
+use Rattle.solver.specs.Page.{PageGiven, PageWritten, PagePromise}
 use Rattle.solver.specs.Existence.{NoneUnifies}
 use Rattle.solver.specs.Pages.{PagesAsked}
 use Rattle.solver.proofs.Existence.{page-existence}
@@ -35,21 +38,17 @@ whole asked answered = whole-set asked answered
 
 -- The other end: Page gives 13 exactly where no replacement unifies, unless a number that comes before it is given.
 module _ {L R : List ℕ} {begin : Begin} {wanted : ℕ} {out : List ℕ} where
-  none-before-13 : {outcome : PageOutcome} {out′ : List ℕ}
-      → PagePromise unifying L R begin wanted out outcome out′ → outcome ≡ refused 13
-      → NoneOf (PageGiven unifying L R begin wanted out) (16 ∷ 7 ∷ 8 ∷ 9 ∷ 10 ∷ 11 ∷ 12 ∷ [])
-  none-before-13 (is-refused {n = n} first) e =
-      let thirteen : n ≡ 13 = cc e in
-      first-past (16 ∷ 7 ∷ 8 ∷ 9 ∷ 10 ∷ 11 ∷ 12 ∷ []) (13 ∷ 14 ∷ 15 ∷ []) refl
-      (subst (First (PageGiven unifying L R begin wanted out) pageNumbers) thirteen first)
-  none-before-13 (is-page none of) e = absurd (let z : _≡_ {A = ℕ} 0 1 = cc e in omega arith)
+  none-before-13 : {out′ : List ℕ}
+      → PagePromise unifying L R begin wanted out (refused (saidOf NoUnifier)) out′
+      → NoneOf (PageGiven unifying L R begin wanted out) rowsNumbers
+  none-before-13 promise = first-past rowsNumbers beginningNumbers refl (refused-first promise)
 
-  pub none-at-all : {outcome : PageOutcome} {out′ : List ℕ} → PagePromise unifying L R begin wanted out outcome out′
-      → (outcome ≡ refused 13) ↔ (NoneOf (PageGiven unifying L R begin wanted out)
-      (16 ∷ 7 ∷ 8 ∷ 9 ∷ 10 ∷ 11 ∷ 12 ∷ []) × NoneUnifies unifying L R)
-  none-at-all promise =
+  pub none-at-all : {outcome : Outcome PageWritten} {out′ : List ℕ} → PagePromise unifying L R begin wanted out outcome out′
+      → (outcome ≡ refused (saidOf NoUnifier)) ↔ (NoneOf (PageGiven unifying L R begin wanted out)
+      rowsNumbers × NoneUnifies unifying L R)
+  none-at-all {out′ = out′} promise =
       let exists = page-existence promise in (
-        λ e. (none-before-13 promise e, exists .only-where-none e),
+        λ e. (none-before-13 (subst (λ o. PagePromise unifying L R begin wanted out o out′) e promise), exists .only-where-none e),
         λ none. exists .always-where-none (none .0)
             (none .1),
       )

@@ -10,7 +10,8 @@ use Rattle.ac.specs.Pair.{Mode, variables}
 use Rattle.ac.specs.Keys.{layout}
 use Rattle.ac.specs.Values.{Binding}
 use Rattle.ac.specs.Replacement.{Replacement, SameSum, Unifies, ComesFrom}
-use Rattle.values.specs.Values.{ValuesPromise, written}
+use Rattle.numbers.specs.Outcome.{given}
+use Rattle.solver.specs.Values.{ValuesPromise}
 
 -- "For each variable ascending, its byte, a byte count and the atoms": the bytes taken apart again. `rest` is
 -- how many of the bytes in front are
@@ -36,7 +37,7 @@ readBack bytes = valueIn (takenApart 0 bytes)
 pub data ValuesAsked (M : Mode) (L R : List ℕ) : List ℕ → List (List ℕ) → Type 0 where
   no-more : ValuesAsked M L R [] []
   one-more : {key n : ℕ} {out out′ : List ℕ} {keys : List ℕ} {answers : List (List ℕ)}
-      → ValuesPromise M L R key out (written n) out′
+      → ValuesPromise M L R key out (given n) out′
       → ValuesAsked M L R keys answers → ValuesAsked M L R (key ∷ keys) (take n out′ ∷ answers)
 
 -- the replacement read back from the answer at a place

@@ -20,39 +20,35 @@ use Rattle.ac.proofs.Listed.{selections-are}
 use Rattle.ac.proofs.Keys.{taken-apart}
 use Rattle.numbers.specs.First.{NoneOf, here}
 use Rattle.numbers.proofs.Carried.{none-of}
-use Rattle.sides.specs.Limits.{limits}
-use Rattle.sides.specs.Given.{PairGiven}
-use Rattle.solve.specs.Given.{RowsGiven, of-the-sides, short-buffer, rowsNumbers}
-use Rattle.solve.specs.Rows.{sizesOf, allRows, is-answered}
-use Rattle.solve.proofs.Determined.{rows-determined}
-use Rattle.keys.specs.Given.{none-admissible}
-use Rattle.keys.proofs.Given.{start-not-after, list-gives-none}
-use Rattle.solver.specs.Page.{page, PagePromise, is-refused, is-page}
-use Rattle.solver.proofs.Given.{first-of-list, none-of-list}
-use Rattle.solver.proofs.Determined.{page-determined}
+use Rattle.ac.specs.Limits.{limits}
+use Rattle.pair.specs.Given.{PairGiven}
+use Rattle.numbers.specs.Order.{sidesNumbers, beginningNumbers}
+use Rattle.numbers.specs.Outcome.{given, is-given}
+use Rattle.numbers.proofs.Parts.{none-of-sides}
+use Rattle.numbers.proofs.Promises.{refuse, outcome-determined}
+use Rattle.solver.specs.Rows.{sizesOf, allRows, rows}
+use Rattle.list.specs.Given.{none-admissible}
+use Rattle.list.proofs.Given.{start-not-after, list-gives-none}
+use Rattle.solver.specs.Page.{next, PagePromise}
+use Rattle.solver.proofs.Determined.{one-rows, one-page, one-values}
+use Rattle.solver.proofs.Given.{rows-made, page-first, page-none, values-none}
 use Rattle.solver.proofs.Limits.{within-limits}
-use Rattle.values.specs.Values.{is-written, valuesOf}
-use Rattle.values.proofs.Given.{none-at-all}
-use Rattle.values.proofs.Determined.{values-determined}
+use Rattle.solver.specs.Values.{values, valuesOf}
 use Rattle.whole.proofs.Short.{not-long}
 use Rattle.worked.specs.Questions.{pageQuestion}
-use Rattle.worked.specs.Answers.{Answers, RowsGives, PageGives, ValuesGives, ValuesGiveInTurn, none, next}
+use Rattle.worked.specs.Answers.{Answers, RowsAnswers, PageAnswers, ValuesAnswers, ValuesGiveInTurn}
+use Rattle.worked.specs.Answers as turn
 
 module _ {L R : List ℕ} {G : Groups}
     (groups : GroupsOf unifying L R G) (never : (n : ℕ) → PairGiven limits unifying L R n → ⊥) where
-  nothing : NoneOf (PairGiven limits unifying L R) (7 ∷ 8 ∷ 9 ∷ 10 ∷ 11 ∷ 12 ∷ [])
-  nothing = none-of never (7 ∷ 8 ∷ 9 ∷ 10 ∷ 11 ∷ 12 ∷ [])
-
-  -- the rows of the groups
-  never-of-rows : {out : List ℕ} → 480 ≤ length out → (n : ℕ) → RowsGiven unifying L R out n → ⊥
-  never-of-rows enough n (of-the-sides given) = never n given
-  never-of-rows enough n (short-buffer short) = omega arith
+  nothing : NoneOf (PairGiven limits unifying L R) sidesNumbers
+  nothing = none-of never sidesNumbers
 
   -- Rows gives the groups of the pair
-  pub rows-of-groups : RowsGives L R (sizesOf G) (allRows G)
+  pub rows-of-groups : RowsAnswers L R (sizesOf G) (allRows G)
   rows-of-groups out enough =
-      let met = is-answered (none-of (never-of-rows enough) rowsNumbers) groups in
-      record { meets = met; alone = λ other exit p. rows-determined p met }
+      let met = is-given (none-of-sides rows-made enough nothing) (rows groups) in
+      record { meets = met; alone = λ other exit p. outcome-determined one-rows p met }
 
   -- where keys remain after the beginning, at most 200 of them, they are the page
   pub page-from : (begin : Begin) → ((k : ℕ) → begin ≡ after k → List·Memᴰ k (keys unifying layout L R G))
@@ -60,9 +56,9 @@ module _ {L R : List ℕ} {G : Groups}
       → length (key ∷ others) ≤ 200
       → (out : List ℕ) → 200 ≤ length out
       → Answers pageQuestion (record { left = L; right = R; also = record { begin = begin; wanted = 0 } }) out
-      (page (length (key ∷ others)) false) (receives out (key ∷ others))
+      (given (record { written = length (key ∷ others); more = false })) (receives out (key ∷ others))
   page-from begin on-list key others e few out enough =
-      record { meets = met; alone = λ other exit p. page-determined p met }
+      record { meets = met; alone = λ other exit p. outcome-determined one-page p met }
     where
       whole : take 200 (remaining begin (keys unifying layout L R G)) ≡ key ∷ others
       whole = ap (take 200) e ∙ take-all 200 (key ∷ others) few
@@ -70,29 +66,29 @@ module _ {L R : List ℕ} {G : Groups}
       no-more : ltb 200 (length (remaining begin (keys unifying layout L R G))) ≡ false
       no-more = le-ltb 200 (length (remaining begin (keys unifying layout L R G))) (omega (arith, ap length e))
 
-      met : PagePromise unifying L R begin 0 out (page (length (key ∷ others)) false) (receives out (key ∷ others))
+      met : PagePromise unifying L R begin 0 out (given (record { written = length (key ∷ others); more = false })) (receives out (key ∷ others))
       met =
-          subst₂ (λ ks more. PagePromise unifying L R begin 0 out (page (length ks) more) (receives out ks))
+          subst₂ (λ ks more. PagePromise unifying L R begin 0 out (given (record { written = length ks; more = more })) (receives out ks))
           whole no-more
-          (is-page (none-of-list enough groups nothing
+          (is-given (page-none groups nothing enough
           (none-of (λ n. list-gives-none on-list (subst (List·Memᴰ key) (sym e) (List·Memᴰ·head refl)))
-          (13 ∷ 14 ∷ 15 ∷ []))) groups)
+          beginningNumbers)) (next groups))
 
   -- a list of at most 200 keys is one page; an empty one is 13
-  pub page-of-list : (ks : List ℕ) → keys unifying layout L R G ≡ ks → length ks ≤ 200 → PageGives L R ks
+  pub page-of-list : (ks : List ℕ) → keys unifying layout L R G ≡ ks → length ks ≤ 200 → PageAnswers L R ks
   page-of-list [] e few out enough =
-      let met = is-refused (first-of-list enough groups nothing (here (none-admissible e))) in
-      record { meets = met; alone = λ other exit p. page-determined p met }
+      let met = refuse (page-first groups nothing enough (here (none-admissible e))) in
+      record { meets = met; alone = λ other exit p. outcome-determined one-page p met }
   page-of-list (key ∷ others) e few out enough =
       page-from start (λ k same. absurd (start-not-after same)) key others e few out enough
 
   -- a listed key has its values, since none is long
   pub values-of-key : (key : ℕ) → List·Memᴰ key (keys unifying layout L R G)
-      → ValuesGives L R key (valuesOf unifying L R G key)
+      → ValuesAnswers L R key (valuesOf unifying L R G key)
   values-of-key key listed-key out enough =
-      let met = is-written (none-at-all enough groups nothing listed-key (not-long nothing groups listed-key))
-      groups in
-      record { meets = met; alone = λ other exit p. values-determined p met }
+      let met = is-given (values-none groups nothing enough listed-key (not-long nothing groups listed-key))
+      (values groups) in
+      record { meets = met; alone = λ other exit p. outcome-determined one-values p met }
 
   -- the groups are within the limits of a key
   fits : Fits layout G
@@ -103,17 +99,17 @@ module _ {L R : List ℕ} {G : Groups}
       → ((s : Selection) → List·Memᴰ s ss → List·Memᴰ s (listed unifying layout L R G))
       → ValuesGiveInTurn L R (map (keyOf layout) ss)
       (map (λ s. bindings (value unifying (layout .new) L R G s) (variables unifying L R)) ss)
-  in-turn [] from = none
-  in-turn (s ∷ ss) from = next first (in-turn ss (λ t m. from t (List·Memᴰ·tail m)))
+  in-turn [] from = turn.none
+  in-turn (s ∷ ss) from = turn.next first (in-turn ss (λ t m. from t (List·Memᴰ·tail m)))
     where
       of-groups : SelectionOf G s
       of-groups = selections-are G .0 (filter-member (admissible unifying (layout .new) L R G) (selections G)
           (from s (List·Memᴰ·head refl)) .0)
 
-      first : ValuesGives L R (keyOf layout s)
+      first : ValuesAnswers L R (keyOf layout s)
           (laidOut (bindings (value unifying (layout .new) L R G s) (variables unifying L R)))
       first =
-          subst (λ t. ValuesGives L R (keyOf layout s)
+          subst (λ t. ValuesAnswers L R (keyOf layout s)
           (laidOut (bindings (value unifying (layout .new) L R G t) (variables unifying L R))))
           (taken-apart fits of-groups) (values-of-key (keyOf layout s)
           (members-map (keyOf layout) (from s (List·Memᴰ·head refl))))

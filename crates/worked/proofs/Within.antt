@@ -17,9 +17,9 @@ use Rattle.ac.specs.Search.{groups}
 use Rattle.ac.proofs.Counts.{count-append, count-member}
 use Rattle.ac.proofs.Groups.{groups-exist, groups-unique}
 use Rattle.ac.proofs.Tests.{both, every-member}
-use Rattle.sides.specs.Limits.{limits}
-use Rattle.sides.specs.Given.{Side, left, right, WrongLength, ManyRows, balanced, of-a-constant, PairGiven, side-length, no-atom, many-variables, far-net-count, many-constants, many-rows}
-use Rattle.sides.proofs.NetCounts.{natAbs-difference}
+use Rattle.ac.specs.Limits.{limits}
+use Rattle.pair.specs.Given.{SideOf, left, right, WrongLength, ManyRows, balanced, of-a-constant, PairGiven, side-length, no-atom, many-variables, far-net-count, many-constants, many-rows}
+use Rattle.pair.proofs.NetCounts.{natAbs-difference}
 
 -- all of some tests pass
 abbrev pub all : List Bool → Bool
@@ -33,11 +33,11 @@ each (test ∷ tests) passes (suc place) = each tests (both test (all tests) pas
 
 -- a side has 1 to 64 atoms, and none of them is above 127
 abbrev sideTests : List ℕ → List Bool
-sideTests side = leb 1 (length side) ∷ leb (length side) 64 ∷ every (λ a. leb a 127) side ∷ []
+sideTests side = leb (limits .least-atoms) (length side) ∷ leb (length side) (limits .most-atoms) ∷ every (λ a. leb a (limits .highest-atom)) side ∷ []
 
 -- at most 16 balanced rows, and at most 16 for each constant
 abbrev rowTests : Groups → List Bool
-rowTests G = leb (length (G .balanced)) 16 ∷ every (λ g. leb (length (g .rows)) 16) (G .constants) ∷ []
+rowTests G = leb (length (G .balanced)) (limits .balanced-rows) ∷ every (λ g. leb (length (g .rows)) (limits .constant-rows)) (G .constants) ∷ []
 
 -- so each side and the rows; at most 6 variables; no atom with a net count further than 8 from 0; at most 4
 -- unbalanced constants
@@ -45,9 +45,9 @@ abbrev pairTests : List ℕ → List ℕ → List Bool
 pairTests L R =
     all (sideTests L)
     ∷ all (sideTests R)
-    ∷ leb (length (variables unifying L R)) 6
-    ∷ every (λ a. leb (natAbs (net L R a)) 8) (L ++ R)
-    ∷ leb (length (unbalanced unifying L R)) 4
+    ∷ leb (length (variables unifying L R)) (limits .variables)
+    ∷ every (λ a. leb (natAbs (net L R a)) (limits .net-count)) (L ++ R)
+    ∷ leb (length (unbalanced unifying L R)) (limits .constants)
     ∷ all (rowTests (groups unifying L R))
     ∷ []
 
@@ -57,33 +57,33 @@ within L R = all (pairTests L R)
 
 module _ (side : List ℕ) (passes : all (sideTests side) ≡ true) where
   length-within : WrongLength limits side → ⊥
-  length-within (inl few) = omega (arith, leb-true 1 (length side) (each (sideTests side) passes 0))
-  length-within (inr many) = omega (arith, leb-true (length side) 64 (each (sideTests side) passes 1))
+  length-within (inl few) = omega (arith, leb-true (limits .least-atoms) (length side) (each (sideTests side) passes 0))
+  length-within (inr many) = omega (arith, leb-true (length side) (limits .most-atoms) (each (sideTests side) passes 1))
 
   -- every byte of a side that passes is at most 127
-  byte-within : {byte : ℕ} → List·Memᴰ byte side → byte ≤ 127
-  byte-within {byte} m = leb-true byte 127 (every-member (λ a. leb a 127) (each (sideTests side) passes 2) m)
+  byte-within : {byte : ℕ} → List·Memᴰ byte side → byte ≤ limits .highest-atom
+  byte-within {byte} m = leb-true byte (limits .highest-atom) (every-member (λ a. leb a (limits .highest-atom)) (each (sideTests side) passes 2) m)
 
 -- groups that pass have not too many rows
 rows-within : {G : Groups} → all (rowTests G) ≡ true → ManyRows limits G → ⊥
 rows-within {G} passes (balanced many) =
-    omega (arith, leb-true (length (G .balanced)) 16 (each (rowTests G) passes 0))
+    omega (arith, leb-true (length (G .balanced)) (limits .balanced-rows) (each (rowTests G) passes 0))
 rows-within {G} passes (of-a-constant {g = g} m many) =
     omega (
       arith,
-      leb-true (length (g .rows)) 16
-          (every-member (λ (h : Group). leb (length (h .rows)) 16) (each (rowTests G) passes 1) m),
+      leb-true (length (g .rows)) (limits .constant-rows)
+          (every-member (λ (h : Group). leb (length (h .rows)) (limits .constant-rows)) (each (rowTests G) passes 1) m),
     )
 
 -- an atom that stands on neither side has net count 0
-near-zero : (L R : List ℕ) → every (λ a. leb (natAbs (net L R a)) 8) (L ++ R) ≡ true → (atom : ℕ)
-    → natAbs (net L R atom) ≤ 8
+near-zero : (L R : List ℕ) → every (λ a. leb (natAbs (net L R a)) (limits .net-count)) (L ++ R) ≡ true → (atom : ℕ)
+    → natAbs (net L R atom) ≤ limits .net-count
 near-zero L R passes atom = go (decLt 0 (count atom (L ++ R)))
   where
-    go : Dec (0 < count atom (L ++ R)) → natAbs (net L R atom) ≤ 8
+    go : Dec (0 < count atom (L ++ R)) → natAbs (net L R atom) ≤ limits .net-count
     go (yes stands) =
-        leb-true (natAbs (net L R atom)) 8
-        (every-member (λ a. leb (natAbs (net L R a)) 8) passes (count-member atom (L ++ R) stands))
+        leb-true (natAbs (net L R atom)) (limits .net-count)
+        (every-member (λ a. leb (natAbs (net L R a)) (limits .net-count)) passes (count-member atom (L ++ R) stands))
     go (no absent) = omega (arith, count-append atom L R, natAbs-difference (count atom L) (count atom R))
 
 module _ (L R : List ℕ) (passes : within L R ≡ true) where
@@ -91,7 +91,7 @@ module _ (L R : List ℕ) (passes : within L R ≡ true) where
   passed = each (pairTests L R) passes
 
   -- each of the two sides passes
-  side-within : {side : List ℕ} → Side L R side → all (sideTests side) ≡ true
+  side-within : {side : List ℕ} → SideOf L R side → all (sideTests side) ≡ true
   side-within left = passed 0
   side-within right = passed 1
 
@@ -100,9 +100,9 @@ module _ (L R : List ℕ) (passes : within L R ≡ true) where
   never-given (side-length {side} one wrong) = length-within side (side-within one) wrong
   never-given (no-atom {side} one wrong) =
       omega (arith, wrong .above, byte-within side (side-within one) (wrong .held))
-  never-given (many-variables many) = omega (arith, leb-true (length (variables unifying L R)) 6 (passed 2))
+  never-given (many-variables many) = omega (arith, leb-true (length (variables unifying L R)) (limits .variables) (passed 2))
   never-given (far-net-count atom far) = omega (arith, near-zero L R (passed 3) atom)
-  never-given (many-constants many) = omega (arith, leb-true (length (unbalanced unifying L R)) 4 (passed 4))
+  never-given (many-constants many) = omega (arith, leb-true (length (unbalanced unifying L R)) (limits .constants) (passed 4))
   never-given (many-rows groups-of many) =
       rows-within (passed 5) (subst (ManyRows limits)
       (groups-unique unifying L R groups-of (groups-exist unifying L R)) many)

@@ -17,9 +17,9 @@ use Rattle.ac.proofs.Groups.{groups-exist, groups-unique}
 use Rattle.ac.proofs.Places.{getD-member}
 use Rattle.ac.proofs.Tests.{every-member}
 use Rattle.ac.proofs.Worked.{worked-pairs}
-use Rattle.sides.specs.Limits.{limits}
-use Rattle.sides.specs.Given.{PairGiven}
-use Rattle.worked.specs.Answers.{PageGives, ValuesGiveInTurn, AnswersPrinted, AnswersBy, Worked, numbered}
+use Rattle.ac.specs.Limits.{limits}
+use Rattle.pair.specs.Given.{PairGiven}
+use Rattle.worked.specs.Answers.{PageAnswers, ValuesGiveInTurn, AnswersPrinted, AnswersBy, Worked, numbered}
 use Rattle.worked.proofs.Within.{all, each, within, never-given}
 use Rattle.worked.proofs.Answering.{rows-of-groups, page-of-list, values-of-key, in-turn}
 
@@ -58,7 +58,7 @@ module _ (L R : List ℕ) (passes : all (tests L R) ≡ true) where
   printed (rows rs) e = (groups unifying L R, groups-exist unifying L R, e, computed .the-rows)
   printed (balanced-rows k) e = (groups unifying L R, groups-exist unifying L R, e, computed .the-rows)
   printed (rows-of a k) e = (groups unifying L R, groups-exist unifying L R, e, computed .the-rows)
-  printed (the-keys ks) e = subst (PageGives L R) e (computed .the-list)
+  printed (the-keys ks) e = subst (PageAnswers L R) e (computed .the-list)
   printed (substitutions vs) e = (
     list L R,
     computed .the-list,

@@ -11,9 +11,11 @@ use Rattle.ac.specs.Search.{groups}
 use Rattle.ac.specs.Keys.{layout, keys, Begin, start, after}
 use Rattle.ac.specs.Worked.{the-keys}
 use Rattle.ac.proofs.Groups.{groups-exist}
-use Rattle.solver.specs.Page.{page}
+use Rattle.numbers.specs.Outcome.{given}
+use Rattle.numbers.proofs.Promises.{same-values}
+use Rattle.solver.specs.Page.{PageWritten}
 use Rattle.worked.specs.Questions.{SidesAsked, Request, pageQuestion}
-use Rattle.worked.specs.Answers.{Answers, PageGives, numbered, ofPair}
+use Rattle.worked.specs.Answers.{Answers, PageAnswers, numbered, ofPair}
 use Rattle.worked.specs.Programs.{Program, MeetsAt, RefusesEverything, ConstantResult, WritesNothing, ThenFifteen}
 use Rattle.worked.proofs.Within.{never-given}
 use Rattle.worked.proofs.Answering.{page-from}
@@ -24,18 +26,22 @@ use Rattle.worked.proofs.Wrong as wrong
 abbrev asked : ℕ → Begin → SidesAsked Request
 asked n begin = ofPair n (record { begin = begin; wanted = 0 })
 
+-- so many keys, and whether more follow
+abbrev pageOf : ℕ → Bool → PageWritten
+pageOf written more = record { written = written; more = more }
+
 -- pair 2: keys 6, 7, 9, 11, 13, 14, 15
-seven-keys : PageGives (numbered 2 .left) (numbered 2 .right) (6 ∷ 7 ∷ 9 ∷ 11 ∷ 13 ∷ 14 ∷ 15 ∷ [])
+seven-keys : PageAnswers (numbered 2 .left) (numbered 2 .right) (6 ∷ 7 ∷ 9 ∷ 11 ∷ 13 ∷ 14 ∷ 15 ∷ [])
 seven-keys =
     worked-number 2 (omega arith) (omega arith) .as-printed (the-keys _) (List·Memᴰ·tail (List·Memᴰ·head refl))
 
 -- pair 7: one, key 1
-one-key : PageGives (numbered 7 .left) (numbered 7 .right) (1 ∷ [])
+one-key : PageAnswers (numbered 7 .left) (numbered 7 .right) (1 ∷ [])
 one-key = worked-number 7 (omega arith) (omega arith) .as-printed (the-keys _) (List·Memᴰ·head refl)
 
 -- pair 2: after key 6, six follow
 six-follow : (out : List ℕ) → 200 ≤ length out
-    → Answers pageQuestion (asked 2 (after 6)) out (page 6 false) (receives out (7 ∷ 9 ∷ 11 ∷ 13 ∷ 14 ∷ 15 ∷ []))
+    → Answers pageQuestion (asked 2 (after 6)) out (given (pageOf 6 false)) (receives out (7 ∷ 9 ∷ 11 ∷ 13 ∷ 14 ∷ 15 ∷ []))
 six-follow = page-from (groups-exist unifying L R) (λ n. never-given L R refl) (after 6) on-list 7
     (9 ∷ 11 ∷ 13 ∷ 14 ∷ 15 ∷ []) refl (omega arith)
   where
@@ -54,14 +60,13 @@ module _ (program : Program pageQuestion) where
     -- It refuses everything: pair 2 has seven unifiers.
     pub refusing-fails : RefusesEverything program → MeetsAt program (asked 2 start) out → ⊥
     refusing-fails = wrong.refusing-fails program (seven-keys out enough)
-        (λ n e. let z : _≡_ {A = ℕ} 0 1 = cc e in omega arith)
 
     -- It has a constant result: pair 2 has seven keys, pair 7 has one.
     pub constant-fails : ConstantResult program → MeetsAt program (asked 2 start) out
         → MeetsAt program (asked 7 start) out → ⊥
     constant-fails =
         wrong.constant-fails program (seven-keys out enough) (one-key out enough)
-        (λ e. let z : _≡_ {A = ℕ} 7 1 = cc e in omega arith)
+        (λ e. let z : _≡_ {A = ℕ} 7 1 = ap (λ p. p .written) (same-values e) in omega arith)
 
     -- It finds the first key and then claims 15: after key 6 of pair 2 others follow.
     pub then-fifteen-fails : ThenFifteen program → MeetsAt program (asked 2 (after 6)) out → ⊥
@@ -70,11 +75,12 @@ module _ (program : Program pageQuestion) where
         (λ e. let z : _≡_ {A = ℕ} 0 1 = cc (e, claims (asked 2 (after 6)) out 6 refl) in omega arith)
 
     -- It invents the number of keys, or that more follow: pair 2 has seven keys, and no more follow.
-    pub invented-count-fails : (number : ℕ) (more : Bool) → program (asked 2 start) out .outcome ≡ page number more
+    pub invented-count-fails : (number : ℕ) (more : Bool) → program (asked 2 start) out .outcome ≡ given (pageOf number more)
         → ((number ≡ 7) × (more ≡ false) → ⊥) → MeetsAt program (asked 2 start) out → ⊥
     invented-count-fails number more returns others =
         wrong.other-outcome-fails program (seven-keys out enough)
-        (λ e. let same : page number more ≡ page 7 false = cc (e, returns) in others (cc same, cc same))
+        (λ e. let same : pageOf number more ≡ pageOf 7 false = cc (e, returns) in
+        others (ap (λ p. p .written) same, ap (λ p. p .more) same))
 
   -- It writes nothing: where zeros are lent, key 6 of pair 2 is missing.
   pub writing-nothing-fails : WritesNothing program → MeetsAt program (asked 2 start) (replicate 200 0) → ⊥

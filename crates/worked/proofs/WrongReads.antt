@@ -3,12 +3,18 @@ use Prim.Native.Nat.{ℕ, _≤_}
 use native.Mathlib.Omega.{arith}
 use mathlib.Core.Path.{_≡_, ap}
 use lib.ListN.{length, getD, replicate}
-use Rattle.block.specs.Read.{lengths}
+use Rattle.numbers.specs.Outcome.{given}
+use Rattle.numbers.proofs.Promises.{same-values}
+use Rattle.block.specs.Read.{SideLengths}
 use Rattle.worked.specs.Questions.{BlockAsked, TwoBuffers, readQuestion}
 use Rattle.worked.specs.Programs.{Program, MeetsAt, RefusesEverything, ConstantResult, WritesNothing}
 use Rattle.worked.specs.Example.{block-0, block-1}
 use Rattle.worked.proofs.Reading.{block-0-gives, block-1-gives}
 use Rattle.worked.proofs.Wrong as wrong
+
+-- two lengths
+abbrev lengths : ℕ → ℕ → SideLengths
+lengths left right = record { left = left; right = right }
 
 -- block 0 of the example, asked for by its place
 abbrev first : BlockAsked
@@ -27,21 +33,21 @@ module _ (program : Program readQuestion) where
     -- It refuses everything: block 0 has two sides.
     pub refusing-fails : RefusesEverything program → MeetsAt program first lent → ⊥
     refusing-fails = wrong.refusing-fails program (block-0-gives lent left-fits right-fits)
-        (λ n e. let z : _≡_ {A = ℕ} 0 1 = cc e in omega arith)
 
     -- It has a constant result: the right side of block 0 has two atoms, that of block 1 has one.
     pub constant-fails : ConstantResult program → MeetsAt program first lent → MeetsAt program second lent → ⊥
     constant-fails =
         wrong.constant-fails program (block-0-gives lent left-fits right-fits)
         (block-1-gives lent left-fits right-fits)
-        (λ e. let z : _≡_ {A = ℕ} 2 1 = cc e in omega arith)
+        (λ e. let z : _≡_ {A = ℕ} 2 1 = ap (λ l. l .right) (same-values e) in omega arith)
 
     -- It invents the lengths: both sides of block 0 have two atoms.
-    pub invented-lengths-fail : (m n : ℕ) → program first lent .outcome ≡ lengths m n
+    pub invented-lengths-fail : (m n : ℕ) → program first lent .outcome ≡ given (lengths m n)
         → ((m ≡ 2) × (n ≡ 2) → ⊥) → MeetsAt program first lent → ⊥
     invented-lengths-fail m n returns others =
         wrong.other-outcome-fails program (block-0-gives lent left-fits right-fits)
-        (λ e. let same : lengths m n ≡ lengths 2 2 = cc (e, returns) in others (cc same, cc same))
+        (λ e. let same : lengths m n ≡ lengths 2 2 = cc (e, returns) in
+        others (ap (λ l. l .left) same, ap (λ l. l .right) same))
 
   -- It writes nothing: where zeros are lent, v1 of block 0 is missing.
   pub writing-nothing-fails : WritesNothing program → MeetsAt program first zeros → ⊥

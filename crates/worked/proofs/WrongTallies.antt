@@ -6,10 +6,10 @@ use mathlib.Core.Bool.{Bool, false}
 use Rattle.numbers.specs.declared.Refusal.the-variants as refusal
 use Rattle.block.specs.declared.ReadAnswer.{ReadAnswer}
 use Rattle.block.specs.declared.ReadAnswer.the-variants.{Sides}
-use Rattle.solve.specs.declared.RowsAnswer.{RowsAnswer}
-use Rattle.solve.specs.declared.RowsAnswer.the-variants.{Groups}
-use Rattle.solver.specs.declared.PageAnswer.{PageAnswer}
-use Rattle.solver.specs.declared.PageAnswer.the-variants.{Page, Refused}
+use Rattle.solver.specs.declared.rows.RowsAnswer.{RowsAnswer}
+use Rattle.solver.specs.declared.rows.RowsAnswer.the-variants.{Groups}
+use Rattle.solver.specs.declared.page.PageAnswer.{PageAnswer}
+use Rattle.solver.specs.declared.page.PageAnswer.the-variants.{Page, Refused}
 use Rattle.tally.specs.Line.{told}
 use Rattle.tally.specs.Counts.{Tallies}
 use Rattle.tally.specs.declared.Line.the-variants.{Listed, NoUnifier}

@@ -10,62 +10,65 @@ use Rattle.ac.specs.Rows.{Group, Groups, GroupsOf}
 use Rattle.ac.specs.Keys.{layout, keys, start}
 use Rattle.ac.specs.Values.{Binding, laidOut}
 use Rattle.ac.specs.Worked.{Pair, pairs, Printed, rows, balanced-rows, rows-of, the-keys, substitutions}
-use Rattle.block.specs.Read.{lengths}
-use Rattle.solve.specs.Rows.{RowsOutcome, sizesOf, allRows, bytesOf}
-use Rattle.solver.specs.Page.{PageOutcome, refused, page}
-use Rattle.values.specs.Values.{written, valuesOf}
+use Rattle.numbers.specs.Numbers.{saidOf}
+use Rattle.numbers.specs.Outcome.{Outcome, refused, given}
+use Rattle.numbers.specs.declared.Refusal.the-variants.{NoUnifier}
+use Rattle.solver.specs.Rows.{GroupSizes, rowsBuffer, sizesOf, allRows, bytesOf}
+use Rattle.solver.specs.Page.{PageWritten}
+use Rattle.solver.specs.Values.{valuesBuffer, valuesOf}
 use Rattle.worked.specs.Questions.{Question, TwoBuffers, SidesAsked, readQuestion, rowsQuestion, pageQuestion, valuesQuestion}
 
 -- The one answer to what is asked: this outcome with these buffers at exit meets the promise, and whatever
 -- meets it is this.
-pub record Answers (Q : Question) (asked : Q .Asked) (lent : Q .Lent) (outcome : Q .Outcome)
+pub record Answers (Q : Question) (asked : Q .Asked) (lent : Q .Lent) (outcome : Outcome (Q .Values))
     (exit : Q .Lent) : Type 0 where
   pub meets : Q .Promise asked lent outcome exit
-  pub alone : (other : Q .Outcome) (other-exit : Q .Lent) → Q .Promise asked lent other other-exit
+  pub alone : (other : Outcome (Q .Values)) (other-exit : Q .Lent) → Q .Promise asked lent other other-exit
       → (other ≡ outcome) × (other-exit ≡ exit)
 
 -- the first page of a list that fits it: 13 where nothing is listed, else how many keys there are, and that
 -- no more follow
-abbrev pub firstPage : List ℕ → PageOutcome
-firstPage [] = refused 13
-firstPage (key ∷ keys) = page (length (key ∷ keys)) false
+abbrev pub firstPage : List ℕ → Outcome PageWritten
+firstPage [] = refused (saidOf NoUnifier)
+firstPage (key ∷ keys) = given (record { written = length (key ∷ keys); more = false })
 
 -- Read gives these sides of the block.
-abbrev pub ReadGives : List ℕ → ℕ → List ℕ → List ℕ → Type 0
-ReadGives block number left right = (lent : TwoBuffers) → 64 ≤ length (lent .left) → 64 ≤ length (lent .right)
+abbrev pub ReadAnswers : List ℕ → ℕ → List ℕ → List ℕ → Type 0
+ReadAnswers block number left right = (lent : TwoBuffers) → 64 ≤ length (lent .left) → 64 ≤ length (lent .right)
     → Answers readQuestion (record { block = block; number = number }) lent
-    (lengths (length left) (length right))
+    (given (record { left = length left; right = length right }))
     (record { left = receives (lent .left) left; right = receives (lent .right) right })
 
 module _ (L R : List ℕ) where
   -- Rows gives these sizes of the groups, and these rows.
-  abbrev pub RowsGives : RowsOutcome → List (List ℕ) → Type 0
-  RowsGives sizes vectors = (out : List ℕ) → 480 ≤ length out
-      → Answers rowsQuestion (record { left = L; right = R; also = tt }) out sizes (receives out (bytesOf vectors))
+  abbrev pub RowsAnswers : GroupSizes → List (List ℕ) → Type 0
+  RowsAnswers sizes vectors = (out : List ℕ) → rowsBuffer ≤ length out
+      → Answers rowsQuestion (record { left = L; right = R; also = tt }) out (given sizes)
+      (receives out (bytesOf vectors))
 
   -- Rows gives the sizes and rows of the groups of the pair, which are such.
   abbrev pub RowsGiveSuch : (Groups → Type 0) → Type 0
-  RowsGiveSuch Such = (G : Groups) × GroupsOf unifying L R G × Such G × RowsGives (sizesOf G) (allRows G)
+  RowsGiveSuch Such = (G : Groups) × GroupsOf unifying L R G × Such G × RowsAnswers (sizesOf G) (allRows G)
 
   -- Page from the start, where 0, meaning 200, are wanted, gives all these keys at once, or 13 where there
   -- are none.
-  abbrev pub PageGives : List ℕ → Type 0
-  PageGives keys = (out : List ℕ) → 200 ≤ length out
+  abbrev pub PageAnswers : List ℕ → Type 0
+  PageAnswers keys = (out : List ℕ) → 200 ≤ length out
       → Answers pageQuestion (record { left = L; right = R; also = record { begin = start; wanted = 0 } }) out
       (firstPage keys)
       (receives out keys)
 
   -- Values gives these bytes of the key.
-  abbrev pub ValuesGives : ℕ → List ℕ → Type 0
-  ValuesGives key bytes = (out : List ℕ) → 1212 ≤ length out
-      → Answers valuesQuestion (record { left = L; right = R; also = key }) out (written (length bytes))
+  abbrev pub ValuesAnswers : ℕ → List ℕ → Type 0
+  ValuesAnswers key bytes = (out : List ℕ) → valuesBuffer ≤ length out
+      → Answers valuesQuestion (record { left = L; right = R; also = key }) out (given (length bytes))
       (receives out bytes)
 
   -- Of each key in turn Values gives the values of these variables.
   pub data ValuesGiveInTurn : List ℕ → List (List Binding) → Type 0 where
     none : ValuesGiveInTurn [] []
     next : {key : ℕ} {keys : List ℕ} {valued : List Binding} {others : List (List Binding)}
-        → ValuesGives key (laidOut valued) → ValuesGiveInTurn keys others
+        → ValuesAnswers key (laidOut valued) → ValuesGiveInTurn keys others
         → ValuesGiveInTurn (key ∷ keys) (valued ∷ others)
 
   -- The questions answer what the document prints.
@@ -74,16 +77,16 @@ module _ (L R : List ℕ) where
   AnswersPrinted (balanced-rows k) = RowsGiveSuch (λ G. length (G .balanced) ≡ k)
   AnswersPrinted (rows-of a k) =
       RowsGiveSuch (λ G. (g : Group) × List·Memᴰ g (G .constants) × (g .constant ≡ a) × (length (g .rows) ≡ k))
-  AnswersPrinted (the-keys ks) = PageGives ks
-  AnswersPrinted (substitutions vs) = (ks : List ℕ) × PageGives ks × ValuesGiveInTurn ks vs
+  AnswersPrinted (the-keys ks) = PageAnswers ks
+  AnswersPrinted (substitutions vs) = (ks : List ℕ) × PageAnswers ks × ValuesGiveInTurn ks vs
 
   -- Printed or not, they answer by the groups of the pair: their rows, their list, and of each key on it the
   -- values.
   pub record AnswersBy (G : Groups) : Type 0 where
-    pub the-rows : RowsGives (sizesOf G) (allRows G)
-    pub the-list : PageGives (keys unifying layout L R G)
+    pub the-rows : RowsAnswers (sizesOf G) (allRows G)
+    pub the-list : PageAnswers (keys unifying layout L R G)
     pub the-values : (key : ℕ) → List·Memᴰ key (keys unifying layout L R G)
-        → ValuesGives key (valuesOf unifying L R G key)
+        → ValuesAnswers key (valuesOf unifying L R G key)
 
 -- What is shown of a pair of the table.
 pub record Worked (pair : Pair) : Type 0 where

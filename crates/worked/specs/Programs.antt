@@ -3,12 +3,14 @@
 use Prim.Native.Nat.{ℕ}
 use mathlib.Core.Path.{_≡_}
 use Rattle.ac.specs.Keys.{after}
-use Rattle.solver.specs.Page.{refused}
+use Rattle.numbers.specs.Numbers.{saidOf}
+use Rattle.numbers.specs.Outcome.{Said, Outcome, refused}
+use Rattle.numbers.specs.declared.Refusal.the-variants.{LastKey}
 use Rattle.worked.specs.Questions.{Question, pageQuestion}
 
 -- what a program returns, and what it leaves in the lent buffers
 pub record Result (Q : Question) : Type 0 where
-  pub outcome : Q .Outcome
+  pub outcome : Outcome (Q .Values)
   pub exit : Q .Lent
 
 -- any program for a question, as a function of what is asked and lent
@@ -22,7 +24,7 @@ module _ {Q : Question} (program : Program Q) where
 
   -- a program that refuses everything, with whatever numbers
   abbrev pub RefusesEverything : Type 0
-  RefusesEverything = (asked : Q .Asked) (lent : Q .Lent) → (n : ℕ) × (program asked lent .outcome ≡ Q .refused n)
+  RefusesEverything = (asked : Q .Asked) (lent : Q .Lent) → (said : Said) × (program asked lent .outcome ≡ refused said)
 
   -- one with a constant result, whatever it is
   abbrev pub ConstantResult : Type 0
@@ -37,4 +39,4 @@ module _ {Q : Question} (program : Program Q) where
 abbrev pub ThenFifteen : Program pageQuestion → Type 0
 ThenFifteen program =
     (asked : pageQuestion .Asked) (lent : pageQuestion .Lent) (key : ℕ) → asked .also .begin ≡ after key
-    → program asked lent .outcome ≡ refused 15
+    → program asked lent .outcome ≡ refused (saidOf LastKey)

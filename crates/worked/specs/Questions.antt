@@ -3,25 +3,21 @@ use Prim.Native.Nat.{ℕ}
 use mathlib.Core.List.{List}
 use Rattle.ac.specs.Pair.{unifying}
 use Rattle.ac.specs.Keys.{Begin}
-use Rattle.block.specs.Read.{ReadOutcome, ReadPromise}
-use Rattle.block.specs.Read as read
-use Rattle.solve.specs.Rows.{RowsPromise}
-use Rattle.solve.specs.Rows as rows
-use Rattle.solver.specs.Page.{PagePromise}
-use Rattle.solver.specs.Page as page
-use Rattle.values.specs.Values.{ValuesPromise}
-use Rattle.values.specs.Values as values
+use Rattle.numbers.specs.Outcome.{Outcome}
+use Rattle.block.specs.Read.{SideLengths, ReadPromise}
+use Rattle.solver.specs.Rows.{GroupSizes, RowsPromise}
+use Rattle.solver.specs.Page.{PageWritten, PagePromise}
+use Rattle.solver.specs.Values.{ValuesPromise}
 
 -- a question: what is asked of it, what it is lent, what it comes to, and what it promises of that
 pub record Question : Type 1 where
   pub Asked : Type 0
   -- the lent buffers
   pub Lent : Type 0
-  pub Outcome : Type 0
-  -- the outcome that is a number of the table
-  pub refused : ℕ → Outcome
+  -- what it returns
+  pub Values : Type 0
   -- what is promised of the outcome and of the lent buffers at exit
-  pub Promise : Asked → Lent → Outcome → Lent → Type 0
+  pub Promise : Asked → Lent → Outcome Values → Lent → Type 0
 
 -- Read: a block and an expected number; two lent buffers
 pub record BlockAsked : Type 0 where
@@ -39,8 +35,7 @@ readQuestion =
     record {
       Asked = BlockAsked;
       Lent = TwoBuffers;
-      Outcome = ReadOutcome;
-      refused = read.refused;
+      Values = SideLengths;
       Promise = λ asked lent outcome exit.
           ReadPromise (asked .block) (asked .number) (lent .left) (lent .right) outcome (exit .left) (exit .right);
     }
@@ -52,20 +47,19 @@ pub record SidesAsked (Also : Type 0) : Type 0 where
   pub also : Also
 
 -- a question of two sides, with one lent buffer
-abbrev ofSides : (Also : Type 0) {Outcome : Type 0} → (ℕ → Outcome)
-    → (List ℕ → List ℕ → Also → List ℕ → Outcome → List ℕ → Type 0) → Question
-ofSides Also {Outcome} refused Promise =
+abbrev ofSides : (Also Values : Type 0)
+    → (List ℕ → List ℕ → Also → List ℕ → Outcome Values → List ℕ → Type 0) → Question
+ofSides Also Values Promise =
     record {
       Asked = SidesAsked Also;
       Lent = List ℕ;
-      Outcome = Outcome;
-      refused = refused;
+      Values = Values;
       Promise = λ asked. Promise (asked .left) (asked .right) (asked .also);
     }
 
 -- Rows: two sides, and nothing else
 abbrev pub rowsQuestion : Question
-rowsQuestion = ofSides (Unit {0}) rows.refused (λ L R nothing. RowsPromise unifying L R)
+rowsQuestion = ofSides (Unit {0}) GroupSizes (λ L R nothing. RowsPromise unifying L R)
 
 -- Page: and a request made of where to begin and how many are wanted
 pub record Request : Type 0 where
@@ -75,8 +69,8 @@ pub record Request : Type 0 where
 -- Page
 abbrev pub pageQuestion : Question
 pageQuestion =
-    ofSides Request page.refused (λ L R request. PagePromise unifying L R (request .begin) (request .wanted))
+    ofSides Request PageWritten (λ L R request. PagePromise unifying L R (request .begin) (request .wanted))
 
 -- Values: and a key
 abbrev pub valuesQuestion : Question
-valuesQuestion = ofSides ℕ values.refused (λ L R key. ValuesPromise unifying L R key)
+valuesQuestion = ofSides ℕ ℕ (λ L R key. ValuesPromise unifying L R key)

@@ -18,15 +18,15 @@ lengths :
     (c .before .header2 .given .0 .1 .0)
 lengths c = when-lengths (c .before .before .before .read-header .ensures) (c .before .header2 .given .1)
 
-lesser-requires : tie.Need-lesser-requires
-lesser-requires c κs = search needs
+least-requires : tie.Need-least-requires
+least-requires c κs = search needs
 
 returns : tie.Need-returns
-returns c = short-buffer-first (omega (arith, c .before .lesser .ensures, c .if1 .taken))
+returns c = short-buffer-first (omega (arith, c .before .least .ensures, c .if1 .taken))
 
 returns-2 : tie.Need-returns-2
 returns-2 c =
-    let room = c .before .before .lesser .ensures in
+    let room = c .before .before .least .ensures in
     promised-refusal (omega (arith, room, c .before .if1 .left)) (omega (arith, room, c .before .if1 .left))
     (block-length-first (c .if2 .taken))
 
@@ -43,12 +43,12 @@ read-terms-requires : tie.Need-read-terms-requires
 read-terms-requires c κs =
     let at-lengths = c .before .before in
     let at-test = at-lengths .before .before .before .before .before in
-    (terms-fit (lengths at-lengths), omega (arith, at-test .before .lesser .ensures, at-test .if1 .left))
+    (terms-fit (lengths at-lengths), omega (arith, at-test .before .least .ensures, at-test .if1 .left))
 
 returns-3 : tie.Need-returns-3
 returns-3 c =
     let at-test = c .before .before .before .before .before in
-    let room = at-test .before .lesser .ensures in
+    let room = at-test .before .least .ensures in
     promised-refusal (omega (arith, room, at-test .if1 .left)) (omega (arith, room, at-test .if1 .left))
     (when-refused (c .before .before .before .read-header .ensures) (c .before .header .given .1))
 
@@ -67,7 +67,7 @@ pub read-spec : {M : Type 1} → statement M
 read-spec =
     tie.close
     (tie.spec
-    lesser-requires
+    least-requires
     returns
     returns-2
     read-header-requires

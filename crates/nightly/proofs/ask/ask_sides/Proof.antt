@@ -4,8 +4,8 @@ use native.Mathlib.Omega.{arith}
 use mathlib.Core.Path.{_≡_, refl}
 use Prim.Native.Nat.{ℕ}
 use Rattle.solver.specs.Page.{is-refused}
-use Rattle.solver.proofs.Given.{first-of-sides}
-use Rattle.solve.proofs.Answering.{sides-refused}
+use Rattle.solver.proofs.PageGiven.{first-of-sides}
+use Rattle.solver.proofs.RowsPromise.{sides-refused}
 use borrow.Author.Needs.{needs}
 use Rattle.nightly.proofs.ask.ask_sides.Statement.{statement}
 use Rattle.nightly.proofs.ask.ask_sides.Tie as tie

@@ -8,7 +8,7 @@ use lib.ListN.{length, length-take}
 use native.Mathlib.Omega.{arith}
 use mathlib.Core.Path.{_≡_, sym, ap, _∙_}
 use lib.Seq.{length-take-le}
-use Rattle.values.specs.Values.{told}
+use Rattle.solver.specs.Values.{told}
 use Rattle.nightly.specs.Printed.{KeyLine}
 use Rattle.nightly.proofs.KeyLines.{refused-is-long, written-values}
 use borrow.Author.Needs.{needs}

@@ -1,0 +1,82 @@
+-- Laws of "some number below n passes" and "every number below n passes".
+use Prim.Native.Nat.{ℕ, zero, suc, _+_, _<_, _≤_}
+use native.Mathlib.Omega.{arith}
+use native.Mathlib.Numerals.{add-one}
+use native.Mathlib.Decide.{decLt}
+use mathlib.Core.Path.{_≡_, refl, sym, _∙_, ap, ap₂, subst}
+use mathlib.Core.Bool.{Bool, true, false, _||_, _&&_, false≢true}
+use borrow.Author.Tests.{lt-ltb, le-ltb}
+use lib.Dec.{ltb}
+use Rattle.list.specs.Reach.{any, all}
+
+-- whatever stands before it, a truth makes the disjunction true
+pub or-true : (b : Bool) → (b || true) ≡ true
+or-true true = refl
+or-true false = refl
+
+-- a conjunction is false where one of the two is
+pub and-left-false : {a : Bool} (b : Bool) → a ≡ false → (a && b) ≡ false
+and-left-false b e = ap (λ a. a && b) e
+
+pub and-right-false : (a : Bool) {b : Bool} → b ≡ false → (a && b) ≡ false
+and-right-false true e = e
+and-right-false false e = refl
+
+-- one that passes is enough
+pub any-found : (n i : ℕ) (test : ℕ → Bool) → i < n → test i ≡ true → any n test ≡ true
+any-found zero i test h e = absurd (omega arith)
+any-found (suc n) i test h e = go (decLt i n) (λ g. any-found n i test g e)
+  where
+    go : Dec (i < n) → (i < n → any n test ≡ true) → any (suc n) test ≡ true
+    go (yes g) rec = ap (λ b. b || test n) (rec g)
+    go (no g) rec =
+        let same : i ≡ n = omega arith in
+        ap (λ b. any n test || b) (subst (λ k. test k ≡ true) same e) ∙ or-true (any n test)
+
+-- where none passed so far and this one does not, none passed with this one
+pub any-more : (i : ℕ) (test : ℕ → Bool) → any i test ≡ false → test i ≡ false → any (i + 1) test ≡ false
+any-more i test e f = ap (λ n. any n test) (add-one i) ∙ ap₂ (λ a b. a || b) e f
+
+-- so with the test whether a number's value is above a bound
+module _ {bound : ℕ} (value : ℕ → ℕ) where
+  pub any-above : (n : ℕ) {i v : ℕ} → i < n → v ≡ value i → bound < v → any n (λ j. ltb bound (value j)) ≡ true
+  any-above n {i} h e above =
+      any-found n i (λ j. ltb bound (value j)) h (lt-ltb bound (value i) (subst (λ (k : ℕ). bound < k) e above))
+
+  pub none-above : {i v : ℕ} → any i (λ j. ltb bound (value j)) ≡ false → v ≡ value i → v ≤ bound
+      → any (i + 1) (λ j. ltb bound (value j)) ≡ false
+  none-above {i} none e below =
+      any-more i (λ j. ltb bound (value j)) none (le-ltb bound (value i) (subst (λ (k : ℕ). k ≤ bound) e below))
+
+  pub not-above : (n : ℕ) {i : ℕ} → any n (λ j. ltb bound (value j)) ≡ false → i < n → value i ≤ bound
+  not-above n {i} none h = go (decLt bound (value i))
+    where
+      go : Dec (bound < value i) → value i ≤ bound
+      go (yes above) = absurd (false≢true (sym none ∙ any-above n h refl above))
+      go (no below) = omega arith
+
+-- where one passes, there is one that does
+pub any-some : (n : ℕ) (test : ℕ → Bool) → any n test ≡ true → (i : ℕ) × (i < n) × (test i ≡ true)
+any-some zero test e = absurd (false≢true e)
+any-some (suc n) test e = go (any n test) refl (test n) refl (any-some n test)
+  where
+    go : (a : Bool) → any n test ≡ a → (b : Bool) → test n ≡ b
+        → (any n test ≡ true → (i : ℕ) × (i < n) × (test i ≡ true))
+        → (i : ℕ) × (i < suc n) × (test i ≡ true)
+    go true p b q rec = let r = rec p in (r .0, omega (arith, r .1), r .2)
+    go false p true q rec = (n, omega arith, q)
+    go false p false q rec = absurd (false≢true (sym (ap (λ a. a || test n) p ∙ q) ∙ e))
+
+-- where all passed so far and this one does, all passed with this one; one that does not is enough against all
+pub all-more : (i : ℕ) (test : ℕ → Bool) → all i test ≡ true → test i ≡ true → all (i + 1) test ≡ true
+all-more i test e f = ap (λ n. all n test) (add-one i) ∙ ap₂ (λ a b. a && b) e f
+
+pub all-missed : (n i : ℕ) (test : ℕ → Bool) → i < n → test i ≡ false → all n test ≡ false
+all-missed zero i test h e = absurd (omega arith)
+all-missed (suc n) i test h e = go (decLt i n) (λ g. all-missed n i test g e)
+  where
+    go : Dec (i < n) → (i < n → all n test ≡ false) → all (suc n) test ≡ false
+    go (yes g) rec = and-left-false (test n) (rec g)
+    go (no g) rec =
+        let same : i ≡ n = omega arith in
+        and-right-false (all n test) (subst (λ k. test k ≡ false) same e)

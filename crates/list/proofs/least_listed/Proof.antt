@@ -1,0 +1,129 @@
+-- `list::least_listed` meets its contract. The invariant: no listed key stands from `from` to before the
+-- number that the walk has come to. The measure is what is left of the keys.
+use Prim.Native.Nat.{_-_, _^_}
+use native.Mathlib.Omega.{arith}
+use native.Mathlib.Nat.{le-refl}
+use mathlib.Core.Path.{refl, sym, subst}
+use borrow.Author.Needs.{needs}
+use lib.Bits.{and-mask, mask-lt}
+use Rattle.list.proofs.Candidates.{below-block-end}
+use Rattle.list.proofs.Walk.{Walked, passed-none, step-between, step-over, step-found, step-end}
+use Rattle.list.proofs.least_listed.Statement.{statement}
+use Rattle.list.proofs.least_listed.Tie as tie
+
+abbrev Inv-loop : tie.InvT-loop
+Inv-loop from table at₀ at = Walked table from at
+
+abbrev μ-loop : tie.MeasureT-loop
+μ-loop from table at₀ at = 2 ^ 32 - at
+
+loop-holds : tie.Need-loop-holds Inv-loop μ-loop
+loop-holds c = record { above = le-refl _; passed = passed-none _ _ }
+
+cast-key : tie.Need-cast-key Inv-loop μ-loop
+cast-key c = omega arith
+
+stands-requires : tie.Need-stands-requires Inv-loop μ-loop
+stands-requires c κs =
+    let fit = c .before .before .before .before .pre in
+    (fit .constants-fit, fit .sizes-fit 0)
+
+enum-known-standing : tie.Need-enum-known-standing Inv-loop μ-loop
+enum-known-standing c = search needs
+
+loop-less : tie.Need-loop-less Inv-loop μ-loop
+loop-less c =
+    let stood = c .before .before .before in
+    let turn = stood .before .before .before in
+    omega (
+      arith,
+      step-between (turn .before .before .pre) (turn .before .loop .inv) (stood .stands .ensures)
+          (c .before .standing .given .1) .0,
+      turn .loop-test .taken,
+    )
+
+loop-again : tie.Need-loop-again Inv-loop μ-loop
+loop-again c =
+    let stood = c .before .before .before in
+    let turn = stood .before .before .before in
+    step-between (turn .before .before .pre) (turn .before .loop .inv) (stood .stands .ensures)
+    (c .before .standing .given .1) .1
+
+enum-told : tie.Need-enum-told Inv-loop μ-loop
+enum-told c = search needs
+
+cast-least-of-tuple : tie.Need-cast-least-of-tuple Inv-loop μ-loop
+cast-least-of-tuple c = search needs
+
+shr-least-of-tuple : tie.Need-shr-least-of-tuple Inv-loop μ-loop
+shr-least-of-tuple c = search needs
+
+least-of-tuple-requires : tie.Need-least-of-tuple-requires Inv-loop μ-loop
+least-of-tuple-requires c κs =
+    let turn = c .before .before .before .before .before in (
+      c .before .before .before .before .before .before .before .pre,
+      omega (arith, turn .loop-test .taken),
+      mask-lt (turn .before .loop .at) 16,
+    )
+
+enum-known-least : tie.Need-enum-known-least Inv-loop μ-loop
+enum-known-least c = search needs
+
+returns : tie.Need-returns Inv-loop μ-loop
+returns c =
+    let candidate = c .before .before .before .before in
+    let stood = candidate .before .before in
+    let turn = stood .before .before .before in
+    step-found (turn .before .before .pre) (turn .before .loop .inv) (stood .stands .ensures)
+    (candidate .enum-told .given .1) refl
+    (and-mask (turn .before .loop .at) 16) (c .before .before .before .least-of-tuple .ensures)
+    (c .before .least .given .1)
+
+enum-told-2 : tie.Need-enum-told-2 Inv-loop μ-loop
+enum-told-2 c = search needs
+
+block-end-requires : tie.Need-block-end-requires Inv-loop μ-loop
+block-end-requires c κs = omega arith
+
+loop-less-2 : tie.Need-loop-less-2 Inv-loop μ-loop
+loop-less-2 c =
+    let turn = c .before .before .before .before .before .before .before .before .before in
+    omega (arith, c .block-end .ensures, below-block-end (turn .before .loop .at) 16, turn .loop-test .taken)
+
+loop-again-2 : tie.Need-loop-again-2 Inv-loop μ-loop
+loop-again-2 c =
+    let candidate = c .before .before .before .before in
+    let stood = candidate .before .before in
+    let turn = stood .before .before .before in
+    subst (Walked _ _) (sym (c .block-end .ensures))
+    (step-over (turn .before .before .pre) (turn .before .loop .inv) (stood .stands .ensures)
+    (candidate .enum-told .given .1) refl
+    (and-mask (turn .before .loop .at) 16) (c .before .before .before .least-of-tuple .ensures)
+    (c .before .enum-told2 .given .1))
+
+returns-2 : tie.Need-returns-2 Inv-loop μ-loop
+returns-2 c = step-end (c .before .loop .inv) (c .loop-test .left)
+
+pub least-listed-spec : {M : Type 1} → statement M
+least-listed-spec =
+    tie.close
+    (tie.spec
+    Inv-loop
+    μ-loop
+    loop-holds
+    cast-key
+    stands-requires
+    enum-known-standing
+    loop-less
+    loop-again
+    enum-told
+    cast-least-of-tuple
+    shr-least-of-tuple
+    least-of-tuple-requires
+    enum-known-least
+    returns
+    enum-told-2
+    block-end-requires
+    loop-less-2
+    loop-again-2
+    returns-2)

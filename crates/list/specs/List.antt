@@ -1,0 +1,38 @@
+-- The list of the pair that a table is of, the next key on it, and whether a key is on it.
+use Prim.Native.Nat.{ℕ}
+use mathlib.Core.Path.{_≡_}
+use mathlib.Core.Bool.{false}
+use mathlib.Core.List.{List, [], _∷_, List·Memᴰ}
+use Rattle.ac.specs.Pair.{Mode}
+use Rattle.ac.specs.Keys.{layout, keys, after}
+use Rattle.ac.specs.Pages.{LeastFrom, NoneFrom}
+use Rattle.numbers.specs.Numbers.{numberOf}
+use Rattle.numbers.specs.Order.{keyNumbers}
+use Rattle.numbers.specs.First.{First}
+use Rattle.numbers.specs.declared.Refusal.{Refusal}
+use Rattle.table.specs.Table.{TableOf, groupsIn}
+use Rattle.table.specs.declared.Table.{Table}
+use Rattle.list.specs.Given.{ListGiven}
+use Rattle.list.specs.declared.Next.{Next}
+use Rattle.list.specs.declared.Next.the-variants.{Key, None}
+use Rattle.list.specs.declared.Found.{Found}
+use Rattle.list.specs.declared.Found.the-variants.{Listed, Refused}
+
+-- It is so of every pair that the table is of, in a mode in which no variable may be empty; it is so of the
+-- list of every such pair.
+abbrev pub OfItsPair : Table → (Mode → List ℕ → List ℕ → Type 0) → Type 0
+OfItsPair table So = (M : Mode) (L R : List ℕ) → M .empties ≡ false → TableOf M L R table → So M L R
+
+abbrev pub OfItsList : Table → (List ℕ → Type 0) → Type 0
+OfItsList table So = OfItsPair table (λ M L R. So (keys M layout L R (groupsIn table)))
+
+-- the least key of the list from a number on, or that the list has none
+pub data NextFrom (keys : List ℕ) (from : ℕ) : Next → Type 0 where
+  found : {key : ℕ} → LeastFrom keys from key → NextFrom keys from (Key key)
+  nothing : NoneFrom keys from → NextFrom keys from None
+
+-- that the key is on the list, or 13 or 14
+pub data FoundOf (listed : List ℕ) (key : ℕ) : Found → Type 0 where
+  is-listed : List·Memᴰ key listed → FoundOf listed key Listed
+  is-refused : {why : Refusal} → First (ListGiven listed (after key)) keyNumbers (numberOf why)
+      → FoundOf listed key (Refused why)

@@ -1,0 +1,53 @@
+-- Which numbers a question gives, and in which order (document 01, "Numbers given in place of a result"):
+-- "Order: 16 first, then by number. Read gives 1 to 6 and 16; Rows 7 to 12 and 16; Page 7 to 16; Values 7 to
+-- 14, 16 and 17. None is given otherwise."
+use Prim.Native.Nat.{ℕ}
+use mathlib.Core.List.{List, [], _∷_, _++_}
+
+-- the numbers that a block decides, whatever is lent
+abbrev pub blockNumbers : List ℕ
+blockNumbers = 1 ∷ 2 ∷ 3 ∷ 4 ∷ 5 ∷ 6 ∷ []
+
+-- the numbers that the two sides decide: those that are settled before their atoms are counted, ..
+abbrev pub uncountedNumbers : List ℕ
+uncountedNumbers = 7 ∷ 8 ∷ []
+
+-- .. those that the counts settle, ..
+abbrev pub countedNumbers : List ℕ
+countedNumbers = 9 ∷ 10 ∷ 11 ∷ []
+
+-- .. and the one that the rows settle
+abbrev pub rowLimitNumbers : List ℕ
+rowLimitNumbers = 12 ∷ []
+
+-- the numbers that are settled before there are rows
+abbrev pub partingNumbers : List ℕ
+partingNumbers = uncountedNumbers ++ countedNumbers
+
+-- all numbers that the two sides decide
+abbrev pub sidesNumbers : List ℕ
+sidesNumbers = partingNumbers ++ rowLimitNumbers
+
+-- the numbers that the list decides for a key, and for a beginning
+abbrev pub keyNumbers : List ℕ
+keyNumbers = 13 ∷ 14 ∷ []
+
+abbrev pub beginningNumbers : List ℕ
+beginningNumbers = keyNumbers ++ (15 ∷ [])
+
+-- the number that the values of a key decide
+abbrev pub lengthNumbers : List ℕ
+lengthNumbers = 17 ∷ []
+
+-- the questions' numbers, in order
+abbrev pub readNumbers : List ℕ
+readNumbers = 16 ∷ blockNumbers
+
+abbrev pub rowsNumbers : List ℕ
+rowsNumbers = 16 ∷ sidesNumbers
+
+abbrev pub pageNumbers : List ℕ
+pageNumbers = 16 ∷ (sidesNumbers ++ beginningNumbers)
+
+abbrev pub valuesNumbers : List ℕ
+valuesNumbers = 16 ∷ (sidesNumbers ++ (keyNumbers ++ lengthNumbers))

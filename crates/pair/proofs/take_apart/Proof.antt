@@ -1,0 +1,111 @@
+-- `pair::take_apart` meets its contract: two flags tell whether 7 and 8 are given; where neither is, the
+-- counts settle the rest. Assumes nothing.
+use mathlib.Core.Bool.{_||_}
+use mathlib.Core.List.{List}
+use Prim.Native.Nat.{ℕ}
+use denote.Ref.{now}
+use Rattle.ac.specs.Pair.{unifying}
+use Rattle.numbers.specs.First.{here, later, also, end}
+use Rattle.numbers.proofs.Verdicts.{decides-refused, decides-after}
+use Rattle.ac.specs.Limits.{limits}
+use Rattle.pair.specs.Given.{PairGiven, side-length, no-atom, left, right}
+use Rattle.numbers.specs.Tells.{Tells}
+use Rattle.pair.proofs.Parting.{tells-7, tells-8}
+use Rattle.pair.proofs.take_apart.Statement.{statement}
+use Rattle.pair.proofs.take_apart.Tie as tie
+
+-- the sides, and what the flags tell of them, where both are made
+abbrev L : tie.After-wrong-byte2 → List ℕ
+L c = now (c .before .before .before .before .before .before .args .left)
+
+abbrev R : tie.After-wrong-byte2 → List ℕ
+R c = now (c .before .before .before .before .before .before .args .right)
+
+seven : (c : tie.After-wrong-byte2)
+    → Tells (PairGiven limits unifying (L c) (R c) 7)
+    (c .before .before .before .wrong-length .result || c .before .before .wrong-length2 .result)
+seven c = tells-7 (c .before .before .before .wrong-length .ensures) (c .before .before .wrong-length2 .ensures)
+
+eight : (c : tie.After-wrong-byte2)
+    → Tells (PairGiven limits unifying (L c) (R c) 8) (c .before .wrong-byte .result || c .wrong-byte2 .result)
+eight c = tells-8 (c .before .wrong-byte .ensures) (c .wrong-byte2 .ensures)
+
+-- where neither is set
+not7 : (c : tie.Else2) → PairGiven limits unifying (L (c .before .before)) (R (c .before .before)) 7 → ⊥
+not7 c = seven (c .before .before) .if-false (c .before .if1 .left)
+
+not8 : (c : tie.Else2) → PairGiven limits unifying (L (c .before .before)) (R (c .before .before)) 8 → ⊥
+not8 c = eight (c .before .before) .if-false (c .if2 .left)
+
+wrong-length-requires : tie.Need-wrong-length-requires
+wrong-length-requires c κs = tt
+
+wrong-length-requires-2 : tie.Need-wrong-length-requires-2
+wrong-length-requires-2 c κs = tt
+
+wrong-byte-requires : tie.Need-wrong-byte-requires
+wrong-byte-requires c κs = tt
+
+wrong-byte-requires-2 : tie.Need-wrong-byte-requires-2
+wrong-byte-requires-2 c κs = tt
+
+refused-requires : tie.Need-refused-requires
+refused-requires c κs = tt
+
+returns : tie.Need-returns
+returns c = decides-refused (c .refused .ensures) (here (seven (c .before .before) .if-true (c .before .if1 .taken)))
+
+refused-requires-2 : tie.Need-refused-requires-2
+refused-requires-2 c κs = tt
+
+returns-2 : tie.Need-returns-2
+returns-2 c =
+    let made = c .before .before .before in
+    decides-refused (c .refused2 .ensures)
+    (later (seven made .if-false (c .before .before .if1 .left))
+    (here (eight made .if-true (c .before .if2 .taken))))
+
+moving-variables-requires : tie.Need-moving-variables-requires
+moving-variables-requires c κs = tt
+
+occurrences-requires : tie.Need-occurrences-requires
+occurrences-requires c κs =
+    (λ wrong. not7 (c .before) (side-length left wrong), λ wrong. not8 (c .before) (no-atom left wrong))
+
+occurrences-requires-2 : tie.Need-occurrences-requires-2
+occurrences-requires-2 c κs = (
+  λ wrong. not7 (c .before .before) (side-length right wrong),
+  λ wrong. not8 (c .before .before) (no-atom right wrong),
+)
+
+part-requires : tie.Need-part-requires
+part-requires c κs = tt
+
+returns-3 : tie.Need-returns-3
+returns-3 c =
+    let settled = c .before .before .before .before in
+    let made = settled .before .before in
+    decides-after (also (not7 settled) (also (not8 settled) end))
+    (c .part .ensures unifying (L made) (R made) (record {
+      moves = c .before .before .before .moving-variables .ensures;
+      on-left = c .before .before .occurrences .ensures;
+      on-right = c .before .occurrences2 .ensures;
+    }))
+
+pub take-apart-spec : {M : Type 1} → statement M
+take-apart-spec =
+    tie.close
+    (tie.spec
+    wrong-length-requires
+    wrong-length-requires-2
+    wrong-byte-requires
+    wrong-byte-requires-2
+    refused-requires
+    returns
+    refused-requires-2
+    returns-2
+    moving-variables-requires
+    occurrences-requires
+    occurrences-requires-2
+    part-requires
+    returns-3)

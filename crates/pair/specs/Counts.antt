@@ -1,0 +1,31 @@
+-- What is counted of two sides: "for an atom, its net count is its occurrences on the left minus those on the
+-- right" (document 01, "From sides to equations"). Each table has a place for each atom.
+use Prim.Native.Nat.{ℕ}
+use mathlib.Core.Path.{_≡_}
+use mathlib.Core.Bool.{Bool, false}
+use mathlib.Core.List.{List}
+use lib.ListN.{length, getD}
+use Rattle.ac.specs.Pair.{Mode, atoms, count}
+use Rattle.ac.specs.Limits.{limits}
+use Rattle.numbers.specs.Tells.{Tells}
+use Rattle.pair.specs.Given.{PairGiven}
+use Rattle.pair.specs.declared.counting.AtomCounts.{AtomCounts}
+
+-- the table has the occurrences of each atom on the side
+pub record Occurrences (side table : List ℕ) : Type 0 where
+  pub places : length table ≡ length atoms
+  pub entries : (atom : ℕ) → getD table atom 0 ≡ count atom side
+
+-- the table says of each atom whether it moves
+abbrev pub Moves : Mode → List Bool → Type 0
+Moves M table = (atom : ℕ) → getD table atom false ≡ M .moves atom
+
+-- the tables are those of the sides
+pub record CountsOf (M : Mode) (L R : List ℕ) (counts : AtomCounts) : Type 0 where
+  pub moves : Moves M (counts .moving)
+  pub on-left : Occurrences L (counts .left)
+  pub on-right : Occurrences R (counts .right)
+
+-- it says whether number 10 is given of the sides whose atoms were counted: a net count further than 8 from 0
+abbrev pub TellsFar : AtomCounts → Bool → Type 0
+TellsFar counts told = (M : Mode) (L R : List ℕ) → CountsOf M L R counts → Tells (PairGiven limits M L R 10) told

@@ -1,0 +1,4 @@
+pub mod Given
+pub mod Counts
+pub mod Gathered
+pub mod Parted

@@ -1,0 +1,110 @@
+// Two flattened sides taken apart (document 01, "From sides to equations"): the pair's variables, its
+// unbalanced constants and the two parts of each net count, or the first of the numbers 7 to 11 that is
+// given.
+mod counting;
+mod gathering;
+mod limits;
+
+use counting::AtomCounts;
+use gathering::AtomKind;
+use numbers::Refusal;
+use numbers::Verdict;
+use numbers::limits::CONSTANTS;
+use numbers::limits::VARIABLES;
+ghost use mathlib.Core.Path.{_≡_};
+ghost use Rattle.ac.specs.Pair.{unifying};
+ghost use Rattle.pair.specs.Parted.{TakesApart, Parts};
+
+// The distinct variables of a pair or its unbalanced constants, ascending, and how many they are; for each
+// the two parts of its net count: by how much its occurrences on the left exceed those on the right, and the
+// other way round. Unused places are 0.
+pub struct Gathered {
+    pub atoms: [u8; VARIABLES],
+    pub count: usize,
+    pub left: [u8; VARIABLES],
+    pub right: [u8; VARIABLES],
+}
+
+// A pair taken apart.
+pub struct Pair {
+    pub variables: Gathered,
+    pub constants: Gathered,
+}
+
+// What taking apart gives. The pair says something only where the sides are accepted.
+pub struct Parted {
+    pub verdict: Verdict,
+    pub pair: Pair,
+}
+
+// A refusal, with a pair that says nothing.
+fn refused(refusal: Refusal) -> Parted
+    ensures { λ r. ⌜ r .verdict ≡ Verdict.Refused refusal ⌝ }
+{
+    let nothing = Gathered {
+        atoms: [0; VARIABLES],
+        count: 0,
+        left: [0; VARIABLES],
+        right: [0; VARIABLES],
+    };
+    let pair = Pair {
+        variables: nothing,
+        constants: nothing,
+    };
+    Parted {
+        verdict: Verdict::Refused(refusal),
+        pair: pair,
+    }
+}
+
+// The pair that has these counts, or the first of the numbers 9, 10 and 11 that is given.
+fn part(counts: AtomCounts) -> Parted
+    ensures { λ r. ⌜ Parts counts r ⌝ }
+{
+    let variables = gathering::gather(AtomKind::Variable, counts);
+    let constants = gathering::gather(AtomKind::Constant, counts);
+    let many_variables = VARIABLES < variables.count;
+    let far_net_count = limits::far_net_count(counts);
+    let many_constants = CONSTANTS < constants.count;
+    if many_variables {
+        return refused(Refusal::Variables);
+    }
+    if far_net_count {
+        return refused(Refusal::NetCount);
+    }
+    if many_constants {
+        return refused(Refusal::Constants);
+    }
+    let pair = Pair {
+        variables: variables,
+        constants: constants,
+    };
+    Parted {
+        verdict: Verdict::Accepted,
+        pair: pair,
+    }
+}
+
+// Takes two sides apart: the first of the numbers 7 to 11 that is given, or their pair. Nothing is counted
+// before both sides are known to hold atoms alone, and not too many.
+pub fn take_apart(left: &[u8], right: &[u8]) -> Parted
+    ensures { λ r. ⌜ TakesApart unifying (now (left .entry)) (now (right .entry)) r ⌝ }
+{
+    let wrong_lengths = limits::wrong_length(left) | limits::wrong_length(right);
+    let wrong_bytes = limits::wrong_byte(left) | limits::wrong_byte(right);
+    if wrong_lengths {
+        return refused(Refusal::SideLength);
+    }
+    if wrong_bytes {
+        return refused(Refusal::NoAtom);
+    }
+    let moving = counting::moving_variables();
+    let lefts = counting::occurrences(left);
+    let rights = counting::occurrences(right);
+    let counts = AtomCounts {
+        moving: moving,
+        left: lefts,
+        right: rights,
+    };
+    part(counts)
+}

@@ -1,0 +1,56 @@
+// The limits that two sides must keep (document 01, "Numbers given in place of a result", 7 to 11), and which
+// sides do not.
+use crate::counting::ATOMS;
+use crate::counting::AtomCounts;
+use numbers::limits::HIGHEST_ATOM;
+use numbers::limits::LEAST_ATOMS;
+use numbers::limits::MOST_ATOMS;
+use numbers::limits::NET_COUNT;
+ghost use mathlib.Core.Path.{_≡_};
+ghost use Prim.Native.Nat.{_+_, _-_};
+ghost use Rattle.ac.specs.Limits.{limits};
+ghost use Rattle.pair.specs.Given.{WrongLength, WrongByte};
+ghost use Rattle.numbers.specs.Tells.{Tells};
+ghost use Rattle.pair.specs.Counts.{TellsFar};
+
+// Whether the side has too few atoms or too many.
+pub fn wrong_length(side: &[u8]) -> bool
+    ensures { λ r. ⌜ Tells (WrongLength limits (now (side .entry))) r ⌝ }
+{
+    side.len() < LEAST_ATOMS || MOST_ATOMS < side.len()
+}
+
+// Whether the side holds a byte that is no atom.
+pub fn wrong_byte(side: &[u8]) -> bool
+    ensures { λ r. ⌜ Tells (WrongByte limits (now (side .entry))) r ⌝ }
+{
+    let mut i = 0;
+    while i < side.len() {
+        if HIGHEST_ATOM < side[i] {
+            return true;
+        }
+        i += 1;
+    }
+    false
+}
+
+// How far two counts are apart.
+fn distance(a: u8, b: u8) -> u8
+    ensures { λ r. ⌜ r ≡ (a - b) + (b - a) ⌝ }
+{
+    if a < b { b - a } else { a - b }
+}
+
+// Whether the net count of some atom is too far from 0.
+pub fn far_net_count(counts: AtomCounts) -> bool
+    ensures { λ r. ⌜ TellsFar counts r ⌝ }
+{
+    let mut atom = 0;
+    while atom < ATOMS {
+        if NET_COUNT < distance(counts.left[atom], counts.right[atom]) {
+            return true;
+        }
+        atom += 1;
+    }
+    false
+}

@@ -1,6 +1,0 @@
-pub mod Limits
-pub mod Given
-pub mod Tells
-pub mod Counts
-pub mod Gathered
-pub mod Parted

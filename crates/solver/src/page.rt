@@ -1,0 +1,158 @@
+// The question Page: the next keys of the list, from the start or after a key.
+use list::Found;
+use list::Next;
+use list::find_key;
+use list::least_listed;
+use numbers::Refusal;
+use numbers::Verdict;
+use table::Table;
+use table::solve;
+ghost use mathlib.Core.Path.{_≡_};
+ghost use mathlib.Core.List.{_∷_};
+ghost use Prim.Native.Nat.{_<_, _≤_};
+ghost use lib.ListN.{length};
+ghost use Rattle.ac.specs.Keys.{after, remaining};
+ghost use Rattle.ac.specs.Pair.{unifying};
+ghost use Rattle.table.specs.Table.{InRoom};
+ghost use Rattle.list.specs.List.{OfItsList};
+ghost use Rattle.solver.specs.Page.{wantedCount, beginningOf, toldPage, PagePromise};
+ghost use Rattle.solver.specs.Existence.{PageExistence};
+ghost use Rattle.solver.specs.Steps.{SettledOf, KeysWritten, PageOfTable};
+
+// How many keys a page has if the request says 0.
+pub const DEFAULT_COUNT: usize = 200;
+
+// Where a page begins: at the start of the list, or after a key.
+pub enum Begin {
+    Start,
+    After(u32),
+}
+
+// A request is made of where to begin and how many keys are wanted.
+pub struct PageRequest {
+    pub begin: Begin,
+    pub wanted: usize,
+}
+
+// The number of keys written and whether more follow, or why there are none.
+pub enum PageAnswer {
+    Page { written: usize, more: bool },
+    Refused(Refusal),
+}
+
+// How many keys are wanted, where 0 means 200.
+fn wanted_count(wanted: usize) -> usize
+    ensures { λ r. ⌜ r ≡ wantedCount wanted ⌝ }
+{
+    if wanted == 0 { DEFAULT_COUNT } else { wanted }
+}
+
+// The first key of a page, or why there is none.
+enum Settled {
+    FirstKey(u32),
+    Refused(Refusal),
+}
+
+// After a key: 13 or 14 if it is not listed, else the next one, unless it is the last.
+fn settle_after(table: Table, key: u32) -> Settled
+    requires { ⌜ InRoom table ⌝ }
+    ensures { λ r. ⌜ OfItsList table (λ listed. SettledOf listed (after key) r) ⌝ }
+{
+    let found = find_key(table, key);
+    match found {
+        Found::Refused(refusal) => Settled::Refused(refusal),
+        Found::Listed => {
+            let next = least_listed(table, key as u64 + 1);
+            match next {
+                Next::Key(first) => Settled::FirstKey(first),
+                Next::None => Settled::Refused(Refusal::LastKey),
+            }
+        }
+    }
+}
+
+// The first key of the page that begins there, or 13, 14 or 15.
+fn settle(table: Table, begin: Begin) -> Settled
+    requires { ⌜ InRoom table ⌝ }
+    ensures { λ r. ⌜ OfItsList table (λ listed. SettledOf listed (beginningOf begin) r) ⌝ }
+{
+    match begin {
+        Begin::Start => {
+            let first = least_listed(table, 0);
+            match first {
+                Next::Key(key) => Settled::FirstKey(key),
+                Next::None => Settled::Refused(Refusal::NoUnifier),
+            }
+        }
+        Begin::After(key) => settle_after(table, key),
+    }
+}
+
+// Write the keys from the first one on, as many as are wanted or, if fewer remain, all that remain.
+fn write_keys(table: Table, first: u32, wanted: usize, out: &mut [u32]) -> PageAnswer
+    requires { ⌜ InRoom table × (0 < wanted) × (wanted ≤ length (now out)) ⌝ }
+    ensures { λ r. ⌜ OfItsList table (λ listed. KeysWritten (first ∷ remaining (after first) listed) wanted (now (out .entry)) (toldPage r) (now (out .exit))) ⌝ }
+{
+    out[0] = first;
+    let mut last = first;
+    let mut written: usize = 1;
+    while written < wanted {
+        let next = least_listed(table, last as u64 + 1);
+        let Next::Key(key) = next else {
+            return PageAnswer::Page {
+                written,
+                more: false,
+            };
+        };
+        out[written] = key;
+        last = key;
+        written += 1;
+    }
+    let next = least_listed(table, last as u64 + 1);
+    match next {
+        Next::Key(_) => PageAnswer::Page {
+            written,
+            more: true,
+        },
+        Next::None => PageAnswer::Page {
+            written,
+            more: false,
+        },
+    }
+}
+
+// The question Page on a solved pair: every refusal is settled before the first key is written.
+pub fn page_of(table: Table, request: PageRequest, out: &mut [u32]) -> PageAnswer
+    requires { ⌜ InRoom table ⌝ }
+    ensures { λ r. ⌜ PageOfTable table request (now (out .entry)) (toldPage r) (now (out .exit)) ⌝ }
+{
+    let wanted = wanted_count(request.wanted);
+    if out.len() < wanted {
+        return PageAnswer::Refused(Refusal::ShortBuffer);
+    }
+    let begin = request.begin;
+    let settled = settle(table, begin);
+    match settled {
+        Settled::FirstKey(first) => write_keys(table, first, wanted, out),
+        Settled::Refused(refusal) => PageAnswer::Refused(refusal),
+    }
+}
+
+// The question Page: 16 first, then what solving the pair refuses, then the page of the solved pair.
+pub fn page(left: &[u8], right: &[u8], request: PageRequest, out: &mut [u32]) -> PageAnswer
+    ensures promise { λ r. ⌜ PagePromise unifying (now (left .entry)) (now (right .entry)) (beginningOf (request .begin)) (request .wanted) (now (out .entry))
+        (toldPage r) (now (out .exit)) ⌝ }
+    ensures existence { λ r. ⌜ PageExistence unifying (now (left .entry)) (now (right .entry)) (beginningOf (request .begin)) (request .wanted)
+        (now (out .entry)) (toldPage r) (now (out .exit)) ⌝ }
+{
+    if out.len() < wanted_count(request.wanted) {
+        return PageAnswer::Refused(Refusal::ShortBuffer);
+    }
+    let solved = solve(left, right);
+    let verdict = solved.verdict;
+    let table = solved.table;
+    match verdict {
+        Verdict::Refused(refusal) => PageAnswer::Refused(refusal),
+        Verdict::Accepted => page_of(table, request, out),
+    }
+}

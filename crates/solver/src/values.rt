@@ -1,0 +1,197 @@
+// The question Values: the values that a key gives the variables.
+use buffer::put_repeated;
+use list::Found;
+use list::Selection;
+use list::find_key;
+use list::selection_of;
+use list::times;
+use numbers::Refusal;
+use numbers::Verdict;
+use numbers::limits::VARIABLES;
+use table::ROWS;
+use table::Table;
+use table::solve;
+ghost use mathlib.Core.Path.{_≡_};
+ghost use mathlib.Core.Bool.{false};
+ghost use mathlib.Core.List.{_∷_};
+ghost use Prim.Native.Nat.{_+_, _≤_, _<_};
+ghost use lib.ListN.{length};
+ghost use Rattle.ac.specs.Limits.{limits};
+ghost use Rattle.ac.specs.Pair.{unifying};
+ghost use Rattle.ac.specs.Values.{laidOut};
+ghost use Rattle.buffer.specs.Put.{Put};
+ghost use Rattle.table.specs.Table.{InRoom};
+ghost use Rattle.list.specs.Runs.{Fit, runCount, atomOf, atomsAt, lengthAt};
+ghost use Rattle.solver.specs.Bindings.{tooLong, bindingsBelow};
+ghost use Rattle.solver.specs.Values.{longestValue, valuesBuffer, toldValues, ValuesPromise};
+ghost use Rattle.solver.specs.Steps.{ValuesWritten, ValuesOfTable};
+
+// A value has at most 200 atoms.
+pub const LONGEST: usize = 200;
+
+// The first new variable's byte.
+pub const NEW: u8 = 192;
+
+// The buffer has to have room for each variable, with its byte, its count and its atoms.
+pub const ROOM: usize = VARIABLES * (2 + LONGEST);
+
+// The length written, or why there is nothing.
+pub enum ValuesAnswer {
+    Values { length: usize },
+    Refused(Refusal),
+}
+
+// The atom of a run of the selection: the constant, or the new variable of the balanced row.
+fn atom(selection: Selection, run: usize) -> u8
+    requires { ⌜ Fit selection × (run < runCount selection) ⌝ }
+    ensures { λ r. ⌜ r ≡ atomOf selection run ⌝ }
+{
+    if run < selection.unbalanced {
+        selection.constants[run]
+    } else {
+        NEW + (run - selection.unbalanced) as u8
+    }
+}
+
+// How many atoms the value at the place has.
+fn value_length(rows: &[u8; ROWS], selection: Selection, place: usize) -> usize
+    requires { ⌜ Fit selection × (place < limits .variables) ⌝ }
+    ensures { λ r. ⌜ r ≡ lengthAt (now (rows .entry)) selection place ⌝ }
+{
+    let runs = selection.unbalanced + selection.balanced;
+    let mut length: usize = 0;
+    let mut run: usize = 0;
+    while run < runs {
+        length += times(rows, selection, place, run);
+        run += 1;
+    }
+    length
+}
+
+// Whether a value would have more than 200 atoms.
+fn too_long(rows: &[u8; ROWS], places: usize, selection: Selection) -> bool
+    requires { ⌜ Fit selection × (places ≤ limits .variables) ⌝ }
+    ensures { λ r. ⌜ r ≡ tooLong (now (rows .entry)) places selection ⌝ }
+{
+    let mut place = 0;
+    while place < places {
+        if LONGEST < value_length(rows, selection, place) {
+            return true;
+        }
+        place += 1;
+    }
+    false
+}
+
+// The atoms of the value at the place: that of each run, as often as the run names it.
+fn put_atoms(
+    rows: &[u8; ROWS],
+    selection: Selection,
+    place: usize,
+    out: &mut [u8],
+    at: usize,
+) -> usize
+    requires { ⌜ Fit selection × (place < limits .variables) ⌝ }
+    requires { ⌜ at + lengthAt (now rows) selection place ≤ length (now out) ⌝ }
+    ensures { λ r. ⌜ Put (now (out .entry)) at (atomsAt (now (rows .entry)) selection place) r (now (out .exit)) ⌝ }
+{
+    let runs = selection.unbalanced + selection.balanced;
+    let mut next = at;
+    let mut run: usize = 0;
+    while run < runs {
+        let named = times(rows, selection, place, run);
+        next = put_repeated(out, next, atom(selection, run), named);
+        run += 1;
+    }
+    next
+}
+
+// A variable with its value: its byte, the count and the atoms.
+fn put_binding(
+    rows: &[u8; ROWS],
+    variable: u8,
+    selection: Selection,
+    place: usize,
+    out: &mut [u8],
+    at: usize,
+) -> usize
+    requires { ⌜ Fit selection × (place < limits .variables) ⌝ }
+    requires { ⌜ lengthAt (now rows) selection place ≤ longestValue ⌝ }
+    requires { ⌜ at + (2 + longestValue) ≤ length (now out) ⌝ }
+    ensures { λ r. ⌜ Put (now (out .entry)) at
+        (variable ∷ lengthAt (now (rows .entry)) selection place ∷ atomsAt (now (rows .entry)) selection place) r (now (out .exit)) ⌝ }
+{
+    out[at] = variable;
+    out[at + 1] = value_length(rows, selection, place) as u8;
+    put_atoms(rows, selection, place, out, at + 2)
+}
+
+// The variables, ascending, each with its value.
+fn put_bindings(
+    rows: &[u8; ROWS],
+    variables: &[u8; VARIABLES],
+    places: usize,
+    selection: Selection,
+    out: &mut [u8],
+) -> usize
+    requires { ⌜ Fit selection × (places ≤ limits .variables) ⌝ }
+    requires { ⌜ tooLong (now rows) places selection ≡ false ⌝ }
+    requires { ⌜ valuesBuffer ≤ length (now out) ⌝ }
+    ensures { λ r. ⌜ Put (now (out .entry)) 0
+        (laidOut (bindingsBelow (now (variables .entry)) (atomsAt (now (rows .entry)) selection) places)) r (now (out .exit)) ⌝ }
+    ensures { λ r. ⌜ r ≤ valuesBuffer ⌝ }
+{
+    let mut next: usize = 0;
+    let mut place: usize = 0;
+    while place < places {
+        next = put_binding(rows, variables[place], selection, place, out, next);
+        place += 1;
+    }
+    next
+}
+
+// The values of a key on the list, unless one would be too long.
+pub fn write(table: Table, key: u32, out: &mut [u8]) -> ValuesAnswer
+    requires { ⌜ InRoom table ⌝ }
+    requires { ⌜ valuesBuffer ≤ length (now out) ⌝ }
+    ensures { λ r. ⌜ ValuesWritten table key (now (out .entry)) (toldValues r) (now (out .exit)) ⌝ }
+{
+    let selection = selection_of(table, key);
+    if too_long(&table.rows, table.places, selection) {
+        return ValuesAnswer::Refused(Refusal::LongValue);
+    }
+    let variables = table.variables;
+    let length = put_bindings(&table.rows, &variables, table.places, selection, out);
+    ValuesAnswer::Values { length }
+}
+
+// Values of a solved pair: 16, 13, 14, 17 or the values.
+pub fn values_of(table: Table, key: u32, out: &mut [u8]) -> ValuesAnswer
+    requires { ⌜ InRoom table ⌝ }
+    ensures { λ r. ⌜ ValuesOfTable table key (now (out .entry)) (toldValues r) (now (out .exit)) ⌝ }
+{
+    if out.len() < ROOM {
+        return ValuesAnswer::Refused(Refusal::ShortBuffer);
+    }
+    let found = find_key(table, key);
+    match found {
+        Found::Refused(refusal) => ValuesAnswer::Refused(refusal),
+        Found::Listed => write(table, key, out),
+    }
+}
+
+// The question Values: 16 first, then what solving the pair refuses, then the values of the solved pair.
+pub fn values(left: &[u8], right: &[u8], key: u32, out: &mut [u8]) -> ValuesAnswer
+    ensures { λ r. ⌜ ValuesPromise unifying (now (left .entry)) (now (right .entry)) key (now (out .entry)) (toldValues r) (now (out .exit)) ⌝ }
+{
+    if out.len() < ROOM {
+        return ValuesAnswer::Refused(Refusal::ShortBuffer);
+    }
+    let solved = solve(left, right);
+    let verdict = solved.verdict;
+    let table = solved.table;
+    match verdict {
+        Verdict::Refused(refusal) => ValuesAnswer::Refused(refusal),
+        Verdict::Accepted => values_of(table, key, out),
+    }
+}

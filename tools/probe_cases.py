@@ -3,8 +3,8 @@
 
     tools/probe_cases.py SECOND
 
-Read is answered by a reader of its own (read_cases.py), Rows by hand (tests/rows.txt), Page and Values by the second solver, whose program
-SECOND is; nothing by the program under test.
+Read is answered by a reader of blocks of its own (read_cases.py), Rows by hand (tests/rows.txt), Page and Values by
+the second solver, whose program SECOND is; nothing by the program under test.
 """
 import sys
 from pathlib import Path

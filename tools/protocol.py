@@ -18,7 +18,8 @@ class Case(NamedTuple):
 
 def question(kind, first, second, first_lent, second_lent=0, number=0, after=False, wanted=0):
     """A question about a block (and nothing), or about two sides, with the lengths of the lent buffers."""
-    header = struct.pack(">BcHHI?IxHH", kind, FILL, len(first), len(second), number, after, wanted, first_lent, second_lent)
+    lengths = len(first), len(second)
+    header = struct.pack(">BcHHI?IxHH", kind, FILL, *lengths, number, after, wanted, first_lent, second_lent)
     return header + first + second
 
 

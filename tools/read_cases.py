@@ -14,7 +14,7 @@ def changed(whole, place, byte):
 
 
 def summing_to(total):
-    """The example up to its check, with filler that brings the sum of the bytes to a total; terms alone come to no more than 33,148."""
+    """The example up to its check, with filler that brings the sum of the bytes to a total, where terms cannot."""
     full, rest = divmod(total - sum(EXAMPLE[:510]), 255)
     return (EXAMPLE[:10] + bytes([255] * full + [rest])).ljust(510, b"\0")
 

@@ -1,8 +1,9 @@
-"""Cases of Rows for the program probe, from tests/rows.txt, where they are worked by hand from document 01's definitions.
+"""Cases of Rows for the program probe, from tests/rows.txt: worked by hand from document 01's definitions.
 
-A case is a line `name: left = right`, and below it, further in, the groups of rows, each behind its name (`balanced`, or the constant's),
-or `refused` and the number. A row is a digit for each variable, and a group without rows is `none`. The lent buffer has 512 bytes, if the
-line does not end `in 480 bytes` or the like. A side without atoms is `nothing`, and a number in it stands for that byte.
+A case is a line `name: left = right`, and below it, further in, the groups of rows, each behind its name (`balanced` or
+the constant's), or `refused` and the number. A row is a digit for each variable; a group without rows is `none`. The lent
+buffer has 512 bytes, or as many as a line says that ends `in 480 bytes`. A side without atoms is `nothing`; a number in a
+side stands for that byte.
 """
 import re
 from pathlib import Path

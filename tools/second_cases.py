@@ -1,7 +1,8 @@
-"""Cases of Page and Values for the program probe, answered by the second solver: document 01's pairs (examples/worked.txt) and published ones.
+"""Cases of Page and Values for the program probe, answered by the second solver.
 
-The first page of each pair is asked for. A list that it holds whole, and each published one, is walked to its end in pages of an odd size,
-each after the last key of the one before. The values of the first keys of each page are asked for.
+The first page of each of document 01's pairs (examples/worked.txt) is asked for. A list that it holds whole, and each of
+the published ones, is walked to its end in pages of an odd size, each after the last key of the one before. The values of
+the first keys of each page are asked for.
 """
 import struct
 import subprocess
@@ -12,7 +13,8 @@ from protocol import PAGE, VALUES, Case, question
 
 WORKED = Path(__file__).resolve().parent.parent / "examples" / "worked.txt"
 
-# source document 002, B.2: 204, 60, 228 and 6006 unifiers, each with the size of the pages it is walked in; its 7 are document 01's pair 2
+# source document 002, B.2: 204, 60, 228 and 6006 unifiers, each with the size of the pages it is walked in; the pair with 7
+# is document 01's pair 2
 PUBLISHED = [
     ("v0+v1+c0 = v2+v3+v4+c1", 31),
     ("2v0+c0 = v1+v2+c1+c2", 7),
@@ -38,20 +40,22 @@ class Second:
         return answer
 
     def page(self, text, wanted, after=None):
-        """The keys of a page, none if it is refused, and whether more follow; the buffer is as long as it has to be."""
-        name = f"Page of {text}, {wanted} from the start" if after is None else f"Page of {text}, {wanted} after {after}"
+        """The keys of a page, none if it is refused, and whether more follow. The buffer is as long as it must be."""
+        begin = "from the start" if after is None else f"after {after}"
         sides = map(flattened, pair(text))
-        answer = self.ask(name, question(PAGE, *sides, wanted or 200, number=after or 0, after=after is not None, wanted=wanted))
+        asked = question(PAGE, *sides, wanted or 200, number=after or 0, after=after is not None, wanted=wanted)
+        answer = self.ask(f"Page of {text}, {begin}, {wanted} wanted", asked)
         written, more = struct.unpack(">2I", answer[1:9])
         return struct.unpack(f">{written}I", answer[25 : 25 + 4 * written]), more == 1
 
     def values(self, text, keys):
         """Asks for the values of each key."""
+        sides = list(map(flattened, pair(text)))
         for key in keys:
-            self.ask(f"Values of {text}, key {key}", question(VALUES, *map(flattened, pair(text)), 1212, number=key))
+            self.ask(f"Values of {text}, key {key}", question(VALUES, *sides, 1212, number=key))
 
     def walk(self, text, size, first):
-        """Asks for the whole list in pages of this size, for the values of so many first keys of each, and for the page after the last."""
+        """Asks for the list in pages of this size up to the page after the last, and for the first values of each."""
         keys, _ = self.page(text, size)
         while keys:
             self.values(text, keys[:first])

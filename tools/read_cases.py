@@ -1,14 +1,9 @@
-#!/usr/bin/env python3
-"""Cases for the program block_runs, and what document 01 says of each.
-
-    tools/read_cases.py questions >crates/block_runs/stdin
-    tools/read_cases.py answers >crates/block_runs/stdout
+"""Cases of Read for the program probe: blocks, and what document 01 says of each.
 
 The answers come from a reader of blocks of its own, written from document 01.
 """
-import sys
-
 from library import PLUS, block, left_brackets, right_brackets, with_check
+from protocol import READ, Case, buffer, given, question, refused
 
 EXAMPLE = block(0, bytes([PLUS, 0, 1]), bytes([PLUS, 64, 65]))
 
@@ -18,11 +13,17 @@ def changed(whole, place, byte):
     return with_check(whole[:place] + bytes([byte]) + whole[place + 1 : 510])
 
 
+def summing_to(total):
+    """The example up to its check, with filler that brings the sum of the bytes to a total, where terms cannot."""
+    full, rest = divmod(total - sum(EXAMPLE[:510]), 255)
+    return (EXAMPLE[:10] + bytes([255] * full + [rest])).ljust(510, b"\0")
+
+
 UP = [bytes([atom]) for atom in range(64)]
 DOWN = [bytes([atom]) for atom in range(127, 63, -1)]
 
 # name, block, expected number, length of the left buffer and of the right one
-CASES = [
+ASKED = [
     ("example block 0", EXAMPLE, 0, 64, 64),
     ("example block 1", block(1, bytes([PLUS, 0, 0]), bytes([64])), 1, 64, 64),
     ("longer buffers", EXAMPLE, 0, 65, 255),
@@ -36,6 +37,8 @@ CASES = [
     ("zeros", bytes(512), 0, 64, 64),
     ("check one more", EXAMPLE[:511] + bytes([EXAMPLE[511] + 1]), 0, 64, 64),
     ("filler against the check", EXAMPLE[:509] + b"\1" + EXAMPLE[510:], 0, 64, 64),
+    ("sum of 65,536 with the check of 65,535", summing_to(65536) + b"\0\0", 0, 64, 64),
+    ("check and number wrong", EXAMPLE[:511] + b"\0", 1, 64, 64),
     ("another number", EXAMPLE, 1, 64, 64),
     ("number and length wrong", changed(EXAMPLE, 2, 0), 1, 64, 64),
     ("left length 0", changed(EXAMPLE, 2, 0), 0, 64, 64),
@@ -51,6 +54,9 @@ CASES = [
     ("term and filler wrong", changed(block(0, bytes([0]), bytes([129])), 509, 1), 0, 64, 64),
     ("first filler byte", changed(EXAMPLE, 10, 1), 0, 64, 64),
     ("last filler byte", changed(EXAMPLE, 509, 128), 0, 64, 64),
+    ("sum of 65,535", summing_to(65535) + b"\0\0", 0, 64, 64),
+    ("sum of 65,536", summing_to(65536) + b"\xff\xff", 0, 64, 64),
+    ("sum of 127,000", with_check(summing_to(127000)), 0, 64, 64),
     ("short left buffer", EXAMPLE, 0, 63, 64),
     ("short right buffer", EXAMPLE, 0, 64, 63),
     ("short buffer and no block", b"", 1, 0, 0),
@@ -95,30 +101,15 @@ def read(whole, number, left_length, right_length):
     return sides
 
 
-def name(atom):
-    return f"v{atom}" if atom < 64 else f"c{atom - 64}"
-
-
-def question(case):
-    title, whole, number, left_length, right_length = case
-    head = title.ljust(32).encode() + number.to_bytes(2, "big") + len(whole).to_bytes(2, "big") + bytes([left_length, right_length, 0, 0])
-    return (head + whole).ljust(640, b"\0")
-
-
-def answer(case):
-    title, *asked = case
-    outcome = read(*asked)
+def answer(whole, number, *lent):
+    """The lengths of the sides and the buffers with the sides in front, or the number."""
+    outcome = read(whole, number, *lent)
     if isinstance(outcome, int):
-        told = f"refused {outcome}"
-    else:
-        left, right = ("+".join(map(name, side)) for side in outcome)
-        told = f"{left} = {right}"
-    return f"{title:32}{told}, kept\n".encode()
+        return refused(outcome, *lent)
+    return given(list(map(len, outcome)), *map(buffer, lent, map(bytes, outcome)))
 
 
-if __name__ == "__main__":
-    made = {"questions": question, "answers": answer}
-    if len(sys.argv) != 2 or sys.argv[1] not in made:
-        sys.exit(__doc__)
-    for case in CASES:
-        sys.stdout.buffer.write(made[sys.argv[1]](case))
+def cases():
+    """Every case, in order."""
+    for name, whole, number, *lent in ASKED:
+        yield Case(f"Read, {name}", question(READ, whole, b"", *lent, number=number), answer(whole, number, *lent))

@@ -1,7 +1,7 @@
 // What a question returned: one byte, 0 or the refusal's number, and six numbers.
+use crate::room::put;
 use block::ReadAnswer;
 use numbers::Refusal;
-use runs::put;
 use solver::page::PageAnswer;
 use solver::rows::RowsAnswer;
 use solver::values::ValuesAnswer;

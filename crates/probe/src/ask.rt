@@ -1,89 +1,84 @@
-// The questions, each with the buffers that it is lent. An answer is put behind the answers so far, and where
-// it ends is given.
+// The questions, each with the buffers that it is lent.
+use crate::answer::Returned;
 use crate::answer::of_page;
 use crate::answer::of_read;
 use crate::answer::of_rows;
 use crate::answer::of_values;
 use crate::answer::put_numbers;
 use crate::answer::put_returned;
+use crate::question::PAGE;
 use crate::question::Question;
-use runs::front;
-use runs::least;
-use runs::put;
+use crate::question::READ;
+use crate::question::ROWS;
+use crate::room::front;
+use crate::room::put;
+use buffer::least;
+use buffer::wide;
 use solver::page::Begin;
 use solver::page::PageRequest;
 ghost use mathlib.Core.Path.{_≡_};
 ghost use Prim.Native.Nat.{_≤_, _<_};
 ghost use lib.ListN.{length};
 
-// Asks the question that the header names, of the bytes that followed it.
+// The most that is lent: so many bytes, or so many numbers, which are shown as four bytes each.
+const MOST_BYTES: usize = 4096;
+
+const MOST_NUMBERS: usize = MOST_BYTES / 4;
+
+// Asks the question that the header names, of the bytes that followed it, and puts its answer behind the
+// answers so far: what was returned, then every byte of the lent buffers. Where the answer ends is given.
 pub fn ask(asked: Question, first: &[u8], second: &[u8], answers: &mut [u8], at: usize) -> usize
     ensures { λ r. ⌜ r ≤ length (now (answers .exit)) ⌝ }
 {
+    let mut first_lent = filled(asked.fill);
+    let mut second_lent = filled(asked.fill);
+    let first_room = least(asked.first_room, MOST_BYTES);
+    let second_room = least(asked.second_room, MOST_BYTES);
+    let returned = returned_by(
+        asked,
+        first,
+        second,
+        &mut first_lent[..first_room],
+        &mut second_lent[..second_room],
+    );
+    let returned_end = put_returned(answers, at, returned);
+    let first_end = put(answers, returned_end, front(&first_lent, first_room));
+    put(answers, first_end, front(&second_lent, second_room))
+}
+
+// What the question returns, with the lent buffers changed as it changes them: an arm for each question.
+fn returned_by(
+    asked: Question,
+    first: &[u8],
+    second: &[u8],
+    first_lent: &mut [u8],
+    second_lent: &mut [u8],
+) -> Returned {
     let kind = asked.kind;
     match kind {
-        1 => ask_read(asked, first, answers, at),
-        2 => ask_rows(asked, first, second, answers, at),
-        3 => ask_page(asked, first, second, answers, at),
-        _ => ask_values(asked, first, second, answers, at),
+        READ => of_read(block::read(
+            first,
+            (asked.number % 65_536) as u16,
+            first_lent,
+            second_lent,
+        )),
+        ROWS => of_rows(solver::rows::rows(first, second, first_lent)),
+        PAGE => page(asked, first, second, first_lent),
+        _ => of_values(solver::values::values(first, second, asked.number, first_lent)),
     }
 }
 
-// Read, of a block.
-fn ask_read(asked: Question, block: &[u8], answers: &mut [u8], at: usize) -> usize
-    ensures { λ r. ⌜ r ≤ length (now (answers .exit)) ⌝ }
-{
-    let mut left = lent(asked.fill);
-    let mut right = lent(asked.fill);
-    let left_room = least(asked.first_room, 4096);
-    let right_room = least(asked.second_room, 4096);
-    let number = (asked.number % 65_536) as u16;
-    let read = block::read(
-        block,
-        number,
-        &mut left[..left_room],
-        &mut right[..right_room],
-    );
-    let returned_end = put_returned(answers, at, of_read(read));
-    let left_end = put(answers, returned_end, front(&left, left_room));
-    put(answers, left_end, front(&right, right_room))
-}
-
-// Rows, of two sides.
-fn ask_rows(asked: Question, left: &[u8], right: &[u8], answers: &mut [u8], at: usize) -> usize
-    ensures { λ r. ⌜ r ≤ length (now (answers .exit)) ⌝ }
-{
-    let mut out = lent(asked.fill);
-    let room = least(asked.first_room, 4096);
-    let rows = solver::rows::rows(left, right, &mut out[..room]);
-    let end = put_returned(answers, at, of_rows(rows));
-    put(answers, end, front(&out, room))
-}
-
-// Page, of two sides.
-fn ask_page(asked: Question, left: &[u8], right: &[u8], answers: &mut [u8], at: usize) -> usize
-    ensures { λ r. ⌜ r ≤ length (now (answers .exit)) ⌝ }
-{
-    let mut keys = lent_numbers(asked.fill);
-    let room = least(asked.first_room, 1024);
+// Page is lent numbers: what they are after it is shown in bytes.
+fn page(asked: Question, left: &[u8], right: &[u8], shown: &mut [u8]) -> Returned {
+    let mut keys = filled_numbers(asked.fill);
+    let room = least(shown.len() / 4, MOST_NUMBERS);
     let request = PageRequest {
         begin: begin_of(asked.after, asked.number),
         wanted: asked.wanted,
     };
     let page = solver::page::page(left, right, request, &mut keys[..room]);
-    let end = put_returned(answers, at, of_page(page));
-    put_numbers(answers, end, &keys[..room])
-}
-
-// Values, of two sides.
-fn ask_values(asked: Question, left: &[u8], right: &[u8], answers: &mut [u8], at: usize) -> usize
-    ensures { λ r. ⌜ r ≤ length (now (answers .exit)) ⌝ }
-{
-    let mut out = lent(asked.fill);
-    let room = least(asked.first_room, 4096);
-    let values = solver::values::values(left, right, asked.number, &mut out[..room]);
-    let end = put_returned(answers, at, of_values(values));
-    put(answers, end, front(&out, room))
+    put_numbers(shown, 0, &keys[..room]);
+    of_page(page)
 }
 
 // Where a page begins: after the key, or at the start.
@@ -96,22 +91,15 @@ fn begin_of(after: bool, key: u32) -> Begin {
 }
 
 // A buffer of bytes to lend, all of them the one that fills it.
-fn lent(fill: u8) -> [u8; 4096]
+fn filled(byte: u8) -> [u8; MOST_BYTES]
     ensures { λ r. ⌜ 4096 ≡ length r ⌝ }
 {
-    [fill; 4096]
+    [byte; MOST_BYTES]
 }
 
 // A buffer of numbers to lend, each the byte that fills it four times.
-fn lent_numbers(fill: u8) -> [u32; 1024]
+fn filled_numbers(byte: u8) -> [u32; MOST_NUMBERS]
     ensures { λ r. ⌜ 1024 ≡ length r ⌝ }
 {
-    [wide(fill) * 16_843_009; 1024]
-}
-
-// A byte as a number of four bytes.
-fn wide(byte: u8) -> u32
-    ensures { λ r. ⌜ r < 256 ⌝ }
-{
-    byte as u32
+    [(wide(byte) * 16_843_009) as u32; MOST_NUMBERS]
 }

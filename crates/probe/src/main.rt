@@ -1,15 +1,16 @@
-// Answers raw questions, for the comparison with a second solver (second/PROTOCOL.md): reads questions from
-// standard input until it ends and writes to standard output what each answered, with every byte of the lent
-// buffers.
+// Answers questions in bytes (second/PROTOCOL.md), for the stored cases and the comparison with a second
+// solver: reads questions from standard input until it ends and writes to standard output what each answered,
+// with every byte of the lent buffers.
 mod answer;
 mod ask;
 mod question;
+mod room;
 
+use buffer::least;
 use libc::STDIN_FILENO;
 use libc::STDOUT_FILENO;
 use question::Question;
-use runs::front;
-use runs::least;
+use room::front;
 ghost use mathlib.Core.Path.{_≡_};
 ghost use Prim.Native.Nat.{_≤_};
 ghost use lib.ListN.{length};

@@ -1,15 +1,15 @@
--- `probe::ask::ask_page` meets its contract: the part that is lent lies within the buffer, which keeps its
--- length. Assumes nothing.
+-- `probe::ask::page` is safe: the part that is lent lies within the buffer of keys, which keeps its length. Assumes
+-- nothing.
 use mathlib.Core.Path.{sym}
 use native.Mathlib.Omega.{arith}
 use lib.ListN.{length-take}
 use lib.Seq.{length-front, length-take-le}
 use borrow.Author.Needs.{needs}
-use Rattle.probe.proofs.ask.ask_page.Statement.{statement}
-use Rattle.probe.proofs.ask.ask_page.Tie as tie
+use Rattle.probe.proofs.ask.page.Statement.{statement}
+use Rattle.probe.proofs.ask.page.Tie as tie
 
-lent-numbers-requires : tie.Need-lent-numbers-requires
-lent-numbers-requires c κs = search needs
+filled-numbers-requires : tie.Need-filled-numbers-requires
+filled-numbers-requires c κs = search needs
 
 least-requires : tie.Need-least-requires
 least-requires c κs = search needs
@@ -26,21 +26,15 @@ slice-aggregate-page c = simp length-take (omega arith)
 page-requires : tie.Need-page-requires
 page-requires c κs = search needs
 
-of-page-requires : tie.Need-of-page-requires
-of-page-requires c κs = search needs
-
-put-returned-requires : tie.Need-put-returned-requires
-put-returned-requires c κs = search needs
-
 array-share-prefix-keys : tie.Need-array-share-prefix-keys
 array-share-prefix-keys c =
-    let at-call = c .before .before .before .before .before .before .before in
-    let at-lent = at-call .before .before .before .before in
+    let at-call = c .before .before in
+    let at-filled = at-call .before .before .before .before in
     omega (
       arith,
-      at-lent .lent-numbers .ensures,
+      at-filled .filled-numbers .ensures,
       at-call .before .before .before .least .ensures,
-      length-front (at-lent .lent-numbers .result) (at-call .page .last .1 .1 .1 .0)
+      length-front (at-filled .filled-numbers .result) (at-call .page .last .1 .1 .1 .0)
           (at-call .before .before .before .least .result) (at-call .page .kept .1 .1 .1 .0),
     )
 
@@ -50,26 +44,28 @@ slice-aggregate-put-numbers c = sym (length-take-le _ _ (array-share-prefix-keys
 put-numbers-requires : tie.Need-put-numbers-requires
 put-numbers-requires c κs = search needs
 
+of-page-requires : tie.Need-of-page-requires
+of-page-requires c κs = search needs
+
 same-length : tie.Need-same-length
 same-length c = search needs
 
 returns : tie.Need-returns
 returns c = search needs
 
-pub ask-page-spec : {M : Type 1} → statement M
-ask-page-spec =
+pub page-spec : {M : Type 1} → statement M
+page-spec =
     tie.close
     (tie.spec
-    lent-numbers-requires
+    filled-numbers-requires
     least-requires
     begin-of-requires
     array-borrow-prefix-keys
     slice-aggregate-page
     page-requires
-    of-page-requires
-    put-returned-requires
     array-share-prefix-keys
     slice-aggregate-put-numbers
     put-numbers-requires
+    of-page-requires
     same-length
     returns)

@@ -1,9 +1,10 @@
--- `runs::front` is safe: the part lies within the buffer. Assumes nothing.
+-- `probe::room::front` meets its contract: the part lies within the buffer and has at most so many bytes.
+-- Assumes nothing.
 use native.Mathlib.Omega.{arith}
 use lib.ListN.{length-take}
 use borrow.Author.Needs.{needs}
-use Rattle.runs.proofs.front.Statement.{statement}
-use Rattle.runs.proofs.front.Tie as tie
+use Rattle.probe.proofs.room.front.Statement.{statement}
+use Rattle.probe.proofs.room.front.Tie as tie
 
 least-requires : tie.Need-least-requires
 least-requires c κs = search needs
@@ -12,7 +13,7 @@ slice-aggregate-result : tie.Need-slice-aggregate-result
 slice-aggregate-result c = simp length-take (omega arith)
 
 returns : tie.Need-returns
-returns c = search needs
+returns c = simp length-take (omega arith)
 
 pub front-spec : {M : Type 1} → statement M
 front-spec = tie.close (tie.spec least-requires slice-aggregate-result returns)

@@ -1,0 +1,54 @@
+"""Cases of Rows for the program probe, from tests/rows.txt: worked by hand from document 01's definitions.
+
+A case is a line `name: left = right`, and below it, further in, the groups of rows, each behind its name (`balanced` or
+the constant's), or `refused` and the number. A row is a digit for each variable; a group without rows is `none`. The lent
+buffer has 512 bytes, or as many as a line says that ends `in 480 bytes`. A side without atoms is `nothing`; a number in a
+side stands for that byte.
+"""
+import re
+from pathlib import Path
+
+from library import atoms
+from protocol import ROWS, Case, buffer, given, question, refused
+
+TABLE = Path(__file__).resolve().parent.parent / "tests" / "rows.txt"
+LENT = 512
+
+
+def worked(lines):
+    """The line of each case, and the words below it."""
+    found = []
+    for line in lines:
+        text = line.split("#")[0].rstrip()
+        if text.startswith(" "):
+            found[-1][1].extend(text.split())
+        elif text:
+            found.append((text, []))
+    return found
+
+
+def side(text):
+    """The bytes of a side."""
+    words = [] if text == "nothing" else text.split("+")
+    return b"".join(bytes([int(word)]) if word.isdigit() else b"".join(atoms(word)) for word in words)
+
+
+def answer(words, lent):
+    """The sizes of the groups and the buffer with the rows in front, or the number."""
+    if words[0] == "refused":
+        return refused(int(words[1]), lent)
+    groups = []
+    for word in words:
+        if word.isdigit():
+            groups[-1].append(bytes(map(int, word)))
+        elif word != "none":
+            groups.append([])
+    sizes = list(map(len, groups))
+    return given([sizes[0], len(sizes) - 1, *sizes[1:]], buffer(lent, b"".join(sum(groups, []))))
+
+
+def cases():
+    """Every case of the table, in order."""
+    for line, words in worked(TABLE.open()):
+        name, left, right, lent = re.fullmatch(r"(.+): (\S+) = (\S+)(?: in (\d+) bytes)?", line).groups(LENT)
+        yield Case(f"Rows, {name}", question(ROWS, side(left), side(right), int(lent)), answer(words, int(lent)))

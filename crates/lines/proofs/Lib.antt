@@ -1,2 +1,3 @@
 pub mod Example
 pub mod Putting
+pub mod Determined

@@ -1,3 +1,5 @@
 pub mod Example
 pub mod Putting
 pub mod Determined
+pub mod Numbered
+pub mod Library

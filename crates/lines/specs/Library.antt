@@ -1,10 +1,11 @@
 -- The nightly program's text (document 01, "The nightly program"): what Read, Rows, Page and Values promise of each
 -- block decides its lines, and the blocks' lines decide the last ones.
-use Prim.Native.Nat.{ℕ, suc, _+_, _%_, _≤_}
+use Prim.Native.Nat.{ℕ, _+_, _%_, _≤_}
 use mathlib.Core.Path.{_≡_}
-use mathlib.Core.Bool.{Bool, true}
+use mathlib.Core.Bool.{Bool, true, false}
 use mathlib.Core.List.{List, [], _∷_, _++_, map}
 use lib.ListN.{length, take, replicate}
+use Rattle.ac.specs.Lists.{filter}
 use Rattle.ac.specs.Pair.{unifying, variables}
 use Rattle.ac.specs.Rows.{Groups, GroupsOf}
 use Rattle.ac.specs.Keys.{start}
@@ -73,29 +74,35 @@ pub data BlocksText : ℕ → List (List ℕ) → List Line → List ℕ → Typ
       → BlocksText place (block ∷ blocks) (lineOf returned ∷ lines)
       (together (blockLines place (lineOf returned) page) ++ text)
 
--- how many lines are of each kind
-abbrev pub listedIn : List Line → ℕ
-listedIn [] = 0
-listedIn (Listed H K N more ∷ lines) = suc (listedIn lines)
-listedIn (NoUnifier ∷ lines) = listedIn lines
-listedIn (Refused X ∷ lines) = listedIn lines
+-- the kinds of lines
+abbrev pub isListed : Line → Bool
+isListed (Listed H K N more) = true
+isListed NoUnifier = false
+isListed (Refused X) = false
 
-abbrev pub noneIn : List Line → ℕ
-noneIn [] = 0
-noneIn (Listed H K N more ∷ lines) = noneIn lines
-noneIn (NoUnifier ∷ lines) = suc (noneIn lines)
-noneIn (Refused X ∷ lines) = noneIn lines
+abbrev pub isNone : Line → Bool
+isNone (Listed H K N more) = false
+isNone NoUnifier = true
+isNone (Refused X) = false
 
-abbrev pub refusedIn : List Line → ℕ
-refusedIn [] = 0
-refusedIn (Listed H K N more ∷ lines) = refusedIn lines
-refusedIn (NoUnifier ∷ lines) = refusedIn lines
-refusedIn (Refused X ∷ lines) = suc (refusedIn lines)
+abbrev pub isRefused : Line → Bool
+isRefused (Listed H K N more) = false
+isRefused NoUnifier = false
+isRefused (Refused X) = true
+
+-- how many lines are of a kind
+abbrev pub howMany : (Line → Bool) → List Line → ℕ
+howMany kind lines = length (filter kind lines)
 
 -- `blocks B listed L none U refused F`, each counted by its own kind of line
 abbrev pub countsOf : List Line → Counts
 countsOf lines =
-    record { blocks = length lines; listed = listedIn lines; none = noneIn lines; refused = refusedIn lines }
+    record {
+      blocks = length lines;
+      listed = howMany isListed lines;
+      none = howMany isNone lines;
+      refused = howMany isRefused lines;
+    }
 
 -- The text of a library, from the blocks handed on and whether input remains after them.
 pub record LibraryText (blocks : List (List ℕ)) (remains : Bool) (text : List ℕ) : Type 0 where

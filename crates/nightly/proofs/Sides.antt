@@ -1,25 +1,14 @@
--- Laws of what Read and Page return: the sides fit their buffers, and a page has no more keys than are wanted.
+-- Laws of what is asked of a block: the sides that Read gave fit their buffers.
 use Prim.Native.Nat.{ℕ, _≤_}
 use native.Mathlib.Omega.{arith}
-use mathlib.Core.Path.{_≡_, refl, sym, subst, subst₂}
-use mathlib.Core.Bool.{Bool}
+use mathlib.Core.Path.{_≡_, sym, subst, subst₂}
 use mathlib.Core.List.{List}
-use lib.ListN.{length, take, drop, replicate, length-append, length-take}
-use Rattle.ac.specs.Pair.{Mode, unifying}
-use Rattle.ac.specs.Keys.{Begin, start, layout, keys, remaining}
+use lib.ListN.{length, take, drop, replicate, length-append}
 use Rattle.block.specs.Front.{leftSide, rightSide}
 use Rattle.block.specs.Read.{told, ReadPromise, is-read}
 use Rattle.block.specs.declared.ReadAnswer.{ReadAnswer}
 use Rattle.block.specs.declared.ReadAnswer.the-variants.{Sides, Refused}
-use Rattle.solver.specs.Request.{wantedCount}
-use Rattle.solver.specs.Page.{PagePromise, is-page}
-use Rattle.solver.specs.Page as outcome
-use Rattle.solver.specs.Page.{told as toldPage}
-use Rattle.solver.specs.declared.PageAnswer.{PageAnswer}
-use Rattle.solver.specs.declared.PageAnswer.the-variants.{Page}
-use Rattle.solver.specs.declared.PageAnswer.the-variants as page
 use Rattle.nightly.specs.Asked.{leftLength, rightLength, PairAsked, BlockAsked}
-use Rattle.nightly.specs.Printed.{PageReady}
 use Rattle.nightly.specs.declared.ask.Asked.{Asked}
 
 -- the left side that Read gave is within its buffer
@@ -35,13 +24,6 @@ pub right-fits : {block : List ℕ} {number : ℕ} {left right left′ right′ 
 right-fits {right = right} (Sides m n) (is-read {s} {t} none v w) =
     omega (arith, length-append (rightSide t) (drop (length (rightSide t)) right))
 right-fits (Refused why) p = omega arith
-
--- a page has at most as many keys as are wanted
-pub page-fits : {M : Mode} {L R : List ℕ} {begin : Begin} {wanted : ℕ} {out out′ : List ℕ} {written : ℕ}
-    {more : Bool} →
-    PagePromise M L R begin wanted out (outcome.page written more) out′ → written ≤ wantedCount wanted
-page-fits {M} {L} {R} {begin} {wanted} (is-page {G} none groups) =
-    omega (arith, length-take (wantedCount wanted) (remaining begin (keys M layout L R G)))
 
 -- what Read gave and what was asked of its sides, together
 pub block-asked : {block : List ℕ} {number : ℕ} {keys keys′ left right : List ℕ} {answer : ReadAnswer}
@@ -67,16 +49,3 @@ block-asked {block} {number} {keys} {keys′} {left} {right} {answer} {a} promis
 pub numbered : {block : List ℕ} {m n : ℕ} {out out′ : List ℕ} {a : Asked} → m ≡ n
     → BlockAsked block m out a out′ → BlockAsked block n out a out′
 numbered {block} {out = out} {out′ = out′} {a = a} e asked = subst (λ k. BlockAsked block k out a out′) e asked
-
--- what was asked is ready to be printed: a page fits its buffer, and the table's numbers are within its room
-pub asked-ready : {read : ReadAnswer} {L R out out′ : List ℕ} {a : Asked} {size : ℕ}
-    → PairAsked read L R out a out′ → 200 ≤ size →
-    PageReady (a .page) (a .table) size
-asked-ready {L = L} {R = R} {out = out} {out′ = out′} {a = a} {size = size} asked enough = go (a .page) refl
-  where
-    go : (p : PageAnswer) → a .page ≡ p → PageReady p (a .table) size
-    go (Page written more) e =
-        let few = page-fits (subst (λ q. PagePromise unifying L R start 200 out (toldPage q) out′) e
-        (asked .page-promise)) in
-        (omega (arith, few), asked .the-table e .within)
-    go (page.Refused why) e = tt

@@ -46,11 +46,11 @@ module _ (written filled tries : ℕ) (answer error : ℤ) where
 
   -- any other says how many bytes were taken
   pub with-bytes : ltZ answer (pos 0) ≡ false → (answer ≡ pos 0 → ⊥)
-      → From (written + min (natAbs answer) (filled - written)) 1000 ≡ afterWrite written filled tries answer error
+      → From (written + min (natAbs answer) (filled - written)) 1000000 ≡ afterWrite written filled tries answer error
   with-bytes = go answer
     where
       go : (z : ℤ) → ltZ z (pos 0) ≡ false → (z ≡ pos 0 → ⊥)
-          → From (written + min (natAbs z) (filled - written)) 1000 ≡ afterWrite written filled tries z error
+          → From (written + min (natAbs z) (filled - written)) 1000000 ≡ afterWrite written filled tries z error
       go (pos zero) e some = absurd (some refl)
       go (pos (suc n)) e some = refl
       go (negsuc n) e some = absurd (let z : _≡_ {A = ℕ} 0 1 = cc e in omega arith)
@@ -89,7 +89,7 @@ countable answer fits e =
 
 -- how much is left to do: bytes to write and, of the next one, tries
 abbrev pub toWrite : ℕ → ℕ → ℕ → ℕ
-toWrite written filled tries = (filled - written) * 1001 + tries
+toWrite written filled tries = (filled - written) * 1000001 + tries
 
 -- it goes on within the bytes, and less is left to do
 pub record OnwardFrom (written filled tries place left : ℕ) : Type 0 where
@@ -127,7 +127,7 @@ module _ {written filled tries place left : ℕ} (before : written < filled) whe
       go (pos zero) e = absurd (let z : _≡_ {A = ℕ} 0 1 = cc e in omega arith)
       go (pos (suc n)) e =
           let same-place : written + min (suc n) (filled - written) ≡ place = cc e in
-          let same-left : 1000 ≡ left = cc e in
+          let same-left : 1000000 ≡ left = cc e in
           let further : written < place = omega arith in
           let inside : place ≤ filled = omega arith in
           record { within = inside; less = omega arith }

@@ -1,14 +1,16 @@
 -- Laws of lines that are put one after the other in a step.
-use Prim.Native.Nat.{ℕ, suc, _+_, _<_}
+use Prim.Native.Nat.{ℕ, _+_, _<_, _≤_}
 use native.Mathlib.Omega.{arith}
 use native.Mathlib.Numerals.{add-one}
+use native.Mathlib.Decide.{decLt}
+use mathlib.Core.Logic.{inl, inr}
 use mathlib.Core.Path.{_≡_, refl, ap, sym, _∙_}
 use mathlib.Core.List.{List, [], _∷_, _++_, append-assoc}
 use lib.ListN.{length, drop, getD}
 use lib.Seq.{drop-cons, drop-length}
 use Rattle.buffer.specs.Put.{Put}
 use Rattle.buffer.proofs.Puts.{put-nothing, put-then}
-use Rattle.output.specs.Step.{together, leftFrom, Steps}
+use Rattle.output.specs.Step.{together, leftFrom, Steps, Goes}
 use Rattle.output.specs.declared.Progress.{Progress}
 
 -- what is left from a line on is that line and what is left from the next one on
@@ -38,3 +40,48 @@ module _ {lines : List (List ℕ)} {number at : ℕ} {out : List ℕ} where
             ∙ sym (append-assoc (so-far .put) (getD lines line []) (leftFrom lines (line + 1)));
         stands = put-then (so-far .stands) put;
       }
+
+-- how far a step has gone, as long as it goes on
+pub record Going (lines number at size line place : ℕ) : Type 0 where
+  pub so-far : number ≤ line
+  pub within : line ≤ lines
+  pub inside : place ≤ size
+  -- nothing is put before the first line
+  pub unmoved : line ≡ number → place ≡ at
+
+module _ {lines number at size : ℕ} where
+  pub going-start : number ≤ lines → at ≤ size → Going lines number at size number at
+  going-start some fits = record { so-far = omega arith; within = some; inside = fits; unmoved = λ e. refl }
+
+  module _ {line place : ℕ} (going : Going lines number at size line place) where
+    -- one line further
+    pub going-line : {next : ℕ} → line < lines → next ≤ size → Going lines number at size (line + 1) next
+    going-line left fits =
+        record {
+          so-far = omega (arith, going .so-far);
+          within = omega arith;
+          inside = fits;
+          unmoved = λ e. absurd (omega (arith, going .so-far));
+        }
+
+    -- it ends with the last line ..
+    pub gone-all : lines ≤ line → Goes lines number at size (record { line = line; at = place })
+    gone-all all =
+        let last : line ≡ lines = omega (arith, going .within) in
+        record { within = going .within; inside = going .inside; as-far = inl last; onward = λ some room. omega arith }
+
+    -- .. or where there is no room for a line
+    pub gone-full : size < place + 8192 → Goes lines number at size (record { line = line; at = place })
+    gone-full full =
+        record {
+          within = going .within;
+          inside = going .inside;
+          as-far = inr full;
+          onward = λ some room. moved room (decLt number line);
+        }
+      where
+        moved : at + 8192 ≤ size → Dec (number < line) → number < line
+        moved room (yes further) = further
+        moved room (no same) =
+            let stood : place ≡ at = going .unmoved (omega (arith, going .so-far, same)) in
+            absurd (omega arith)

@@ -9,7 +9,7 @@ use Rattle.output.specs.declared.Next.the-variants.{From, Failed}
 -- so many of the bytes were taken, and it goes on behind them; 0 says that nothing will be taken
 abbrev pub afterBytes : ℕ → ℕ → ℕ → Next
 afterBytes written filled zero = Failed (pos 0)
-afterBytes written filled (suc n) = From (written + min (suc n) (filled - written)) 1000
+afterBytes written filled (suc n) = From (written + min (suc n) (filled - written)) 1000000
 
 -- an interrupted write, as often as it may still be tried again
 abbrev pub tryAgain : ℕ → ℕ → ℤ → Next

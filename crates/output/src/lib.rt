@@ -10,12 +10,13 @@ ghost use Prim.Native.Nat.{_+_, _≤_, min};
 ghost use lib.Dec.{leb};
 ghost use lib.ListN.{length};
 ghost use Rattle.output.specs.Writing.{afterWrite, afterError};
+ghost use Rattle.output.specs.Room.{MakesRoom};
 
 // A line takes at most so many bytes.
 pub const ROOM: usize = 8192;
 
 // How often in a row a write that was interrupted is tried again.
-pub const TRIES: usize = 1000;
+pub const TRIES: usize = 1_000_000;
 
 // Where a step ends: the number of the next line, and the place in the buffer after what was put.
 pub struct Progress {
@@ -33,6 +34,12 @@ pub enum Next {
 // How writing out ended: all of the bytes were taken, or writing failed, with the error's number.
 pub enum Written {
     All,
+    Failed(i32),
+}
+
+// Where the next line goes, or that writing out failed, with the error's number.
+pub enum Place {
+    At(usize),
     Failed(i32),
 }
 
@@ -107,4 +114,20 @@ pub fn write_out(fd: i32, out: &[u8], filled: usize) -> Written
         }
     }
     Written::All
+}
+
+// A place with room for a line: where the text ends or, once it is written out, the start.
+pub fn make_room(fd: i32, out: &[u8], at: usize) -> Place
+    requires { ⌜ at ≤ length (now out) ⌝ }
+    requires { ⌜ 8192 ≤ length (now out) ⌝ }
+    ensures { λ r. ⌜ MakesRoom (length (now (out .entry))) at r ⌝ }
+{
+    if has_room(out, at) {
+        return Place::At(at);
+    }
+    let written = write_out(fd, out, at);
+    match written {
+        Written::All => Place::At(0),
+        Written::Failed(error) => Place::Failed(error),
+    }
 }

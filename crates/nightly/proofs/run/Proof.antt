@@ -1,162 +1,86 @@
--- `nightly::run` is safe and ends: before each turn the places are in their buffers, and each turn leaves one
--- block less to read. Assumes nothing.
-use native.Mathlib.Omega.{arith}
-use Prim.Native.Nat.{_≤_}
-use mathlib.Core.Path.{_≡_, refl, sym, subst, _∙_}
-use lib.ListN.{length}
 use borrow.Author.Needs.{needs}
-use Rattle.library.specs.Reading.{Fits}
-use Rattle.library.proofs.Readings.{opened-fits, handed-block}
-use Rattle.nightly.proofs.Places.{inside-at}
 use Rattle.nightly.proofs.run.Statement.{statement}
 use Rattle.nightly.proofs.run.Tie as tie
+use Rattle.nightly.proofs.run.Reads as reads
+use Rattle.nightly.proofs.run.Lts as lts
+use Rattle.nightly.proofs.print_library.Reads as print-library-reads
+use Rattle.output.proofs.write_out.Reads as write-out-reads
 
-abbrev Inv-loop : tie.InvT-loop
-Inv-loop input₀ output₀ reader₀ counts₀ at₀ input output reader counts at =
-    (length input ≡ length input₀) × (length output ≡ length output₀) × Fits input reader × (at ≤ length output₀)
+-- src/main.rt:45:9
+print-library-requires : tie.Need-print-library-requires
+print-library-requires c κs = search needs
 
-abbrev μ-loop : tie.MeasureT-loop
-μ-loop input₀ output₀ reader₀ counts₀ at₀ input output reader counts at = reader .left
+-- src/main.rt:47:22
+enum-known-printed : tie.Need-enum-known-printed
+enum-known-printed c = search needs
 
-open-requires : tie.Need-open-requires Inv-loop μ-loop
-open-requires c κs = search needs
+-- src/main.rt:48:13
+write-out-requires : tie.Need-write-out-requires
+write-out-requires c κs = ?
 
-loop-holds : tie.Need-loop-holds Inv-loop μ-loop
-loop-holds c = (
-  refl,
-  refl,
-  subst (Fits (c .before .before .before .args .input .now))
-      (sym (c .«open» .ensures)) (opened-fits _ _ (c .before .before .before .pre .0)),
-  omega arith,
-)
+-- src/main.rt:50:25
+enum-known-printed-2 : tie.Need-enum-known-printed-2
+enum-known-printed-2 c = search needs
 
-next-block-requires : tie.Need-next-block-requires Inv-loop μ-loop
-next-block-requires c κs = c .before .loop .inv .2
+-- src/main.rt:51:13
+write-out-requires-2 : tie.Need-write-out-requires-2
+write-out-requires-2 c κs = ?
 
-enum-known-next : tie.Need-enum-known-next Inv-loop μ-loop
-enum-known-next c = search needs
-
-finish-requires : tie.Need-finish-requires Inv-loop μ-loop
-finish-requires c κs = (
-  omega (
-    arith,
-    c .before .before .before .before .before .before .loop .inv .1,
-    c .before .before .before .before .before .before .loop .inv .3,
-  ),
-  omega (arith, c .before .before .before .before .before .before .loop .inv .1),
-)
-
-same-length : tie.Need-same-length Inv-loop μ-loop
-same-length c = c .before .before .before .before .before .before .before .next-block .kept .1 .0
-    ∙ c .before .before .before .before .before .before .before .before .before .loop .inv .0
-
-same-length-2 : tie.Need-same-length-2 Inv-loop μ-loop
-same-length-2 c = c .before .before .finish .kept .1 .1 .0
-    ∙ c .before .before .before .before .before .before .before .before .before .loop .inv .1
-
-returns : tie.Need-returns Inv-loop μ-loop
-returns c = tt
-
-add-end : tie.Need-add-end Inv-loop μ-loop
-add-end c = let b = handed-block (c .before .before .before .before .before .next-block .ensures)
-    (c .before .next .given .1) in omega (arith, b .ends, b .fits .ordered, b .fits .within)
-
-sub-do-block : tie.Need-sub-do-block Inv-loop μ-loop
-sub-do-block c = omega arith
-
-part-do-block-start : tie.Need-part-do-block-start Inv-loop μ-loop
-part-do-block-start c = omega arith
-
-part-do-block-end : tie.Need-part-do-block-end Inv-loop μ-loop
-part-do-block-end c = let b = handed-block
-    (c .before .before .before .before .before .before .next-block .ensures)
-    (c .before .before .next .given .1) in omega (arith, b .ends, b .fits .ordered, b .fits .within)
-
-do-block-requires : tie.Need-do-block-requires Inv-loop μ-loop
-do-block-requires c κs = (
-  omega (
-    arith,
-    c .before .before .before .before .before .before .before .before .before .before .loop .inv .1,
-    c .before .before .before .before .before .before .before .before .before .before .loop .inv .3,
-  ),
-  omega (
-    arith,
-    c .before .before .before .before .before .before .before .before .before .before .loop .inv .1,
-  ),
-)
-
-enum-known-place : tie.Need-enum-known-place Inv-loop μ-loop
-enum-known-place c = search needs
-
-enum-told : tie.Need-enum-told Inv-loop μ-loop
+enum-told : tie.Need-enum-told
 enum-told c = search needs
 
-same-length-3 : tie.Need-same-length-3 Inv-loop μ-loop
-same-length-3 c = c .before .before .before .before .before .before .before .before .before .before .before
-    .before .before .next-block .kept .1 .0
-    ∙ c .before .before .before .before .before .before .before .before .before .before .before .before
-    .before .before .before .loop .inv .0
+-- src/main.rt:41:1
+same-length : tie.Need-same-length
+same-length c = search needs
 
-same-length-4 : tie.Need-same-length-4 Inv-loop μ-loop
-same-length-4 c = c .before .before .before .before .do-block .kept .1 .1 .0
-    ∙ c .before .before .before .before .before .before .before .before .before .before .before .before
-    .before .before .before .loop .inv .1
+-- src/main.rt:41:1
+same-length-2 : tie.Need-same-length-2
+same-length-2 c = search needs
 
-returns-2 : tie.Need-returns-2 Inv-loop μ-loop
-returns-2 c = tt
+-- src/main.rt:41:1
+returns : tie.Need-returns
+returns c = search needs
 
-loop-less : tie.Need-loop-less Inv-loop μ-loop
-loop-less c = let b = handed-block (c .before .before .before .before .before .before .before .before .before
-    .before .before .before .before .before .before .before .next-block .ensures)
-    (c .before .before .before .before .before .before .before .before .before .before .before .before .next
-    .given .1) in omega (arith, b .one-less)
+-- src/main.rt:41:1
+same-length-3 : tie.Need-same-length-3
+same-length-3 c = search needs
 
-loop-again : tie.Need-loop-again Inv-loop μ-loop
-loop-again c = let b = handed-block (c .before .before .before .before .before .before .before .before .before
-    .before .before .before .before .before .before .before .next-block .ensures)
-    (c .before .before .before .before .before .before .before .before .before .before .before .before .next
-    .given .1) in (
-      c .before .before .before .before .before .before .before .before .before .before .before .before .before
-          .before .before .before .next-block .kept .1 .0
-          ∙ c .before .before .before .before .before .before .before .before .before .before .before .before
-          .before .before .before .before .before .before .loop .inv .0,
-      c .before .before .before .before .before .before .before .do-block .kept .1 .1 .0
-          ∙ c .before .before .before .before .before .before .before .before .before .before .before .before
-          .before .before .before .before .before .before .loop .inv .1,
-      b .fits,
-      omega (
-        arith,
-        inside-at (c .before .before .before .place .given .1)
-            (c .before .before .before .before .before .before .before .do-block .ensures .0),
-        c .before .before
-            .before .before .before .before .before .before .before .before .before .before .before .before .before
-            .before .before .before .loop .inv .1,
-      ),
-    )
+-- src/main.rt:41:1
+same-length-4 : tie.Need-same-length-4
+same-length-4 c = search needs
+
+-- src/main.rt:41:1
+returns-2 : tie.Need-returns-2
+returns-2 c = search needs
+
+-- src/main.rt:41:1
+same-length-5 : tie.Need-same-length-5
+same-length-5 c = search needs
+
+-- src/main.rt:41:1
+same-length-6 : tie.Need-same-length-6
+same-length-6 c = search needs
+
+-- src/main.rt:41:1
+returns-3 : tie.Need-returns-3
+returns-3 c = search needs
 
 pub run-spec : {M : Type 1} → statement M
 run-spec =
     tie.close
     (tie.spec
-    Inv-loop
-    μ-loop
-    open-requires
-    loop-holds
-    next-block-requires
-    enum-known-next
-    finish-requires
+    print-library-requires
+    enum-known-printed
+    write-out-requires
+    enum-known-printed-2
+    write-out-requires-2
+    enum-told
     same-length
     same-length-2
     returns
-    add-end
-    sub-do-block
-    part-do-block-start
-    part-do-block-end
-    do-block-requires
-    enum-known-place
-    enum-told
     same-length-3
     same-length-4
     returns-2
-    loop-less
-    loop-again)
+    same-length-5
+    same-length-6
+    returns-3)

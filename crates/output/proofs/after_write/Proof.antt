@@ -49,7 +49,7 @@ returns-3 : tie.Need-returns-3
 returns-3 c =
     let entry = c .before .before .before in
     let a = entry .args in
-    ap (λ taken. From (a .written + taken) 1000)
+    ap (λ taken. From (a .written + taken) 1000000)
     (c .least .ensures ∙ ap (λ answer. min (natAbs answer) (a .filled - a .written)) (toZ-ofZ w64 (a .answer) (entry .fits .answer)))
     ∙ with-bytes (a .written) (a .filled) (a .tries) (a .answer) (a .error)
     (same-answer (a .answer) (entry .fits .answer) (c .before .before .if1 .left))

@@ -41,7 +41,7 @@ returns c = let first =
       rows-promise = sides-refused (omega arith) first;
       page-promise = is-refused (first-of-sides
           (c .before .before .before .before .before .before .before .before .pre) first);
-      the-table = λ e. absurd (let z : _≡_ {A = ℕ} 0 1 = cc e in omega arith);
+      solved = λ e. absurd (let z : _≡_ {A = ℕ} 0 1 = cc e in omega arith);
     }
 
 same-length : tie.Need-same-length
@@ -58,7 +58,7 @@ returns-2 c = let solved =
           (solved .the-table accepted) (solved .none-given accepted);
       page-promise = c .before .before .page-of .ensures _ _ _ refl (solved .the-table accepted)
           (solved .none-given accepted);
-      the-table = λ e. solved .the-table accepted;
+      solved = λ e. record { none-given = solved .none-given accepted; the-table = solved .the-table accepted };
     }
 
 pub ask-sides-spec : {M : Type 1} → statement M

@@ -6,7 +6,7 @@ use mathlib.Core.Path.{_≡_, refl, sym, subst, _∙_}
 use lib.ListN.{length}
 use borrow.Author.Needs.{needs}
 use Rattle.library.specs.Reading.{Fits}
-use Rattle.library.proofs.Readings.{opened-fits, handed-block}
+use Rattle.library.proofs.Following.{opened-fits, handed-block}
 use Rattle.nightly.proofs.Places.{inside-at}
 use Rattle.nightly.proofs.run.Statement.{statement}
 use Rattle.nightly.proofs.run.Tie as tie
@@ -58,7 +58,8 @@ returns : tie.Need-returns Inv-loop μ-loop
 returns c = tt
 
 add-end : tie.Need-add-end Inv-loop μ-loop
-add-end c = let b = handed-block (c .before .before .before .before .before .next-block .ensures)
+add-end c = let b = handed-block (c .before .before .before .before .before .before .before .loop .inv .2)
+    (c .before .before .before .before .before .next-block .ensures)
     (c .before .next .given .1) in omega (arith, b .ends, b .fits .ordered, b .fits .within)
 
 sub-do-block : tie.Need-sub-do-block Inv-loop μ-loop
@@ -68,7 +69,7 @@ part-do-block-start : tie.Need-part-do-block-start Inv-loop μ-loop
 part-do-block-start c = omega arith
 
 part-do-block-end : tie.Need-part-do-block-end Inv-loop μ-loop
-part-do-block-end c = let b = handed-block
+part-do-block-end c = let b = handed-block (c .before .before .before .before .before .before .before .before .loop .inv .2)
     (c .before .before .before .before .before .before .next-block .ensures)
     (c .before .before .next .given .1) in omega (arith, b .ends, b .fits .ordered, b .fits .within)
 
@@ -106,13 +107,15 @@ returns-2 : tie.Need-returns-2 Inv-loop μ-loop
 returns-2 c = tt
 
 loop-less : tie.Need-loop-less Inv-loop μ-loop
-loop-less c = let b = handed-block (c .before .before .before .before .before .before .before .before .before
+loop-less c = let b = handed-block (c .before .before .before .before .before .before .before .before .before .before .before .before .before .before .before .before .before .before .loop .inv .2)
+    (c .before .before .before .before .before .before .before .before .before
     .before .before .before .before .before .before .before .next-block .ensures)
     (c .before .before .before .before .before .before .before .before .before .before .before .before .next
     .given .1) in omega (arith, b .one-less)
 
 loop-again : tie.Need-loop-again Inv-loop μ-loop
-loop-again c = let b = handed-block (c .before .before .before .before .before .before .before .before .before
+loop-again c = let b = handed-block (c .before .before .before .before .before .before .before .before .before .before .before .before .before .before .before .before .before .before .loop .inv .2)
+    (c .before .before .before .before .before .before .before .before .before
     .before .before .before .before .before .before .before .next-block .ensures)
     (c .before .before .before .before .before .before .before .before .before .before .before .before .next
     .given .1) in (

@@ -10,7 +10,8 @@ use Rattle.library.specs.Library.{blocksOf, joined}
 -- bytes without their first 512 and those of some blocks more
 drop-blocks : (n : ℕ) (bytes : List ℕ) → drop (512 * n) (drop 512 bytes) ≡ drop (512 * suc n) bytes
 drop-blocks n bytes =
-    drop-drop (512 * n) 512 bytes ∙ ap (λ (k : ℕ). drop k bytes) (let e : 512 + 512 * n ≡ 512 * suc n = omega arith in e)
+    drop-drop (512 * n) 512 bytes
+    ∙ ap (λ (k : ℕ). drop k bytes) (let e : 512 + 512 * n ≡ 512 * suc n = omega arith in e)
 
 -- no bytes, no blocks
 blocks-none : (n : ℕ) → blocksOf n [] ≡ []
@@ -40,7 +41,8 @@ blocks-next (suc n) (byte ∷ bytes) h =
     (drop-blocks n (byte ∷ bytes)))
 
 -- Where all bytes are in the first blocks, there are no more.
-pub blocks-all : (n m : ℕ) (bytes : List ℕ) → length bytes ≤ 512 * n → n ≤ m → blocksOf m bytes ≡ blocksOf n bytes
+pub blocks-all : (n m : ℕ) (bytes : List ℕ) → length bytes ≤ 512 * n → n ≤ m →
+    blocksOf m bytes ≡ blocksOf n bytes
 blocks-all zero m [] h within = blocks-none m
 blocks-all zero m (byte ∷ bytes) h within = absurd (omega arith)
 blocks-all (suc n) zero bytes h within = absurd (omega arith)
@@ -49,13 +51,15 @@ blocks-all (suc n) (suc m) (byte ∷ bytes) h within =
     ap (λ (l : List (List ℕ)). take 512 (byte ∷ bytes) ∷ l)
     (blocks-all n m (drop 512 (byte ∷ bytes)) (omega (arith, length-drop 512 (byte ∷ bytes))) (omega arith))
 
--- The blocks one after the other, and behind them the rest, are all bytes: none is lost and none is there twice.
+-- The blocks one after the other, and behind them the rest, are all bytes: none is lost and none is there
+-- twice.
 pub blocks-joined : (n : ℕ) (bytes : List ℕ) → joined (blocksOf n bytes) ++ drop (512 * n) bytes ≡ bytes
 blocks-joined zero bytes = refl
 blocks-joined (suc n) [] = drop-nil (512 * suc n)
 blocks-joined (suc n) (byte ∷ bytes) =
-    append-assoc (take 512 (byte ∷ bytes)) (joined (blocksOf n (drop 512 (byte ∷ bytes)))) (drop (512 * suc n) (byte ∷ bytes))
-    ∙ ap (λ (l : List ℕ). take 512 (byte ∷ bytes) ++ l)
-    (ap (λ (l : List ℕ). joined (blocksOf n (drop 512 (byte ∷ bytes))) ++ l) (sym (drop-blocks n (byte ∷ bytes)))
-    ∙ blocks-joined n (drop 512 (byte ∷ bytes)))
-    ∙ take-append-drop 512 (byte ∷ bytes)
+    let all = byte ∷ bytes in
+    let later = joined (blocksOf n (drop 512 all)) in
+    append-assoc (take 512 all) later (drop (512 * suc n) all)
+    ∙ ap (λ (l : List ℕ). take 512 all ++ l)
+    (ap (λ (l : List ℕ). later ++ l) (sym (drop-blocks n all)) ∙ blocks-joined n (drop 512 all))
+    ∙ take-append-drop 512 all

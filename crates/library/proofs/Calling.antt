@@ -2,14 +2,14 @@
 use Prim.Native.Nat.{ℕ, suc, _+_, _-_, _≤_, _<_, min}
 use native.Mathlib.Omega.{arith}
 use native.Mathlib.Decide.{decLe}
-use mathlib.Core.Path.{_≡_, refl, ap, sym, subst, _∙_}
+use mathlib.Core.Path.{_≡_, refl, ap, sym, _∙_}
 use mathlib.Core.List.{List, [], _∷_, _++_, append-nil}
 use lib.ListN.{length, take, drop, length-append, length-drop, take-append-drop}
 use lib.Seq.{take-at, take-all, take-append-add, length-take-le}
-use lib.IntN.{ℤ, negsuc}
+use lib.IntN.{ℤ}
 use borrow.Rule.Slice.PartMut.{putMid, take-put}
-use Rattle.library.specs.Reading.{waits, waiting, wanted, roomMade, moved, more, Fits, Comes, Misses, Takes}
-use Rattle.library.specs.Library.{Call, brought, Read, Reads, Calls}
+use Rattle.library.specs.Reading.{waits, waiting, roomMade, moved, more, Fits, Comes, Misses, Takes}
+use Rattle.library.specs.Library.{Call, brought, Reads, ReadsOnce, Calls}
 use Rattle.library.specs.declared.Reader.{Reader}
 use Rattle.library.specs.declared.Input.{Input}
 use Rattle.library.specs.declared.Input.the-variants as input
@@ -28,8 +28,8 @@ pub room-within : {buffer : List ℕ} {r ready : Reader} {size : ℕ} → Fits b
 room-within fits made same = omega (arith, ap (λ (z : Reader). z .filled) made, fits .ordered, fits .within)
 
 -- A call into the room that was made: `last` is what stands there then.
-module _ {buffer mid : List ℕ} {r ready : Reader} (last : List ℕ) (fits : Fits buffer r) (made : ready ≡ roomMade r)
-    (as-moved : mid ≡ moved r buffer) (same : length mid ≡ length buffer) where
+module _ {buffer mid : List ℕ} {r ready : Reader} (last : List ℕ) (fits : Fits buffer r)
+    (made : ready ≡ roomMade r) (as-moved : mid ≡ moved r buffer) (same : length mid ≡ length buffer) where
   abbrev read-into : List ℕ
   read-into = putMid (ready .filled) (length mid - ready .filled) mid last
 
@@ -43,7 +43,7 @@ module _ {buffer mid : List ℕ} {r ready : Reader} (last : List ℕ) (fits : Fi
 
   -- what the call answers is taken
   pub reads-room : {answer error : ℤ} {r′ : Reader} → length read-into ≡ length mid →
-      Takes ready (length read-into - ready .filled) answer error r′ → Reads buffer r r′ read-into
+      Takes ready (length read-into - ready .filled) answer error r′ → ReadsOnce buffer r r′ read-into
   reads-room {answer} {error} {r′} kept takes =
       record {
         call = record { room = drop (ready .filled) read-into; answer = answer; error = error };
@@ -100,8 +100,8 @@ module _ {buffer : List ℕ} {r : Reader} (room : List ℕ) (fits : Fits buffer 
   takes-on (Takes.missed e m) = misses-on m ∙ ap (λ z. waiting buffer r ++ brought z room) (sym e)
 
 -- the same of the buffer as it is then
-pub read-waiting : {buffer after : List ℕ} {r r′ : Reader} {c : Call} → Fits buffer r → Read buffer r c r′ after →
-    waiting after r′ ≡ waiting buffer r ++ brought (c .answer) (c .room)
+pub read-waiting : {buffer after : List ℕ} {r r′ : Reader} {c : Call} → Fits buffer r →
+    Reads buffer r c r′ after → waiting after r′ ≡ waiting buffer r ++ brought (c .answer) (c .room)
 read-waiting {r′ = r′} {c = c} fits a =
     ap (λ (l : List ℕ). waiting l r′) (a .behind) ∙ takes-on (c .room) fits (a .takes)
 
@@ -146,11 +146,12 @@ module _ {after : List ℕ} {r : Reader} (size : ℕ) (large : 512 ≤ length af
   left-takes (Takes.missed e m) = left-missed m
 
 -- a call leaves this
-pub read-left : {buffer after : List ℕ} {r r′ : Reader} {c : Call} → Fits buffer r → Read buffer r c r′ after →
+pub read-left : {buffer after : List ℕ} {r r′ : Reader} {c : Call} → Fits buffer r → Reads buffer r c r′ after →
     Left r r′ after
 read-left {buffer} {r = r} {c = c} fits a =
     left-takes (length (c .room)) (omega (arith, a .same-length, fits .room))
-    (omega (arith, ap length (a .behind), length-append (waiting buffer r) (c .room), waiting-length fits)) (a .takes)
+    (omega (arith, ap length (a .behind), length-append (waiting buffer r) (c .room), waiting-length fits))
+    (a .takes)
 
 -- some calls, and where they led
 pub record Reached (buffer : List ℕ) (r r′ : Reader) (after : List ℕ) : Type 0 where
@@ -165,7 +166,7 @@ reached-none fits = record { calls = []; reads = Calls.none; fits = fits; same-l
 
 -- one more, where a read is wanted
 pub reached-more : {buffer mid after : List ℕ} {r r₁ r₂ : Reader} → Reached buffer r r₁ mid →
-    Comes r₁ next.Wanted r₁ → Reads mid r₁ r₂ after → Reached buffer r r₂ after
+    Comes r₁ next.Wanted r₁ → ReadsOnce mid r₁ r₂ after → Reached buffer r r₂ after
 reached-more far comes a =
     record {
       calls = a .call ∷ far .calls;
@@ -176,6 +177,6 @@ reached-more far comes a =
 
 -- a read that is wanted leaves less to ask for
 pub wanted-falls : {buffer after : List ℕ} {r r′ : Reader} → Fits buffer r → Comes r next.Wanted r →
-    Reads buffer r r′ after → to-ask r′ < to-ask r
+    ReadsOnce buffer r r′ after → to-ask r′ < to-ask r
 wanted-falls {r = r} fits (Comes.a-read few still) a =
     read-left fits (a .read) .falls (omega (arith, wanted-most (r .left))) still

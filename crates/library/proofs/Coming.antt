@@ -27,13 +27,18 @@ pub short-block : (left : ℕ) {n : ℕ} → n < wanted left → (n ≡ 0 → �
 short-block zero {n} few some = absurd (some (omega arith))
 short-block (suc left) few some = (omega arith, few)
 
--- never more than a block's bytes
+-- always some, and never more than a block's bytes
+pub wanted-some : (left : ℕ) → 0 < wanted left
+wanted-some zero = omega arith
+wanted-some (suc left) = omega arith
+
 pub wanted-most : (left : ℕ) → wanted left ≤ 512
 wanted-most zero = omega arith
 wanted-most (suc left) = omega arith
 
 -- where a read is wanted, too few bytes wait and more may come ..
-pub comes-more : {r r′ : Reader} → Comes r next.Wanted r′ → (waits r < wanted (r .left)) × (r .input ≡ input.More)
+pub comes-more : {r r′ : Reader} → Comes r next.Wanted r′ →
+    (waits r < wanted (r .left)) × (r .input ≡ input.More)
 comes-more (Comes.a-read few still) = (few, still)
 
 -- .. and the reader stays as it is

@@ -1,8 +1,8 @@
--- What a program may go by that calls `next_block` again and again: where its reader stands in the buffer, and that its
--- run goes on.
+-- What a program may go by that calls `next_block` again and again: where its reader stands in the buffer,
+-- and that its run goes on.
 use Prim.Native.Nat.{ℕ, _+_, _≤_}
 use native.Mathlib.Omega.{arith}
-use mathlib.Core.Path.{_≡_, refl, ap, subst, _∙_}
+use mathlib.Core.Path.{_≡_, refl, subst, _∙_}
 use mathlib.Core.List.{List, [], _∷_, _++_}
 use lib.ListN.{length}
 use lib.IntN.{ℤ}

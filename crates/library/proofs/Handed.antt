@@ -1,5 +1,6 @@
--- A library's blocks are handed on in order, none lost and none twice, however the calls of read cut the input; and
--- what is told at the end is so. Of the contracts alone: of any run of calls, whatever they answer, and of blocks.
+-- A library's blocks are handed on in order, none lost and none twice, however the calls of read cut the
+-- input; and what is told at the end is so. Of the contracts alone: of any run of calls, whatever they
+-- answer, and of blocks.
 use Prim.Native.Nat.{ℕ, suc, _+_, _*_, _-_, _<_, _≤_}
 use native.Mathlib.Omega.{arith}
 use mathlib.Core.Path.{_≡_, refl, ap, ap₂, sym, subst, _∙_}
@@ -7,9 +8,10 @@ use mathlib.Core.Logic.{_⊎_, inl, inr}
 use mathlib.Core.List.{List, [], _∷_, _++_}
 use lib.ListN.{length, take, drop, length-append, length-drop, drop-of-length-le}
 use lib.Seq.{take-add, take-take, take-all, drop-at, drop-drop, drop-append-le, length-take-le}
-use lib.IntN.{ℤ, pos, negsuc}
-use Rattle.library.specs.Reading.{patience, part, waits, waiting, wanted, handed, roomMade, interrupted, Fits, Comes, Misses, Takes}
-use Rattle.library.specs.Library.{blocksOf, joined, Call, came, brought, Going, EndedBy, FailedBy, Read, Calls, Run, HandedOn, AtEnd, AtLimit, AtFailure}
+use lib.IntN.{ℤ}
+use Rattle.library.specs.Reading.{patience, part, waits, waiting, handed, Fits, Comes}
+use Rattle.library.specs.Library.{blocksOf, joined, Call, came, brought, Going, Reads, Run}
+use Rattle.library.specs.Library.{HandedOn, AtEnd, AtLimit, AtFailure}
 use Rattle.library.specs.declared.Reader.{Reader}
 use Rattle.library.specs.declared.Input.{Input}
 use Rattle.library.specs.declared.Input.the-variants as input
@@ -17,65 +19,10 @@ use Rattle.library.specs.declared.Next.the-variants as next
 use Rattle.library.proofs.Coming.{wanted-most, comes-more}
 use Rattle.library.proofs.Calling.{waiting-length, read-waiting, read-left}
 use Rattle.library.proofs.Blocks.{blocks-more, blocks-next, blocks-all, blocks-joined}
+use Rattle.library.proofs.Said.{Told, told-takes, goes-on, ended-by, failed-by}
 
--- What the calls so far say of the input, and how often one may still be tried again.
-data Told : Input → ℕ → List Call → Type 0 where
-  more : {calls : List Call} {retries n : ℕ} → Going calls n → retries + n ≡ patience
-      → Told input.More retries calls
-  ended : {calls : List Call} {retries : ℕ} → EndedBy calls → Told input.Ended retries calls
-  failed : {calls : List Call} {retries : ℕ} {error : ℤ} → FailedBy error calls
-      → Told (input.Failed error) retries calls
-
--- a call where more may come
-module _ {calls : List Call} {n : ℕ} (r : Reader) (c : Call) (going : Going calls n)
-    (budget : r .retries + n ≡ patience) (still : r .input ≡ input.More) where
-  told-missed : {r′ : Reader} {k : ℕ} → c .answer ≡ negsuc k → Misses (roomMade r) (c .error) r′ →
-      Told (r′ .input) (r′ .retries) (c ∷ calls)
-  told-missed answer (Misses.tried-again e some) =
-      subst (λ said. Told said (r .retries - 1) (c ∷ calls)) (sym still)
-      (Told.more (Going.again answer e going) (omega arith))
-  told-missed answer (Misses.given-up e none) =
-      let all : n ≡ patience = omega arith in
-      Told.failed (FailedBy.failed answer refl (λ same. all) going)
-  told-missed answer (Misses.failed other) =
-      Told.failed (FailedBy.failed answer refl (λ same. absurd (other same)) going)
-
-  told-takes : {r′ : Reader} → 0 < length (c .room) →
-      Takes (roomMade r) (length (c .room)) (c .answer) (c .error) r′ →
-      Told (r′ .input) (r′ .retries) (c ∷ calls)
-  told-takes lent (Takes.the-end e) = Told.ended (EndedBy.ended e lent going)
-  told-takes lent (Takes.bytes e) =
-      subst (λ said. Told said (r .retries) (c ∷ calls)) (sym still) (Told.more (Going.bytes e going) budget)
-  told-takes lent (Takes.missed e m) = told-missed e m
-
--- where more may come, the calls go on
-record GoesOn (retries : ℕ) (calls : List Call) : Type 0 where
-  pub times : ℕ
-  pub going : Going calls times
-  pub budget : retries + times ≡ patience
-
-goes-on : {said : Input} {retries : ℕ} {calls : List Call} → Told said retries calls → said ≡ input.More →
-    GoesOn retries calls
-goes-on (Told.more g budget) e = record { times = _; going = g; budget = budget }
-goes-on (Told.ended by) e = absurd (let z : _≡_ {A = ℕ} 0 1 = cc e in omega arith)
-goes-on (Told.failed by) e = absurd (let z : _≡_ {A = ℕ} 0 1 = cc e in omega arith)
-
--- where the input has ended, a call said so ..
-ended-by : {said : Input} {retries : ℕ} {calls : List Call} → Told said retries calls → said ≡ input.Ended →
-    EndedBy calls
-ended-by (Told.more g budget) e = absurd (let z : _≡_ {A = ℕ} 0 1 = cc e in omega arith)
-ended-by (Told.ended by) e = by
-ended-by (Told.failed by) e = absurd (let z : _≡_ {A = ℕ} 0 1 = cc e in omega arith)
-
--- .. and where a call failed, it was the newest
-failed-by : {said : Input} {retries : ℕ} {calls : List Call} {error : ℤ} → Told said retries calls →
-    said ≡ input.Failed error → FailedBy error calls
-failed-by (Told.more g budget) e = absurd (let z : _≡_ {A = ℕ} 0 1 = cc e in omega arith)
-failed-by (Told.ended by) e = absurd (let z : _≡_ {A = ℕ} 0 1 = cc e in omega arith)
-failed-by {calls = calls} (Told.failed by) e = subst (λ z. FailedBy z calls) (cc e) by
-
--- What is kept all along a run: the first fields of `HandedOn`; that no short block was handed on before the input
--- had ended; and what the calls say of the input.
+-- What is kept all along a run: the first fields of `HandedOn`; that no short block was handed on before the
+-- input had ended; and what the calls say of the input.
 record Holds (most : ℕ) (calls : List Call) (blocks : List (List ℕ)) (r : Reader) (buffer : List ℕ) : Type 0 where
   pub fits : Fits buffer r
   pub counted : length blocks + r .left ≡ most
@@ -84,23 +31,17 @@ record Holds (most : ℕ) (calls : List Call) (blocks : List (List ℕ)) (r : Re
   pub whole : (512 * length blocks ≤ length (came calls)) ⊎ (r .input ≡ input.Ended)
   pub told : Told (r .input) (r .retries) calls
 
--- as long as more may come, only whole blocks were handed on
-whole-still : {n k : ℕ} {said : Input} → (n ≤ k) ⊎ (said ≡ input.Ended) → said ≡ input.More → n ≤ k
-whole-still (inl h) still = h
-whole-still (inr e) still = absurd (let z : _≡_ {A = ℕ} 0 1 = cc (e, still) in omega arith)
-
--- likewise where one failed
-whole-failed : {n k : ℕ} {said : Input} {error : ℤ} → (n ≤ k) ⊎ (said ≡ input.Ended) → said ≡ input.Failed error →
-    n ≤ k
-whole-failed (inl h) e = h
-whole-failed (inr over) e = absurd (let z : _≡_ {A = ℕ} 0 1 = cc (over, e) in omega arith)
+-- as long as the input has not ended, only whole blocks were handed on
+whole-before : {n k : ℕ} {said : Input} → (n ≤ k) ⊎ (said ≡ input.Ended) → (said ≡ input.Ended → ⊥) → n ≤ k
+whole-before (inl h) goes-on = h
+whole-before (inr over) goes-on = absurd (goes-on over)
 
 -- A call where a read is wanted: what it brought comes behind what came before.
 module _ {most : ℕ} {calls : List Call} {blocks : List (List ℕ)} {r r′ : Reader} {buffer after : List ℕ} {c : Call}
-    (h : Holds most calls blocks r buffer) (a : Read buffer r c r′ after) (still : r .input ≡ input.More)
+    (h : Holds most calls blocks r buffer) (a : Reads buffer r c r′ after) (still : r .input ≡ input.More)
     (few : waits r < 512) where
   enough : 512 * length blocks ≤ length (came calls)
-  enough = whole-still (h .whole) still
+  enough = whole-before (h .whole) (λ over. let z : _≡_ {A = ℕ} 0 1 = cc (over, still) in omega arith)
 
   lent : 0 < length (c .room)
   lent =
@@ -149,7 +90,7 @@ module _ {most : ℕ} {calls : List Call} {blocks : List (List ℕ)} {r : Reader
       sym (length-drop (512 * length blocks) (came calls)) ∙ sym (ap length (h .rest)) ∙ waiting-length (h .fits)
 
   one-more : (block : List ℕ) → length (blocks ++ (block ∷ [])) ≡ suc (length blocks)
-  one-more block = let e : length (blocks ++ (block ∷ [])) ≡ length blocks + 1 = length-append blocks (block ∷ []) in omega arith
+  one-more block = omega (arith, length-append blocks (block ∷ []))
 
   holds-block : (size : ℕ) → 0 < r .left → r .at + size ≤ r .filled → 0 < waits r →
       part (r .at) size buffer ≡ take 512 (waiting buffer r) →
@@ -172,12 +113,15 @@ module _ {most : ℕ} {calls : List Call} {blocks : List (List ℕ)} {r : Reader
             ∙ ap (λ (k : ℕ). drop k (came calls))
             (let e : 512 * length blocks + 512 ≡ 512 * length (blocks ++ (block ∷ [])) =
             omega (arith, one-more block) in e);
-        whole = subst (λ (k : ℕ). (512 * k ≤ length (came calls)) ⊎ (r .input ≡ input.Ended)) (sym (one-more block)) whole;
+        whole =
+            subst (λ (k : ℕ). (512 * k ≤ length (came calls)) ⊎ (r .input ≡ input.Ended)) (sym (one-more block))
+            whole;
         told = h .told;
       }
 
   -- a whole one
-  holds-whole : 0 < r .left → 512 ≤ waits r → Holds most calls (blocks ++ (part (r .at) 512 buffer ∷ [])) (handed 512 r) buffer
+  holds-whole : 0 < r .left → 512 ≤ waits r →
+      Holds most calls (blocks ++ (part (r .at) 512 buffer ∷ [])) (handed 512 r) buffer
   holds-whole may many =
       let within : r .at + 512 ≤ r .filled = omega arith in
       let size : length (part (r .at) 512 buffer) ≡ 512 =
@@ -193,7 +137,8 @@ module _ {most : ℕ} {calls : List Call} {blocks : List (List ℕ)} {r : Reader
   holds-short may some few over =
       let size : length (waiting buffer r) ≡ waits r = waiting-length (h .fits) in
       let none : waits (handed (waits r) r) ≡ 0 = omega (arith, h .fits .ordered) in
-      holds-block (waits r) may (omega (arith, h .fits .ordered)) some (sym (take-all 512 (waiting buffer r) (omega arith)))
+      holds-block (waits r) may (omega (arith, h .fits .ordered)) some
+      (sym (take-all 512 (waiting buffer r) (omega arith)))
       (ap (λ (k : ℕ). take k (drop (r .at + waits r) buffer)) none
       ∙ sym (drop-of-length-le (waiting buffer r) {i = 512} (omega arith)))
       (inr over)
@@ -256,19 +201,25 @@ module _ {most : ℕ} {calls : List Call} {blocks : List (List ℕ)} {r : Reader
   at-limit (Comes.remains none-left some) =
       let h = holds run in
       let all-read : length blocks ≡ most = omega (arith, h .counted) in
+      let more : 512 * most < length (came calls) = omega (arith, came-length h) in
       record {
         counted = all-read;
-        all = h .in-order ∙ ap (λ (k : ℕ). blocksOf k (came calls)) all-read;
-        more = omega (arith, came-length h);
+        more = more;
+        all =
+            λ rest.
+            h .in-order
+            ∙ ap (λ (k : ℕ). blocksOf k (came calls)) all-read
+            ∙ sym (blocks-more most (came calls) rest (omega arith));
       }
 
-  -- A failure is told only where a call failed with that error, and one that was interrupted only after a million.
+  -- A failure is told only where a call failed with that error, and one that was interrupted only after a
+  -- million.
   pub at-failure : {r′ : Reader} {error : ℤ} → Comes r (next.Failed error) r′ → AtFailure error calls blocks
   at-failure (Comes.failed few told) =
       let h = holds run in
       record {
         failed = failed-by (h .told) told;
         in-order = h .in-order;
-        whole = whole-failed (h .whole) told;
+        whole = whole-before (h .whole) (λ over. let z : _≡_ {A = ℕ} 0 1 = cc (over, told) in omega arith);
         no-other = omega (arith, came-length h, wanted-most (r .left));
       }

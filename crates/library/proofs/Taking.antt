@@ -1,7 +1,7 @@
 -- Laws of what a call's answer says, by the tests that are made of its bits.
 use Prim.Native.Nat.{ℕ, zero, suc, _-_, _≤_}
 use native.Mathlib.Omega.{arith}
-use mathlib.Core.Path.{_≡_, refl, ap, sym, subst, _∙_}
+use mathlib.Core.Path.{_≡_, ap, sym, subst, _∙_}
 use mathlib.Core.Logic.{_⊎_, inl, inr}
 use mathlib.Core.Bool.{true, false}
 use mathlib.Core.List.{List}
@@ -41,7 +41,8 @@ read answer = toZ w64 (ofZ w64 answer)
 
 module _ {r : Reader} {room : ℕ} {answer error : ℤ} (fits : SFits w64 answer) where
   -- a negative answer
-  pub takes-missed : {r′ : Reader} → ltZ (read answer) (pos 0) ≡ true → Misses r error r′ → Takes r room answer error r′
+  pub takes-missed : {r′ : Reader} → ltZ (read answer) (pos 0) ≡ true → Misses r error r′ →
+      Takes r room answer error r′
   takes-missed {r′} e m = by-answer (read answer) (toZ-ofZ w64 answer fits) e
     where
       by-answer : (z : ℤ) → z ≡ answer → ltZ z (pos 0) ≡ true → Takes r room answer error r′
@@ -53,8 +54,8 @@ module _ {r : Reader} {room : ℕ} {answer error : ℤ} (fits : SFits w64 answer
   takes-end e = Takes.the-end (sym (toZ-ofZ w64 answer fits) ∙ ap (toZ w64) e)
 
   -- any other
-  pub takes-bytes : {n : ℕ} → ltZ (read answer) (pos 0) ≡ false → (ofZ w64 answer ≡ 0 → ⊥) → n ≡ clamped (read answer) room →
-      Takes r room answer error (more n r)
+  pub takes-bytes : {n : ℕ} → ltZ (read answer) (pos 0) ≡ false → (ofZ w64 answer ≡ 0 → ⊥) →
+      n ≡ clamped (read answer) room → Takes r room answer error (more n r)
   takes-bytes {n} e some count = by-answer (read answer) (toZ-ofZ w64 answer fits) e count
     where
       by-answer : (z : ℤ) → z ≡ answer → ltZ z (pos 0) ≡ false → n ≡ clamped z room

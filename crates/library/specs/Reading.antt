@@ -1,5 +1,5 @@
--- Reading a library (document 01, "A library block" and "The nightly program"): the bytes that wait, what comes
--- next of them, and what the answer of a call of read says.
+-- Reading a library (document 01, "A library block" and "The nightly program"): the bytes that wait, what
+-- comes next of them, and what the answer of a call of read says.
 use Prim.Native.Nat.{ℕ, zero, suc, _+_, _-_, _≤_, _<_, min}
 use mathlib.Core.Path.{_≡_}
 use mathlib.Core.List.{List, _++_}
@@ -37,8 +37,8 @@ pub record Fits (buffer : List ℕ) (r : Reader) : Type 0 where
   pub within : r .filled ≤ length buffer
   pub room : 512 ≤ length buffer
 
--- how many bytes must wait while more may come: a block's or, where no block may be read any more, one, which says
--- that input remains
+-- how many bytes must wait while more may come: a block's or, where no block may be read any more, one, which
+-- says that input remains
 abbrev pub wanted : ℕ → ℕ
 wanted zero = 1
 wanted (suc left) = 512
@@ -93,16 +93,16 @@ told said r = record { at = r .at; filled = r .filled; left = r .left; retries =
 abbrev pub interrupted : ℤ
 interrupted = pos 4
 
--- What a call that failed with this error says: an interrupted one is tried again as long as that may be done; any
--- other error is a failure that is told.
+-- What a call that failed with this error says: an interrupted one is tried again as long as that may be
+-- done; any other error is a failure that is told.
 pub data Misses (r : Reader) (error : ℤ) : Reader → Type 0 where
   tried-again : error ≡ interrupted → 0 < r .retries → Misses r error (again r)
   given-up : error ≡ interrupted → r .retries ≡ 0 → Misses r error (told (input.Failed error) r)
   failed : (error ≡ interrupted → ⊥) → Misses r error (told (input.Failed error) r)
 
--- What a call says that was lent so much room: 0 is the end of the input; any other number that is not negative, so
--- many bytes came, and no more than there was room for, since nothing else can have been put there; a negative one, it
--- failed.
+-- What a call says that was lent so much room: 0 is the end of the input; any other number that is not
+-- negative, so many bytes came, and no more than there was room for, since nothing else can have been put
+-- there; a negative one, it failed.
 pub data Takes (r : Reader) (room : ℕ) (answer error : ℤ) : Reader → Type 0 where
   the-end : answer ≡ pos 0 → Takes r room answer error (told input.Ended r)
   bytes : {n : ℕ} → answer ≡ pos (suc n) → Takes r room answer error (more (min (suc n) room) r)

@@ -1,13 +1,15 @@
-// A library read block by block from a file descriptor, through one lent buffer and with few calls of the system.
+// A library read block by block from a file descriptor, through one lent buffer and with few calls of the
+// system.
 //
-// No contract can say which bytes a call of read puts into the buffer. So everything but the call is a function of
-// values: what its answer says of the reader, where the bytes that wait are put before it, and what comes next.
-// What is proved of any number of calls, whatever they answer, stands in proofs/Handed.antt.
+// No contract can say which bytes a call of read puts into the buffer. So everything but the call is a
+// function of values: what its answer says of the reader, where the bytes that wait are put before it, and
+// what comes next. What is proved of any number of calls, whatever they answer, stands in proofs/Handed.antt.
 ghost use mathlib.Core.Path.{_≡_};
 ghost use Prim.Native.Nat.{_+_, _-_, _≤_, _<_};
 ghost use lib.ListN.{length};
-ghost use Rattle.library.specs.Reading.{opened, waits, wanted, handed, roomMade, moved, told, Fits, Comes, Misses, Takes};
-ghost use Rattle.library.specs.Library.{Reads, HandsOn};
+ghost use Rattle.library.specs.Reading.{opened, wanted, handed, roomMade, moved, told};
+ghost use Rattle.library.specs.Reading.{Fits, Comes, Misses, Takes};
+ghost use Rattle.library.specs.Library.{ReadsOnce, HandsOn};
 
 // The bytes of a block.
 pub const BLOCK: usize = 512;
@@ -15,16 +17,17 @@ pub const BLOCK: usize = 512;
 // So many interrupted calls are tried again, a million in all: every loop must end.
 const RETRIES: u64 = 1_000_000;
 
-// What the calls of read have said of the input so far: more may come, it has ended, or a call failed, with the
-// system's number for the error.
+// What the calls of read have said of the input so far: more may come, it has ended, or a call failed, with
+// the system's number for the error.
 pub enum Input {
     More,
     Ended,
     Failed(i32),
 }
 
-// How far a library has been read. The bytes that came and were not handed on yet stand in the buffer from `at`
-// up to `filled`; `left` blocks may still be handed on; `retries` interrupted calls may still be tried again.
+// How far a library has been read. The bytes that came and were not handed on yet stand in the buffer from
+// `at` up to `filled`; `left` blocks may still be handed on; `retries` interrupted calls may still be tried
+// again.
 pub struct Reader {
     pub at: usize,
     pub filled: usize,
@@ -33,9 +36,9 @@ pub struct Reader {
     pub input: Input,
 }
 
-// What comes next: a block, by its place in the buffer, where only the last may have fewer than 512 bytes; the
-// end; input that remains after the last block that may be read; a failure, with its error; or a read is wanted
-// before it can be said.
+// What comes next: a block, by its place in the buffer, where only the last may have fewer than 512 bytes;
+// the end; input that remains after the last block that may be read; a failure, with its error; or a read is
+// wanted before it can be said.
 pub enum Next {
     Block { start: usize, length: usize },
     End,
@@ -117,8 +120,8 @@ pub fn next_step(reader: Reader) -> Step
     }
 }
 
-// How many bytes must wait while more may come: a block's or, where no block may be read any more, one, which says
-// that input remains.
+// How many bytes must wait while more may come: a block's or, where no block may be read any more, one, which
+// says that input remains.
 fn wanted(left: u64) -> usize
     ensures { λ r. ⌜ r ≡ wanted left ⌝ }
 {
@@ -147,7 +150,7 @@ fn hand_on(reader: Reader, length: usize) -> Step
 // One call of read into the room behind the bytes that wait, which are moved to the buffer's start before it.
 fn read_more(fd: i32, buffer: &mut [u8], reader: Reader) -> Reader
     requires { ⌜ Fits (now buffer) reader ⌝ }
-    ensures { λ r. ⌜ Reads (now (buffer .entry)) reader r (now (buffer .exit)) ⌝ }
+    ensures { λ r. ⌜ ReadsOnce (now (buffer .entry)) reader r (now (buffer .exit)) ⌝ }
 {
     let ready = make_room(buffer, reader);
     let filled = ready.filled;
@@ -174,8 +177,9 @@ pub fn make_room(buffer: &mut [u8], reader: Reader) -> Reader
     ready
 }
 
-// What a call's answer says: 0 that the input has ended, a negative one that the call failed, any other how many
-// bytes came behind those that wait. More than there was room for cannot have come: the room is full then.
+// What a call's answer says: 0 that the input has ended, a negative one that the call failed, any other how
+// many bytes came behind those that wait. More than there was room for cannot have come: the room is full
+// then.
 pub fn took(reader: Reader, buffer: &[u8], answer: isize, error: i32) -> Reader
     requires { ⌜ reader .filled ≤ length (now buffer) ⌝ }
     ensures { λ r. ⌜ Takes reader (length (now (buffer .entry)) - reader .filled) answer error r ⌝ }

@@ -1,7 +1,7 @@
 -- `library::make_room` meets its contract: before each turn the first i bytes are moved. Assumes nothing.
 use Prim.Native.Nat.{_≤_, _-_}
 use native.Mathlib.Omega.{arith}
-use mathlib.Core.Path.{_≡_, refl}
+use mathlib.Core.Path.{refl}
 use Rattle.library.specs.Reading.{waits}
 use Rattle.library.proofs.Moved.{Moved, moved-none, moved-next, moved-all}
 use Rattle.library.proofs.make_room.Statement.{statement}
@@ -41,7 +41,9 @@ same-length : tie.Need-same-length Inv-loop μ-loop
 same-length c = c .before .loop .inv .1 .same-length
 
 returns : tie.Need-returns Inv-loop μ-loop
-returns c = (refl, moved-all (waits (c .before .before .before .args .reader)) (omega arith) (c .before .loop .inv .1))
+returns c =
+    let r = c .before .before .before .args .reader in
+    (refl, moved-all (waits r) (omega arith) (c .before .loop .inv .1))
 
 pub make-room-spec : {M : Type 1} → statement M
 make-room-spec =

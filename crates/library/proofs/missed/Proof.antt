@@ -1,7 +1,6 @@
 -- `library::missed` meets its contract. Assumes nothing.
-use mathlib.Core.Path.{sym, subst}
+use mathlib.Core.Path.{ap, sym, subst, _∙_}
 use mathlib.Core.Logic.{inl, inr, ⊎-elim}
-use lib.IntN.{ℤ}
 use mir.Syntax.{w32}
 use mir.ValLaws.{toZ-ofZ}
 use borrow.Author.Needs.{needs}
@@ -26,7 +25,10 @@ told-requires c κs = search needs
 returns-2 : tie.Need-returns-2
 returns-2 c =
     let entry = c .before .before in
-    rw (c .told .ensures, toZ-ofZ w32 (entry .args .error) (entry .fits .error))
+    let r = entry .args .reader in
+    let error = entry .args .error in
+    subst (Misses r error)
+    (sym (c .told .ensures ∙ ap (λ e. told (input.Failed e) r) (toZ-ofZ w32 error (entry .fits .error))))
     (misses-told (entry .fits .error)
     (⊎-elim (λ both. inl (both .0 .taken, both .2 .left)) (λ other. inr (other .left)) (c .before .if1 .came)))
 

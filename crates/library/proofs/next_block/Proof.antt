@@ -1,5 +1,5 @@
--- `library::next_block` meets its contract: before each turn some calls were made, each where a read was wanted. It
--- ends, since every call leaves less to ask for. Assumes nothing.
+-- `library::next_block` meets its contract: before each turn some calls were made, each where a read was
+-- wanted. It ends, since every call leaves less to ask for. Assumes nothing.
 use borrow.Author.Needs.{needs}
 use Rattle.library.proofs.Coming.{comes-wanted, not-wanted}
 use Rattle.library.proofs.Calling.{to-ask, Reached, reached-none, reached-more, wanted-falls}

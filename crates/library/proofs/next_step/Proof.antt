@@ -1,12 +1,14 @@
--- `library::next_step` meets its contract: enough bytes wait, or what comes next depends on the input. Assumes
--- nothing.
+-- `library::next_step` meets its contract: enough bytes wait, or what comes next depends on the input.
+-- Assumes nothing.
 use Prim.Native.Nat.{_<_}
 use native.Mathlib.Omega.{arith}
+use mathlib.Core.Path.{sym, subst}
 use mir.Syntax.{w32}
 use mir.Val.{SFits}
 use mir.ValLaws.{toZ-ofZ}
 use borrow.Author.Needs.{needs}
 use Rattle.library.specs.Reading.{waits, wanted, Comes}
+use Rattle.library.specs.declared.Next.the-variants as next
 use Rattle.library.proofs.Coming.{wanted-block, wanted-one, short-block}
 use Rattle.library.proofs.next_step.Statement.{statement}
 use Rattle.library.proofs.next_step.Tie as tie
@@ -63,9 +65,12 @@ returns-4 c =
 
 returns-5 : tie.Need-returns-5
 returns-5 c =
-    let fits : SFits w32 (c .before .input .given .0 .0) = search needs in
-    rw (toZ-ofZ w32 (c .before .input .given .0 .0) fits)
-    (Comes.failed (omega (arith, c .before .before .before .before .wanted .ensures)) (c .before .input .given .1))
+    let r = c .before .before .before .before .before .before .args .reader in
+    let error = c .before .input .given .0 .0 in
+    let fits : SFits w32 error = search needs in
+    subst (λ e. Comes r (next.Failed e) r) (sym (toZ-ofZ w32 error fits))
+    (Comes.failed (omega (arith, c .before .before .before .before .wanted .ensures))
+    (c .before .input .given .1))
 
 returns-6 : tie.Need-returns-6
 returns-6 c =
@@ -74,7 +79,8 @@ returns-6 c =
     let few : waits r < wanted (r .left) = omega (arith, at-wanted .wanted .ensures) in
     let short = short-block (r .left) few (c .before .if3 .left) in
     rw (c .hand-on2 .ensures .0, c .hand-on2 .ensures .1)
-    (Comes.a-short-block (short .0) (omega (arith, c .before .if3 .left)) (short .1) (c .before .before .enum-told2 .given .1))
+    (Comes.a-short-block (short .0) (omega (arith, c .before .if3 .left)) (short .1)
+    (c .before .before .enum-told2 .given .1))
 
 pub next-step-spec : {M : Type 1} → statement M
 next-step-spec =

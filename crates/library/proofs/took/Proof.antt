@@ -1,4 +1,5 @@
--- `library::took` meets its contract: what is tested and counted is the answer that was given. Assumes nothing.
+-- `library::took` meets its contract: what is tested and counted is the answer that was given. Assumes
+-- nothing.
 use mathlib.Core.Path.{ap, subst, _∙_}
 use mir.Syntax.{w32}
 use mir.ValLaws.{toZ-ofZ}

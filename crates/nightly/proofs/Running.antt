@@ -11,8 +11,13 @@ use Rattle.tally.specs.Line.{lineOf}
 use Rattle.tally.specs.Counts.{counted, closingOf}
 use Rattle.tally.specs.declared.Line.{Line}
 use Rattle.tally.specs.declared.Counts.{Counts}
-use Rattle.library.specs.Reading.{opened, part, HandsOn}
-use Rattle.library.proofs.Readings.{handed-block}
+use denote.Enum.Declared.{tagOf}
+use types.Run.{OneOf, miss}
+use Rattle.library.specs.Reading.{opened, part}
+use Rattle.library.specs.Library.{Call, HandsOn, Run}
+use Rattle.library.proofs.Next.{the-type}
+use Rattle.library.proofs.Handed.{handed-on}
+use Rattle.library.proofs.Following.{run-block, run-end, run-limit, run-failure}
 use Rattle.library.specs.declared.Reader.{Reader}
 use Rattle.library.specs.declared.Next.{Next}
 use Rattle.library.specs.declared.Next.the-variants as next
@@ -26,10 +31,10 @@ use Rattle.lines.specs.Library.{mostBlocks, Found, BlocksText, no-more, countsO
 use Rattle.lines.specs.Putting.{PutWithin}
 use Rattle.lines.proofs.Library.{line-each, blocks-more, counts-more}
 use Rattle.nightly.specs.Printed.{linesOf, Prints, Starts, BlockPut, lines-put, not-put}
-use Rattle.nightly.specs.Library.{noCounts, Handed, Ends, at-end, input-remains, HandedOn, Started, Finishes, LibraryPrinted, all, not-read, not-written}
+use Rattle.nightly.specs.Library.{noCounts, Started, Over, at-end, input-remains, failed, Finishes, PrintedTo, LibraryPrinted, all, too-long, not-read, not-written}
 use Rattle.nightly.specs.declared.print.Listing.{Listing}
 use Rattle.nightly.specs.declared.Printed.{Printed}
-use Rattle.nightly.specs.declared.Printed.the-variants.{All, Unread, Unwritten}
+use Rattle.nightly.specs.declared.Printed.the-variants.{All, Unread}
 
 -- writing out a block's lines failed
 pub writing-failed : {l : Listing} {out out′ : List ℕ} {at : ℕ} {p : Place} {error : ℤ} → p ≡ Failed error
@@ -70,62 +75,53 @@ started-text (Started.a-block {blocks = blocks} {block = block} so-far starts) f
     let more = length-append blocks (block ∷ []) in
     started-more (omega arith) (started-text so-far (omega arith)) starts
 
--- so many blocks fewer may be handed on
-handed-left : {input input′ : List ℕ} {r r′ : Reader} {blocks : List (List ℕ)} → Handed input r blocks input′ r′
-    → length blocks + r′ .left ≡ r .left
-handed-left Handed.nothing = omega arith
-handed-left (Handed.a-block {blocks = blocks} {input″ = input″} {start = start} {size = size} before handed) =
-    omega (
-      arith,
-      handed-left before,
-      handed-block handed refl .one-less,
-      length-append blocks (part start size input″ ∷ []),
-    )
+-- where no block and no read comes next, it is over
+pub over : (n : Next) → OneOf (1 ∷ 2 ∷ 3 ∷ 4 ∷ []) (tagOf the-type n) → (n ≡ next.Wanted → ⊥) → Over n
+over (next.Block start size) other no-read = absurd (miss (1 ∷ 2 ∷ 3 ∷ 4 ∷ []) 0 tt other)
+over next.End other no-read = at-end
+over next.Remains other no-read = input-remains
+over (next.Failed error) other no-read = failed
+over next.Wanted other no-read = absurd (no-read refl)
 
--- input remains only where no block may be handed on any more
-remains-left : {input input′ : List ℕ} {r r′ : Reader} {n : Next} {remains : Bool} → HandsOn input r n r′ input′
-    → Ends n remains → remains ≡ true → r .left ≡ 0
-remains-left last at-end e = absurd (let z : _≡_ {A = ℕ} 0 1 = cc e in omega arith)
-remains-left (HandsOn.remains came fits whole some none-left) input-remains e = none-left
+-- and nothing else
+pub not-over : (n : Next) → OneOf (0 ∷ 4 ∷ []) (tagOf the-type n) → Over n → ⊥
+not-over next.End other at-end = miss (0 ∷ 4 ∷ []) 1 tt other
+not-over next.Remains other input-remains = miss (0 ∷ 4 ∷ []) 2 tt other
+not-over (next.Failed error) other failed = miss (0 ∷ 4 ∷ []) 3 tt other
 
 -- what is put at the end, where it is known what comes next
-module _ {c : Counts} {out : List ℕ} {at : ℕ} {n n′ : Next} where
-  pub finish-closed : {remains : Bool} {end : ℕ} {out′ : List ℕ} → Ends n′ remains → n ≡ n′
-      → PutWithin 128 out at (closingLines (closingOf c remains)) end out′ → Finishes c out at n (All end) out′
-  finish-closed {end = end} {out′ = out′} ends e put =
-      subst (λ n. Finishes c out at n (All end) out′) (sym e) (Finishes.closed ends put)
+pub finish-as : {c : Counts} {out out′ : List ℕ} {at : ℕ} {n n′ : Next} {p : Printed} → n ≡ n′
+    → Finishes c out at n′ p out′ → Finishes c out at n p out′
+finish-as {c} {out} {out′} {at} {p = p} e finishes = subst (λ n. Finishes c out at n p out′) (sym e) finishes
 
-module _ {c : Counts} {out : List ℕ} {at : ℕ} {n : Next} where
-  pub finish-unread : n ≡ next.Failed → Finishes c out at n (Unread at) out
-  finish-unread e = subst (λ n. Finishes c out at n (Unread at) out) (sym e) Finishes.not-read
-
-  pub finish-block : {start size : ℕ} → n ≡ next.Block start size → Finishes c out at n (Unread at) out
-  finish-block e = subst (λ n. Finishes c out at n (Unread at) out) (sym e) Finishes.a-block
+pub finish-failed : {c : Counts} {out : List ℕ} {at : ℕ} {n : Next} {error told : ℤ} → n ≡ next.Failed error
+    → error ≡ told → Finishes c out at n (Unread at told) out
+finish-failed {c} {out} {at} {error = error} e same =
+    finish-as e (subst (λ t. Finishes c out at (next.Failed error) (Unread at t) out) same Finishes.not-read)
 
 -- What is so as long as the program goes on: the blocks handed on so far were started one after the other, and their
 -- text stands in the buffer before the place, but for what was written out.
-pub record Running (input₀ input : List ℕ) (r : Reader) (c : Counts) (out : List ℕ) (at : ℕ) : Type 0 where
+pub record Running (input : List ℕ) (r : Reader) (c : Counts) (out : List ℕ) (at : ℕ) : Type 0 where
+  pub calls : List Call
   pub blocks : List (List ℕ)
   pub text : List ℕ
-  pub handed : Handed input₀ (opened mostBlocks) blocks input r
+  pub run : Run mostBlocks calls blocks r input
   pub started : Started blocks text c
   pub holds : Holds text out at []
 
 -- before the first block
-running-start : (input out : List ℕ) → Running input input (opened mostBlocks) noCounts out 0
-running-start input out =
-    record {
+pub running-start : {input : List ℕ} (out : List ℕ) {r : Reader} {c : Counts} → 512 ≤ length input
+    → r ≡ opened mostBlocks → c ≡ noCounts → Running input r c out 0
+running-start {input} out room opened-library nothing-counted =
+    subst₂ (λ r c. Running input r c out 0) (sym opened-library) (sym nothing-counted)
+    (record {
+      calls = [];
       blocks = [];
       text = [];
-      handed = Handed.nothing;
+      run = Run.start room;
       started = Started.nothing;
       holds = holds-nothing out;
-    }
-
-pub running-from : {input out : List ℕ} {r : Reader} {c : Counts} → r ≡ opened mostBlocks → c ≡ noCounts
-    → Running input input r c out 0
-running-from {input} {out} opened-library nothing-counted =
-    subst₂ (λ r c. Running input input r c out 0) (sym opened-library) (sym nothing-counted) (running-start input out)
+    })
 
 -- what the lines of a block leave
 pub record PutTo (l : Listing) (out : List ℕ) (at next : ℕ) (out′ : List ℕ) : Type 0 where
@@ -143,51 +139,85 @@ put-to {l} {out} {out′} {at} {next} (lines-put {next = n} room holds) e =
     }
 put-to not-put e = absurd (let z : _≡_ {A = ℕ} 0 1 = cc e in omega arith)
 
-module _ {input₀ input : List ℕ} {r : Reader} {c : Counts} {out : List ℕ} {at : ℕ}
-    (running : Running input₀ input r c out at) where
+module _ {input : List ℕ} {r : Reader} {c : Counts} {out : List ℕ} {at : ℕ} (running : Running input r c out at) where
   -- one block more
   pub running-block : {input′ out′ : List ℕ} {r′ : Reader} {c′ : Counts} {n : Next} {start size place : ℕ} {l : Listing}
       → HandsOn input r n r′ input′ → n ≡ next.Block start size
       → Starts (part start (start + size - start) input′) c l c′ → PutTo l out at place out′
-      → Running input₀ input′ r′ c′ out′ place
-  running-block {input′} {r′ = r′} {c′ = c′} {start = start} {size = size} {l = l} handed e starts to =
+      → Running input′ r′ c′ out′ place
+  running-block {input′} {c′ = c′} {start = start} {size = size} {l = l} handed e starts to =
       let same : start + size - start ≡ size = omega arith in
       let begun = subst (λ (k : ℕ). Starts (part start k input′) c l c′) same starts in
       record {
+        calls = handed .calls ++ running .calls;
         blocks = running .blocks ++ (part start size input′ ∷ []);
         text = running .text ++ together (linesOf (begun .left) (begun .right) l);
-        handed = Handed.a-block (running .handed) (subst (λ n. HandsOn input r n r′ input′) e handed);
+        run = run-block (running .run) handed e;
         started = Started.a-block (running .started) begun;
         holds = holds-then (together (linesOf (begun .left) (begun .right) l)) (running .holds)
             (to .holds (begun .left) (begun .right) (begun .prints));
       }
 
-  -- no more blocks are handed on than may be
+  -- no more blocks are handed on than may be, and their text is the definition's
   few-blocks : length (running .blocks) ≤ mostBlocks
-  few-blocks = omega (arith, handed-left (running .handed))
+  few-blocks = omega (arith, handed-on (running .run) .counted)
 
-  -- the end
-  pub running-ends : {input′ out′ : List ℕ} {r′ : Reader} {n : Next} {p : Printed} → HasRoom (length out) at
-      → HandsOn input r n r′ input′ → Finishes c out at n p out′ → LibraryPrinted input₀ p out′
-  running-ends {out′ = out′} {r′ = r′} {n = n} room last (Finishes.closed {remains = remains} {end = end} ends put) =
-      let done = started-text (running .started) few-blocks in
-      let closing = closingLines (closingOf c remains) in
-      let inside : end ≤ length out′ = omega (arith, put .within, put-length (put .put)) in
-      all inside
-      (record { handed = running .handed; last = last; ends = ends; input′ = _; reader = r; next = n; input″ = _; reader′ = r′ })
-      (record {
+  done : StartedText (running .blocks) (running .text) c
+  done = started-text (running .started) few-blocks
+
+  -- with the closing lines behind it, it is the library's
+  closed-text : (remains : Bool) → (remains ≡ true → length (running .blocks) ≡ mostBlocks)
+      → LibraryText (running .blocks) remains (running .text ++ closingLines (closingOf c remains))
+  closed-text remains all-read =
+      record {
         at-most = few-blocks;
-        only-after-most = λ e. omega (arith, handed-left (running .handed), remains-left last ends e);
+        only-after-most = all-read;
         lines = done .lines;
         before = running .text;
         of-blocks = done .of-blocks;
         whole = ap (λ (c : Counts). running .text ++ closingLines (closingOf c remains)) (done .the-counts);
-      })
-      (holds-put {left = []} (holds-as (sym (append-nil closing)) (holds-more closing (running .holds))) (put .put)
-      (omega (arith, put .within)))
-  running-ends room last Finishes.not-read =
-      let inside : at ≤ length out = omega arith in
-      not-read inside (running .handed) (started-text (running .started) few-blocks .of-blocks) (running .holds)
-  running-ends room last Finishes.a-block =
-      let inside : at ≤ length out = omega arith in
-      not-read inside (running .handed) (started-text (running .started) few-blocks .of-blocks) (running .holds)
+      }
+
+  module _ (room : HasRoom (length out) at) where
+    -- a text was put behind it
+    put-behind : {more out′ : List ℕ} {end : ℕ} → PutWithin 128 out at more end out′
+        → PrintedTo (running .text ++ more) out′ end
+    put-behind {more} put =
+        record {
+          inside = omega (arith, put .within, put-length (put .put));
+          holds = holds-put {left = []} (holds-as (sym (append-nil more)) (holds-more more (running .holds)))
+              (put .put) (omega (arith, put .within));
+        }
+
+    -- the end
+    pub running-ends : {input′ out′ : List ℕ} {r′ : Reader} {n : Next} {p : Printed}
+        → HandsOn input r n r′ input′ → Finishes c out at n p out′ → LibraryPrinted p out′
+    running-ends last (Finishes.ended put) =
+        all (run-end (running .run) last refl)
+        (closed-text false (λ e. absurd (let z : _≡_ {A = ℕ} 0 1 = cc e in omega arith)))
+        (put-behind put)
+    running-ends last (Finishes.remains put) =
+        let limit = run-limit (running .run) last refl in
+        too-long limit (closed-text true (λ e. limit .counted)) (put-behind put)
+    running-ends last Finishes.not-read =
+        let inside : at ≤ length out = omega arith in
+        not-read (run-failure (running .run) last refl) (done .of-blocks)
+        (record { inside = inside; holds = running .holds })
+
+-- the place up to which a text was put is in the buffer
+pub all-inside : {p : Printed} {out : List ℕ} {at : ℕ} → LibraryPrinted p out → p ≡ All at → at ≤ length out
+all-inside {at = at} (all {at = end} ended of-library to) e = let same : end ≡ at = cc e in omega (arith, to .inside)
+all-inside {at = at} (too-long {at = end} limit of-library to) e =
+    let same : end ≡ at = cc e in
+    omega (arith, to .inside)
+all-inside (not-read failure of-blocks to) e = absurd (let z : _≡_ {A = ℕ} 0 1 = cc e in omega arith)
+all-inside not-written e = absurd (let z : _≡_ {A = ℕ} 0 1 = cc e in omega arith)
+
+pub unread-inside : {p : Printed} {out : List ℕ} {at : ℕ} {error : ℤ} → LibraryPrinted p out → p ≡ Unread at error
+    → at ≤ length out
+unread-inside (all ended of-library to) e = absurd (let z : _≡_ {A = ℕ} 0 1 = cc e in omega arith)
+unread-inside (too-long limit of-library to) e = absurd (let z : _≡_ {A = ℕ} 0 1 = cc e in omega arith)
+unread-inside {at = at} (not-read {at = end} failure of-blocks to) e =
+    let same : end ≡ at = cc e in
+    omega (arith, to .inside)
+unread-inside not-written e = absurd (let z : _≡_ {A = ℕ} 0 1 = cc e in omega arith)

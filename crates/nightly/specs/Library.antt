@@ -8,8 +8,7 @@ use lib.IntN.{ℤ}
 use Rattle.tally.specs.Counts.{closingOf}
 use Rattle.tally.specs.declared.Line.{Line}
 use Rattle.tally.specs.declared.Counts.{Counts}
-use Rattle.library.specs.Reading.{opened, part, HandsOn}
-use Rattle.library.specs.declared.Reader.{Reader}
+use Rattle.library.specs.Library.{Call, AtEnd, AtLimit, AtFailure}
 use Rattle.library.specs.declared.Next.{Next}
 use Rattle.library.specs.declared.Next.the-variants as next
 use Rattle.output.specs.Step.{together}
@@ -26,29 +25,6 @@ use Rattle.nightly.specs.declared.Printed.the-variants.{All, Unread, Unw
 abbrev pub noCounts : Counts
 noCounts = record { blocks = 0; listed = 0; none = 0; refused = 0 }
 
--- blocks handed on one after the other, from how far the library had been read to how far it has
-pub data Handed (input : List ℕ) (r : Reader) : List (List ℕ) → List ℕ → Reader → Type 0 where
-  nothing : Handed input r [] input r
-  a-block : {blocks : List (List ℕ)} {input′ input″ : List ℕ} {r′ r″ : Reader} {start size : ℕ}
-      → Handed input r blocks input′ r′ → HandsOn input′ r′ (next.Block start size) r″ input″
-      → Handed input r (blocks ++ (part start size input″ ∷ [])) input″ r″
-
--- no block is left, and whether input remains
-pub data Ends : Next → Bool → Type 0 where
-  at-end : Ends next.End false
-  input-remains : Ends next.Remains true
-
--- a library that is handed on whole: its blocks, and whether input remains after them
-pub record HandedOn (input : List ℕ) (blocks : List (List ℕ)) (remains : Bool) : Type 0 where
-  pub input′ : List ℕ
-  pub reader : Reader
-  pub handed : Handed input (opened mostBlocks) blocks input′ reader
-  pub next : Next
-  pub input″ : List ℕ
-  pub reader′ : Reader
-  pub last : HandsOn input′ reader next reader′ input″
-  pub ends : Ends next remains
-
 -- Printing of blocks begins one after the other, from the counts so far: the lines of all of them, and the counts
 -- after them.
 pub data Started : List (List ℕ) → List ℕ → Counts → Type 0 where
@@ -57,22 +33,36 @@ pub data Started : List (List ℕ) → List ℕ → Counts → Type 0 where
       → Started blocks text before → (starts : Starts block before l after)
       → Started (blocks ++ (block ∷ [])) (text ++ together (linesOf (starts .left) (starts .right) l)) after
 
+-- no block is left to hand on
+pub data Over : Next → Type 0 where
+  at-end : Over next.End
+  input-remains : Over next.Remains
+  failed : {error : ℤ} → Over (next.Failed error)
+
 -- What stands at the end is put: the closing lines, or nothing where a read failed.
 pub data Finishes (c : Counts) (out : List ℕ) (at : ℕ) : Next → Printed → List ℕ → Type 0 where
-  closed : {n : Next} {remains : Bool} {end : ℕ} {out′ : List ℕ} → Ends n remains
-      → PutWithin 128 out at (closingLines (closingOf c remains)) end out′ → Finishes c out at n (All end) out′
-  not-read : Finishes c out at next.Failed (Unread at) out
-  -- not asked where there is a block
-  a-block : {start size : ℕ} → Finishes c out at (next.Block start size) (Unread at) out
+  ended : {end : ℕ} {out′ : List ℕ} → PutWithin 128 out at (closingLines (closingOf c false)) end out′
+      → Finishes c out at next.End (All end) out′
+  remains : {end : ℕ} {out′ : List ℕ} → PutWithin 128 out at (closingLines (closingOf c true)) end out′
+      → Finishes c out at next.Remains (All end) out′
+  not-read : {error : ℤ} → Finishes c out at (next.Failed error) (Unread at error) out
 
--- Printing a library. Its text is the definition's text of the blocks that were handed on; what was not written out
--- of it stands in the buffer before the place.
-pub data LibraryPrinted (input : List ℕ) : Printed → List ℕ → Type 0 where
-  all : {blocks : List (List ℕ)} {remains : Bool} {text out : List ℕ} {at : ℕ} → at ≤ length out
-      → HandedOn input blocks remains → LibraryText blocks remains text → Holds text out at []
-      → LibraryPrinted input (All at) out
-  -- where a read failed, it is the text of the blocks before it
-  not-read : {blocks : List (List ℕ)} {lines : List Line} {text out input′ : List ℕ} {reader : Reader} {at : ℕ}
-      → at ≤ length out → Handed input (opened mostBlocks) blocks input′ reader → BlocksText 0 blocks lines text
-      → Holds text out at [] → LibraryPrinted input (Unread at) out
-  not-written : {error : ℤ} {out : List ℕ} → LibraryPrinted input (Unwritten error) out
+-- a text was printed: what was not written out of it stands in the buffer before the place
+pub record PrintedTo (text out : List ℕ) (at : ℕ) : Type 0 where
+  pub inside : at ≤ length out
+  pub holds : Holds text out at []
+
+-- Printing a library, of whatever came by the calls that read it: its text is the definition's.
+pub data LibraryPrinted : Printed → List ℕ → Type 0 where
+  -- at the end of the input
+  all : {calls : List Call} {blocks : List (List ℕ)} {text out : List ℕ} {at : ℕ} → AtEnd mostBlocks calls blocks
+      → LibraryText blocks false text → PrintedTo text out at → LibraryPrinted (All at) out
+  -- where input remains
+  too-long : {calls : List Call} {blocks : List (List ℕ)} {text out : List ℕ} {at : ℕ}
+      → AtLimit mostBlocks calls blocks → LibraryText blocks true text → PrintedTo text out at
+      → LibraryPrinted (All at) out
+  -- where a read failed, the text of the blocks before it
+  not-read : {calls : List Call} {blocks : List (List ℕ)} {lines : List Line} {text out : List ℕ} {at : ℕ} {error : ℤ}
+      → AtFailure error calls blocks → BlocksText 0 blocks lines text → PrintedTo text out at
+      → LibraryPrinted (Unread at error) out
+  not-written : {error : ℤ} {out : List ℕ} → LibraryPrinted (Unwritten error) out

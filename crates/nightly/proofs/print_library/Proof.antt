@@ -6,10 +6,10 @@ use mathlib.Core.Path.{_≡_, refl, sym, subst, _∙_}
 use lib.ListN.{length}
 use borrow.Author.Needs.{needs}
 use Rattle.library.specs.Reading.{Fits}
-use Rattle.library.proofs.Readings.{opened-fits, handed-block}
+use Rattle.library.proofs.Following.{opened-fits, handed-block}
 use Rattle.output.specs.Room.{HasRoom}
 use Rattle.nightly.specs.Library.{not-written}
-use Rattle.nightly.proofs.Running.{Running, running-from, running-block, running-ends, put-to}
+use Rattle.nightly.proofs.Running.{Running, running-start, running-block, running-ends, put-to, over}
 use Rattle.nightly.proofs.print_library.Statement.{statement}
 use Rattle.nightly.proofs.print_library.Tie as tie
 
@@ -19,7 +19,7 @@ Inv-loop input₀ output₀ reader₀ counts₀ at₀ input output reader counts
     × (length output ≡ length output₀)
     × Fits input reader
     × HasRoom (length output₀) at
-    × Running input₀ input reader counts output at
+    × Running input reader counts output at
 
 abbrev μ-loop : tie.MeasureT-loop
 μ-loop input₀ output₀ reader₀ counts₀ at₀ input output reader counts at = reader .left
@@ -37,7 +37,7 @@ loop-holds c =
       refl,
       subst (Fits (entry .args .input .now)) (sym (c .before .open-library .ensures)) (opened-fits _ _ (entry .pre .0)),
       omega (arith, entry .pre .1),
-      running-from (c .before .open-library .ensures) (c .no-counts .ensures),
+      running-start _ (entry .pre .0) (c .before .open-library .ensures) (c .no-counts .ensures),
     )
 
 next-block-requires : tie.Need-next-block-requires Inv-loop μ-loop
@@ -48,8 +48,10 @@ enum-known-next c = search needs
 
 finish-requires : tie.Need-finish-requires Inv-loop μ-loop
 finish-requires c κs =
-    let l = c .before .before .before .before .before .before .loop in
-    omega (arith, l .inv .1, l .inv .3)
+    let chosen = c .before in
+    let read = chosen .before .before .before in
+    let l = read .before .before .loop in
+    (over _ (chosen .match .keys2) (read .next-block .ensures .not-wanted), omega (arith, l .inv .1, l .inv .3))
 
 same-length : tie.Need-same-length Inv-loop μ-loop
 same-length c =
@@ -57,7 +59,9 @@ same-length c =
     read .next-block .kept .1 .0 ∙ read .before .before .loop .inv .0
 
 same-length-2 : tie.Need-same-length-2 Inv-loop μ-loop
-same-length-2 c = c .before .before .finish .kept .1 .1 .0 ∙ c .before .before .before .before .before .before .before .before .before .loop .inv .1
+same-length-2 c =
+    let read = c .before .before .before .before .before .before .before in
+    c .before .before .finish .kept .1 .1 .0 ∙ read .before .before .loop .inv .1
 
 returns : tie.Need-returns Inv-loop μ-loop
 returns c =
@@ -68,7 +72,8 @@ returns c =
 
 add-end : tie.Need-add-end Inv-loop μ-loop
 add-end c =
-    let b = handed-block (c .before .before .before .before .before .next-block .ensures) (c .before .next .given .1) in
+    let b = handed-block (c .before .before .before .before .before .before .before .loop .inv .2)
+    (c .before .before .before .before .before .next-block .ensures) (c .before .next .given .1) in
     omega (arith, b .ends, b .fits .ordered, b .fits .within)
 
 sub-start-block : tie.Need-sub-start-block Inv-loop μ-loop
@@ -79,7 +84,8 @@ part-start-block-start c = omega arith
 
 part-start-block-end : tie.Need-part-start-block-end Inv-loop μ-loop
 part-start-block-end c =
-    let b = handed-block (c .before .before .before .before .before .before .next-block .ensures) (c .before .before .next .given .1) in
+    let b = handed-block (c .before .before .before .before .before .before .before .before .loop .inv .2)
+    (c .before .before .before .before .before .before .next-block .ensures) (c .before .before .next .given .1) in
     omega (arith, b .ends, b .fits .ordered, b .fits .within)
 
 start-block-requires : tie.Need-start-block-requires Inv-loop μ-loop
@@ -87,8 +93,10 @@ start-block-requires c κs = search needs
 
 print-block-requires : tie.Need-print-block-requires Inv-loop μ-loop
 print-block-requires c κs =
-    let l = c .before .before .before .before .before .before .before .before .before .before .before .before .loop in
-    (c .before .before .start-block .ensures .ready, omega (arith, l .inv .1, l .inv .3))
+    let began = c .before .before in
+    let read = began .before .before .before .before .before .before .before .before in
+    let l = read .before .before .loop in
+    (began .start-block .ensures .ready, omega (arith, l .inv .1, l .inv .3))
 
 enum-known-place : tie.Need-enum-known-place Inv-loop μ-loop
 enum-known-place c = search needs
@@ -98,18 +106,27 @@ enum-known-place-2 c = search needs
 
 same-length-3 : tie.Need-same-length-3 Inv-loop μ-loop
 same-length-3 c =
-    let read = c .before .before .before .before .before .before .before .before .before .before .before .before .before .before .before .before in
+    let printed = c .before .before .before .before .before in
+    let found = printed .before .before .before .before .before .before .before in
+    let read = found .before .before .before .before in
     read .next-block .kept .1 .0 ∙ read .before .before .loop .inv .0
 
 same-length-4 : tie.Need-same-length-4 Inv-loop μ-loop
-same-length-4 c = c .before .before .before .before .before .print-block .kept .1 .0 ∙ c .before .before .before .before .before .before .before .before .before .before .before .before .before .before .before .before .before .before .loop .inv .1
+same-length-4 c =
+    let printed = c .before .before .before .before .before in
+    let found = printed .before .before .before .before .before .before .before in
+    let read = found .before .before .before .before in
+    printed .print-block .kept .1 .0 ∙ read .before .before .loop .inv .1
 
 returns-2 : tie.Need-returns-2 Inv-loop μ-loop
 returns-2 c = not-written
 
 loop-less : tie.Need-loop-less Inv-loop μ-loop
 loop-less c =
-    let b = handed-block (c .before .before .before .before .before .before .before .before .before .before .before .before .before .before .before .before .before .before .next-block .ensures) (c .before .before .before .before .before .before .before .before .before .before .before .before .before .before .next .given .1) in
+    let found = c .before .before .before .before .before .before .before .before .before .before .before .before .before
+    .before in
+    let read = found .before .before .before .before in
+    let b = handed-block (read .before .before .loop .inv .2) (read .next-block .ensures) (found .next .given .1) in
     omega (arith, b .one-less)
 
 loop-again : tie.Need-loop-again Inv-loop μ-loop
@@ -119,7 +136,7 @@ loop-again c =
     let found = began .before .before .before .before in
     let read = found .before .before .before .before in
     let l = read .before .before .loop in
-    let b = handed-block (read .next-block .ensures) (found .next .given .1) in
+    let b = handed-block (l .inv .2) (read .next-block .ensures) (found .next .given .1) in
     let to = put-to (printed .print-block .ensures) (c .before .before .before .place .given .1) in (
       read .next-block .kept .1 .0 ∙ l .inv .0,
       printed .print-block .kept .1 .0 ∙ l .inv .1,

@@ -1,67 +1,66 @@
+-- `nightly::run` is safe: what is written out last is in the buffer. Assumes nothing.
 use borrow.Author.Needs.{needs}
+use Rattle.nightly.proofs.Running.{all-inside, unread-inside}
 use Rattle.nightly.proofs.run.Statement.{statement}
 use Rattle.nightly.proofs.run.Tie as tie
-use Rattle.nightly.proofs.run.Reads as reads
-use Rattle.nightly.proofs.run.Lts as lts
-use Rattle.nightly.proofs.print_library.Reads as print-library-reads
-use Rattle.output.proofs.write_out.Reads as write-out-reads
 
--- src/main.rt:45:9
 print-library-requires : tie.Need-print-library-requires
 print-library-requires c κs = search needs
 
--- src/main.rt:47:22
 enum-known-printed : tie.Need-enum-known-printed
 enum-known-printed c = search needs
 
--- src/main.rt:48:13
-write-out-requires : tie.Need-write-out-requires
-write-out-requires c κs = ?
+write-last-requires : tie.Need-write-last-requires
+write-last-requires c κs =
+    let chosen = c .before .before in
+    let print = chosen .before .before .before .before .before .before in
+    all-inside (print .print-library .ensures) (chosen .printed .given .1)
 
--- src/main.rt:50:25
 enum-known-printed-2 : tie.Need-enum-known-printed-2
 enum-known-printed-2 c = search needs
 
--- src/main.rt:51:13
-write-out-requires-2 : tie.Need-write-out-requires-2
-write-out-requires-2 c κs = ?
+slice-aggregate-fail : tie.Need-slice-aggregate-fail
+slice-aggregate-fail c = search needs
 
-enum-told : tie.Need-enum-told
-enum-told c = search needs
+fail-requires : tie.Need-fail-requires
+fail-requires c κs = search needs
 
--- src/main.rt:41:1
+write-last-requires-2 : tie.Need-write-last-requires-2
+write-last-requires-2 c κs =
+    let chosen = c .before .before .before .before in
+    let print = chosen .before .before .before .before .before .before in
+    unread-inside (print .print-library .ensures) (chosen .printed2 .given .1)
+
+enum-known-printed-3 : tie.Need-enum-known-printed-3
+enum-known-printed-3 c = search needs
+
+tell-unwritten-requires : tie.Need-tell-unwritten-requires
+tell-unwritten-requires c κs = search needs
+
 same-length : tie.Need-same-length
 same-length c = search needs
 
--- src/main.rt:41:1
 same-length-2 : tie.Need-same-length-2
 same-length-2 c = search needs
 
--- src/main.rt:41:1
 returns : tie.Need-returns
 returns c = search needs
 
--- src/main.rt:41:1
 same-length-3 : tie.Need-same-length-3
 same-length-3 c = search needs
 
--- src/main.rt:41:1
 same-length-4 : tie.Need-same-length-4
 same-length-4 c = search needs
 
--- src/main.rt:41:1
 returns-2 : tie.Need-returns-2
 returns-2 c = search needs
 
--- src/main.rt:41:1
 same-length-5 : tie.Need-same-length-5
 same-length-5 c = search needs
 
--- src/main.rt:41:1
 same-length-6 : tie.Need-same-length-6
 same-length-6 c = search needs
 
--- src/main.rt:41:1
 returns-3 : tie.Need-returns-3
 returns-3 c = search needs
 
@@ -71,10 +70,13 @@ run-spec =
     (tie.spec
     print-library-requires
     enum-known-printed
-    write-out-requires
+    write-last-requires
     enum-known-printed-2
-    write-out-requires-2
-    enum-told
+    slice-aggregate-fail
+    fail-requires
+    write-last-requires-2
+    enum-known-printed-3
+    tell-unwritten-requires
     same-length
     same-length-2
     returns

@@ -1,16 +1,17 @@
--- `library::move_down` meets its contract: before each turn the first i bytes are moved. Assumes nothing.
+-- `library::make_room` meets its contract: before each turn the first i bytes are moved. Assumes nothing.
 use Prim.Native.Nat.{_≤_, _-_}
 use native.Mathlib.Omega.{arith}
-use mathlib.Core.Path.{_≡_, refl}
-use Rattle.library.proofs.Moved.{Moved, moved-none, moved-next}
-use Rattle.library.proofs.move_down.Statement.{statement}
-use Rattle.library.proofs.move_down.Tie as tie
+use mathlib.Core.Path.{refl}
+use Rattle.library.specs.Reading.{waits}
+use Rattle.library.proofs.Moved.{Moved, moved-none, moved-next, moved-all}
+use Rattle.library.proofs.make_room.Statement.{statement}
+use Rattle.library.proofs.make_room.Tie as tie
 
 abbrev Inv-loop : tie.InvT-loop
-Inv-loop buffer₀ from to count i₀ buffer i = (i ≤ to - from) × Moved buffer₀ from i buffer
+Inv-loop buffer₀ reader at count i₀ buffer i = (i ≤ waits reader) × Moved buffer₀ (reader .at) i buffer
 
 abbrev μ-loop : tie.MeasureT-loop
-μ-loop buffer₀ from to count i₀ buffer i = to - from - i
+μ-loop buffer₀ reader at count i₀ buffer i = waits reader - i
 
 sub-count : tie.Need-sub-count Inv-loop μ-loop
 sub-count c = omega arith
@@ -41,12 +42,11 @@ same-length c = c .before .loop .inv .1 .same-length
 
 returns : tie.Need-returns Inv-loop μ-loop
 returns c =
-    let a = c .before .before .args in
-    let all : a .to - a .from ≡ c .before .loop .i = omega arith in
-    (refl, rw all (c .before .loop .inv .1 .moved))
+    let r = c .before .before .before .args .reader in
+    (refl, moved-all (waits r) (omega arith) (c .before .loop .inv .1))
 
-pub move-down-spec : {M : Type 1} → statement M
-move-down-spec =
+pub make-room-spec : {M : Type 1} → statement M
+make-room-spec =
     tie.close
     (tie.spec
     Inv-loop

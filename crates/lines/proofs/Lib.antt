@@ -3,3 +3,5 @@ pub mod Putting
 pub mod Determined
 pub mod Numbered
 pub mod Library
+pub mod Decided
+pub mod Exists

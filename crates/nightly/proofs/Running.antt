@@ -25,13 +25,14 @@ use Rattle.output.specs.Step.{together}
 use Rattle.output.specs.Room.{HasRoom, Holds}
 use Rattle.output.specs.declared.Place.{Place}
 use Rattle.output.specs.declared.Place.the-variants.{At, Failed}
+use Rattle.output.proofs.Steps.{stepped-left}
 use Rattle.output.proofs.Held.{holds-as, holds-more, holds-put, holds-then, holds-nothing}
 use Rattle.lines.specs.Lines.{blockLines, closingLines}
 use Rattle.lines.specs.Library.{mostBlocks, Found, BlocksText, no-more, countsOf, LibraryText}
 use Rattle.lines.specs.Putting.{PutWithin}
 use Rattle.lines.proofs.Library.{line-each, blocks-more, counts-more}
 use Rattle.nightly.specs.Printed.{linesOf, Prints, Starts, BlockPut, lines-put, not-put}
-use Rattle.nightly.specs.Library.{noCounts, Started, Over, at-end, input-remains, failed, Finishes, PrintedTo, LibraryPrinted, all, too-long, not-read, not-written}
+use Rattle.nightly.specs.Library.{noCounts, Started, PutInSteps, Over, at-end, input-remains, failed, Finishes, PrintedTo, LibraryPrinted, all, too-long, not-read, not-written}
 use Rattle.nightly.specs.declared.print.Listing.{Listing}
 use Rattle.nightly.specs.declared.Printed.{Printed}
 use Rattle.nightly.specs.declared.Printed.the-variants.{All, Unread}
@@ -74,6 +75,18 @@ started-text Started.nothing few = record { lines = []; of-blocks = no-more; the
 started-text (Started.a-block {blocks = blocks} {block = block} so-far starts) few =
     let more = length-append blocks (block ∷ []) in
     started-more (omega arith) (started-text so-far (omega arith)) starts
+
+-- What is put in steps, joined, is what is left to put when printing begins.
+in-steps : {blocks : List (List ℕ)} {text : List ℕ} {c : Counts} → PutInSteps blocks text c → Started blocks text c
+in-steps PutInSteps.nothing = Started.nothing
+in-steps (PutInSteps.a-block {blocks = blocks} {text = text} {after = after} {block = block} so-far starts steps) =
+    subst (λ (t : List ℕ). Started (blocks ++ (block ∷ [])) (text ++ t) after) (stepped-left steps)
+    (Started.a-block (in-steps so-far) starts)
+
+-- So it is the definition's text of those blocks.
+pub text-in-steps : {blocks : List (List ℕ)} {text : List ℕ} {c : Counts} → PutInSteps blocks text c
+    → length blocks ≤ mostBlocks → StartedText blocks text c
+text-in-steps steps few = started-text (in-steps steps) few
 
 -- where no block and no read comes next, it is over
 pub over : (n : Next) → OneOf (1 ∷ 2 ∷ 3 ∷ 4 ∷ []) (tagOf the-type n) → (n ≡ next.Wanted → ⊥) → Over n

@@ -11,7 +11,7 @@ use Rattle.tally.specs.declared.Counts.{Counts}
 use Rattle.library.specs.Library.{Call, AtEnd, AtLimit, AtFailure}
 use Rattle.library.specs.declared.Next.{Next}
 use Rattle.library.specs.declared.Next.the-variants as next
-use Rattle.output.specs.Step.{together}
+use Rattle.output.specs.Step.{together, Stepped}
 use Rattle.output.specs.Room.{Holds}
 use Rattle.lines.specs.Lines.{closingLines}
 use Rattle.lines.specs.Library.{mostBlocks, BlocksText, LibraryText}
@@ -32,6 +32,14 @@ pub data Started : List (List ℕ) → List ℕ → Counts → Type 0 where
   a-block : {blocks : List (List ℕ)} {text : List ℕ} {before after : Counts} {block : List ℕ} {l : Listing}
       → Started blocks text before → (starts : Starts block before l after)
       → Started (blocks ++ (block ∷ [])) (text ++ together (linesOf (starts .left) (starts .right) l)) after
+
+-- The same, where the lines of each block are put in steps: all that the steps put, joined.
+pub data PutInSteps : List (List ℕ) → List ℕ → Counts → Type 0 where
+  nothing : PutInSteps [] [] noCounts
+  a-block : {blocks : List (List ℕ)} {text put : List ℕ} {before after : Counts} {block : List ℕ} {l : Listing}
+      → PutInSteps blocks text before → (starts : Starts block before l after)
+      → Stepped (linesOf (starts .left) (starts .right) l) 0 put
+      → PutInSteps (blocks ++ (block ∷ [])) (text ++ put) after
 
 -- no block is left to hand on
 pub data Over : Next → Type 0 where

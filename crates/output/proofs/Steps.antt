@@ -10,7 +10,7 @@ use lib.ListN.{length, drop, getD}
 use lib.Seq.{drop-cons, drop-length}
 use Rattle.buffer.specs.Put.{Put}
 use Rattle.buffer.proofs.Puts.{put-nothing, put-then}
-use Rattle.output.specs.Step.{together, leftFrom, Steps, Goes}
+use Rattle.output.specs.Step.{together, leftFrom, Steps, Stepped, done, step, Goes}
 use Rattle.output.specs.declared.Progress.{Progress}
 
 -- what is left from a line on is that line and what is left from the next one on
@@ -40,6 +40,12 @@ module _ {lines : List (List ℕ)} {number at : ℕ} {out : List ℕ} where
             ∙ sym (append-assoc (so-far .put) (getD lines line []) (leftFrom lines (line + 1)));
         stands = put-then (so-far .stands) put;
       }
+
+-- what steps put until no line is left is all that was left before them
+pub stepped-left : {lines : List (List ℕ)} {number : ℕ} {text : List ℕ} → Stepped lines number text
+    → leftFrom lines number ≡ text
+stepped-left {lines} done = nothing-left lines
+stepped-left (step one rest) = one .in-order ∙ ap (λ (l : List ℕ). one .put ++ l) (stepped-left rest)
 
 -- how far a step has gone, as long as it goes on
 pub record Going (lines number at size line place : ℕ) : Type 0 where

@@ -3,7 +3,7 @@ use Prim.Native.Nat.{ℕ, _+_, _<_, _≤_}
 use mathlib.Core.Path.{_≡_}
 use mathlib.Core.Logic.{_⊎_}
 use mathlib.Core.List.{List, [], _∷_, _++_}
-use lib.ListN.{drop}
+use lib.ListN.{length, drop}
 use Rattle.buffer.specs.Put.{Put}
 use Rattle.output.specs.declared.Progress.{Progress}
 
@@ -23,6 +23,12 @@ pub record Steps (lines : List (List ℕ)) (number : ℕ) (out : List ℕ) (at :
   pub put : List ℕ
   pub in-order : leftFrom lines number ≡ put ++ leftFrom lines (r .line)
   pub stands : Put out at put (r .at) out′
+
+-- Steps one after the other until no line is left, and all that they put.
+pub data Stepped (lines : List (List ℕ)) : ℕ → List ℕ → Type 0 where
+  done : Stepped lines (length lines) []
+  step : {number at : ℕ} {out out′ rest : List ℕ} {r : Progress} (one : Steps lines number out at r out′)
+      → Stepped lines (r .line) rest → Stepped lines number (one .put ++ rest)
 
 -- How far a step goes, of so many lines, from a line and a place in a buffer of so many bytes.
 pub record Goes (lines number at size : ℕ) (r : Progress) : Type 0 where

@@ -3,7 +3,7 @@
 use Prim.Native.Nat.{ℕ, zero, suc, _<_}
 use mathlib.Core.Path.{_≡_, refl, ap, sym, _∙_}
 use mathlib.Core.List.{List, [], _∷_, _++_, List·Memᴰ, List·Memᴰ·head, List·Memᴰ·tail, List·Memᴰ·append-cases, append-assoc, append-nil}
-use mathlib.Core.Logic.{⊎-elim}
+use mathlib.Core.Logic.{_⊎_, inl, inr, ⊎-elim}
 use native.Mathlib.Decide.{decLt, ℕ-discrete}
 use native.Mathlib.Omega.{arith}
 use lib.ListN.{length, replicate}
@@ -98,18 +98,23 @@ look (a ∷ bytes) (suc k) = go (decLt a 128) (ℕ-discrete a 128) (look bytes)
 one-term : {bytes : List ℕ} → Terms 1 bytes → (t : Term) × Writes bytes t
 one-term (next {t = t} w none) = (t, record { exactly = append-nil (encode t); writable = w })
 
--- and bytes that are no term have a fault
-pub no-term-is-fault : {bytes : List ℕ} → NoTerm bytes → Fault bytes
-no-term-is-fault {bytes} no-one = go (look bytes 1)
+-- bytes are a term or have a fault
+pub term-or-fault : (bytes : List ℕ) → ((t : Term) × Writes bytes t) ⊎ Fault bytes
+term-or-fault bytes = go (look bytes 1)
   where
-    go : Found 1 bytes → Fault bytes
+    go : Found 1 bytes → ((t : Term) × Writes bytes t) ⊎ Fault bytes
     go (whole front [] ts e) =
         let (t, w) = one-term ts in
-        absurd (no-one t (record { exactly = e ∙ append-nil front ∙ w .exactly; writable = w .writable }))
+        inl (t, record { exactly = e ∙ append-nil front ∙ w .exactly; writable = w .writable })
     go (whole front (b ∷ rest) ts e) =
         let (t, w) = one-term ts in
-        left-over b rest t (w .writable) (e ∙ ap (λ (l : List ℕ). l ++ b ∷ rest) (w .exactly))
+        inr (left-over b rest t (w .writable) (e ∙ ap (λ (l : List ℕ). l ++ b ∷ rest) (w .exactly)))
     go (early b more ts) =
         let (t, w) = one-term ts in
-        ends-early b more t w
-    go (stray b i s) = stray-byte b i s
+        inr (ends-early b more t w)
+    go (stray b i s) = inr (stray-byte b i s)
+
+-- and bytes that are no term have one
+pub no-term-is-fault : {bytes : List ℕ} → NoTerm bytes → Fault bytes
+no-term-is-fault {bytes} no-one =
+    ⊎-elim (λ term. absurd (no-one (term .0) (term .1))) (λ fault. fault) (term-or-fault bytes)

@@ -1,5 +1,9 @@
 pub mod Moved
-pub mod Came
-pub mod Growing
-pub mod Waiting
-pub mod Readings
+pub mod Coming
+pub mod Taking
+pub mod Calling
+pub mod Said
+pub mod Blocks
+pub mod Handed
+pub mod Following
+pub mod Determined

@@ -2,8 +2,8 @@
 use Prim.Native.Nat.{ℕ, suc, _+_, _<_}
 use native.Mathlib.Omega.{arith}
 use mathlib.Core.Path.{_≡_, refl, ap, sym, _∙_}
-use mathlib.Core.List.{List}
-use lib.ListN.{length, take, drop, set, getD, length-set, length-drop}
+use mathlib.Core.List.{List, _++_}
+use lib.ListN.{length, take, drop, set, getD, length-set, length-drop, take-append-drop}
 use lib.Seq.{take-suc, take-suc-set, drop-set-lt, drop-drop, getD-drop}
 
 -- the first i bytes are those from `from` on as they were; the others are as they were
@@ -45,3 +45,8 @@ moved-next {before} {buffer} {from} {i} within m =
           ∙ ap (drop 1) (m .rest)
           ∙ drop-drop 1 i before;
     }
+
+-- what stands in the buffer when all were moved
+pub moved-all : {before buffer : List ℕ} {from i : ℕ} (count : ℕ) → i ≡ count → Moved before from i buffer →
+    buffer ≡ take count (drop from before) ++ drop count before
+moved-all {buffer = buffer} {i = i} count e m = sym (take-append-drop i buffer) ∙ cc (m .moved, m .rest, e)

@@ -1,59 +1,56 @@
-// A library read block by block from a file descriptor, through one lent buffer and with few calls of the system.
+// A library read block by block from a file descriptor, through one lent buffer and with few calls of the
+// system.
 //
-// A read that gives no byte is the end of the input, a negative answer a read that failed. No contract can say
-// which bytes a read gives. These say that bytes that wait are handed on in order, 512 at a time, none of them lost
-// or twice; and of the bytes that a call reads itself, that they come behind those.
+// No contract can say which bytes a call of read puts into the buffer. So everything but the call is a
+// function of values: what its answer says of the reader, where the bytes that wait are put before it, and
+// what comes next. What is proved of any number of calls, whatever they answer, stands in proofs/Handed.antt.
 ghost use mathlib.Core.Path.{_≡_};
-ghost use Prim.Native.Nat.{_≤_, _-_, min};
-ghost use lib.ListN.{length, take};
-ghost use Rattle.library.specs.Reading.{opened, part, Fits, HandsOn};
-ghost use Rattle.library.specs.Inner.{cameBy, Reads, Fills, Readies, Wants, Hands};
+ghost use Prim.Native.Nat.{_+_, _-_, _≤_, _<_};
+ghost use lib.ListN.{length};
+ghost use Rattle.library.specs.Reading.{opened, wanted, handed, roomMade, moved, told};
+ghost use Rattle.library.specs.Reading.{Fits, Comes, Misses, Takes};
+ghost use Rattle.library.specs.Library.{ReadsOnce, HandsOn};
 
 // The bytes of a block.
 pub const BLOCK: usize = 512;
 
-// How far a library has been read. The bytes that came and were not handed on yet stand in the buffer from `at`
-// up to `filled`; `left` blocks may still be handed on; `ended` says that the input has ended.
+// So many interrupted calls are tried again, a million in all: every loop must end.
+const RETRIES: u64 = 1_000_000;
+
+// What the calls of read have said of the input so far: more may come, it has ended, or a call failed, with
+// the system's number for the error.
+pub enum Input {
+    More,
+    Ended,
+    Failed(i32),
+}
+
+// How far a library has been read. The bytes that came and were not handed on yet stand in the buffer from
+// `at` up to `filled`; `left` blocks may still be handed on; `retries` interrupted calls may still be tried
+// again.
 pub struct Reader {
     pub at: usize,
     pub filled: usize,
     pub left: u64,
-    pub ended: bool,
+    pub retries: u64,
+    pub input: Input,
 }
 
-// What comes next: a block, by its place in the buffer, where only the last may have fewer than 512 bytes; the
-// end; input that remains after the last block that may be read; or a read that failed.
+// What comes next: a block, by its place in the buffer, where only the last may have fewer than 512 bytes;
+// the end; input that remains after the last block that may be read; a failure, with its error; or a read is
+// wanted before it can be said.
 pub enum Next {
     Block { start: usize, length: usize },
     End,
     Remains,
-    Failed,
+    Failed(i32),
+    Wanted,
 }
 
 // What comes next, and how far the library has been read then.
 pub struct Step {
     pub next: Next,
     pub reader: Reader,
-}
-
-// What one read gives: some bytes, the end of the input, or an error.
-enum Got {
-    Bytes(usize),
-    End,
-    Failed,
-}
-
-// How many bytes wait at the start of the buffer: as many as are wanted, or all that are left of the input.
-enum Filled {
-    Enough(usize),
-    Ended(usize),
-    Failed,
-}
-
-// A reader for whom enough bytes wait, or a read that failed.
-enum Ready {
-    Waits(Reader),
-    Failed,
 }
 
 // A library of which nothing was read yet, and of which at most so many blocks may be read.
@@ -64,162 +61,165 @@ pub fn open(most: u64) -> Reader
         at: 0,
         filled: 0,
         left: most,
-        ended: false,
+        retries: RETRIES,
+        input: Input::More,
     }
 }
 
-// The next block, or why there is none.
+// The next block, or why there is none: reads as long as a read is wanted.
 pub fn next_block(fd: i32, buffer: &mut [u8], reader: Reader) -> Step
     requires { ⌜ Fits (now buffer) reader ⌝ }
     ensures { λ r. ⌜ HandsOn (now (buffer .entry)) reader (r .next) (r .reader) (now (buffer .exit)) ⌝ }
 {
-    let ready = make_ready(fd, buffer, reader, wanted(reader.left));
-    match ready {
-        Ready::Waits(full) => hand_on(full),
-        Ready::Failed => Step {
-            next: Next::Failed,
-            reader,
-        },
+    let mut read = reader;
+    loop {
+        let step = next_step(read);
+        let next = step.next;
+        let Next::Wanted = next else {
+            return step;
+        };
+        read = read_more(fd, buffer, read);
     }
 }
 
-// How many bytes must wait: a block's or, where no block may be read any more, one, which says that input
-// remains.
+// What comes next of the bytes that wait: a block as soon as its bytes are there; where fewer wait than are
+// wanted, it depends on the input.
+pub fn next_step(reader: Reader) -> Step
+    requires { ⌜ reader .at ≤ reader .filled ⌝ }
+    ensures { λ r. ⌜ Comes reader (r .next) (r .reader) ⌝ }
+{
+    let waiting = reader.filled - reader.at;
+    if wanted(reader.left) <= waiting {
+        if reader.left == 0 {
+            return Step {
+                next: Next::Remains,
+                reader,
+            };
+        }
+        return hand_on(reader, BLOCK);
+    }
+    let input = reader.input;
+    match input {
+        Input::More => Step {
+            next: Next::Wanted,
+            reader,
+        },
+        Input::Failed(error) => Step {
+            next: Next::Failed(error),
+            reader,
+        },
+        Input::Ended => {
+            if waiting == 0 {
+                return Step {
+                    next: Next::End,
+                    reader,
+                };
+            }
+            hand_on(reader, waiting)
+        }
+    }
+}
+
+// How many bytes must wait while more may come: a block's or, where no block may be read any more, one, which
+// says that input remains.
 fn wanted(left: u64) -> usize
-    ensures { λ r. ⌜ Wants left r ⌝ }
+    ensures { λ r. ⌜ r ≡ wanted left ⌝ }
 {
     if left == 0 { 1 } else { BLOCK }
 }
 
-// The next of the bytes that wait, as many as a block has or, if fewer wait, all of them.
-fn hand_on(reader: Reader) -> Step
-    requires { ⌜ reader .at ≤ reader .filled ⌝ }
-    ensures { λ r. ⌜ Hands reader (r .next) (r .reader) ⌝ }
+// The next so many of the bytes that wait, as a block.
+fn hand_on(reader: Reader, length: usize) -> Step
+    requires { ⌜ reader .at + length ≤ reader .filled ⌝ }
+    requires { ⌜ 0 < reader .left ⌝ }
+    ensures { λ r. ⌜ r .next ≡ Next.Block (reader .at) length ⌝ }
+    ensures { λ r. ⌜ r .reader ≡ handed length reader ⌝ }
 {
-    let waiting = reader.filled - reader.at;
-    if waiting == 0 {
-        return Step {
-            next: Next::End,
-            reader,
-        };
-    }
-    if reader.left == 0 {
-        return Step {
-            next: Next::Remains,
-            reader,
-        };
-    }
-    let length = least(BLOCK, waiting);
+    let mut rest = reader;
+    rest.at += length;
+    rest.left -= 1;
     Step {
         next: Next::Block {
             start: reader.at,
             length,
         },
-        reader: Reader {
-            at: reader.at + length,
-            filled: reader.filled,
-            left: reader.left - 1,
-            ended: reader.ended,
-        },
+        reader: rest,
     }
 }
 
-// The smaller of two numbers.
-fn least(a: usize, b: usize) -> usize
-    ensures { λ r. ⌜ r ≡ min a b ⌝ }
-{
-    if a < b { a } else { b }
-}
-
-// Reads until as many bytes as are wanted wait, or the input has ended; bytes that wait are moved to the
-// buffer's start first.
-fn make_ready(fd: i32, buffer: &mut [u8], reader: Reader, wanted: usize) -> Ready
+// One call of read into the room behind the bytes that wait, which are moved to the buffer's start before it.
+fn read_more(fd: i32, buffer: &mut [u8], reader: Reader) -> Reader
     requires { ⌜ Fits (now buffer) reader ⌝ }
-    requires { ⌜ wanted ≤ length (now buffer) ⌝ }
-    ensures { λ r. ⌜ Readies (now (buffer .entry)) reader wanted r (now (buffer .exit)) ⌝ }
+    ensures { λ r. ⌜ ReadsOnce (now (buffer .entry)) reader r (now (buffer .exit)) ⌝ }
 {
-    if reader.ended {
-        return Ready::Waits(reader);
-    }
-    if wanted <= reader.filled - reader.at {
-        return Ready::Waits(reader);
-    }
-    let kept = move_down(buffer, reader.at, reader.filled);
-    let filled = read_until(fd, buffer, kept, wanted);
-    match filled {
-        Filled::Enough(count) => Ready::Waits(Reader {
-            at: 0,
-            filled: count,
-            left: reader.left,
-            ended: false,
-        }),
-        Filled::Ended(count) => Ready::Waits(Reader {
-            at: 0,
-            filled: count,
-            left: reader.left,
-            ended: true,
-        }),
-        Filled::Failed => Ready::Failed,
-    }
+    let ready = make_room(buffer, reader);
+    let filled = ready.filled;
+    let answer = libc::read(fd, &mut buffer[filled..]);
+    took(ready, buffer, answer, os::errno())
 }
 
-// Moves the bytes between two places to the buffer's start, and gives how many they are.
-fn move_down(buffer: &mut [u8], from: usize, to: usize) -> usize
-    requires { ⌜ from ≤ to ⌝ }
-    requires { ⌜ to ≤ length (now buffer) ⌝ }
-    ensures { λ r. ⌜ r ≡ to - from ⌝ }
-    ensures { λ r. ⌜ take r (now (buffer .exit)) ≡ part from (to - from) (now (buffer .entry)) ⌝ }
+// Moves the bytes that wait to the buffer's start.
+pub fn make_room(buffer: &mut [u8], reader: Reader) -> Reader
+    requires { ⌜ Fits (now buffer) reader ⌝ }
+    ensures { λ r. ⌜ r ≡ roomMade reader ⌝ }
+    ensures { λ r. ⌜ now (buffer .exit) ≡ moved reader (now (buffer .entry)) ⌝ }
 {
-    let count = to - from;
+    let at = reader.at;
+    let count = reader.filled - at;
     let mut i = 0;
     while i < count {
-        buffer[i] = buffer[from + i];
+        buffer[i] = buffer[at + i];
         i += 1;
     }
-    count
+    let mut ready = reader;
+    ready.at = 0;
+    ready.filled = count;
+    ready
 }
 
-// Reads behind the bytes that wait at the buffer's start until so many wait as are wanted, or the input has
-// ended.
-fn read_until(fd: i32, buffer: &mut [u8], waiting: usize, wanted: usize) -> Filled
-    requires { ⌜ waiting ≤ length (now buffer) ⌝ }
-    requires { ⌜ wanted ≤ length (now buffer) ⌝ }
-    ensures { λ r. ⌜ Fills (now (buffer .entry)) waiting wanted r (now (buffer .exit)) ⌝ }
-{
-    let mut filled = waiting;
-    while filled < wanted {
-        let got = read_once(fd, buffer, filled);
-        match got {
-            Got::Bytes(count) => {
-                filled += count;
-            }
-            Got::End => return Filled::Ended(filled),
-            Got::Failed => return Filled::Failed,
-        }
-    }
-    Filled::Enough(filled)
-}
-
-// One read into the buffer behind its first bytes, which stay as they are.
-fn read_once(fd: i32, buffer: &mut [u8], filled: usize) -> Got
-    requires { ⌜ filled ≤ length (now buffer) ⌝ }
-    ensures { λ r. ⌜ Reads (now (buffer .entry)) filled r (now (buffer .exit)) ⌝ }
-{
-    let answer = libc::read(fd, &mut buffer[filled..]);
-    what_came(answer, &buffer[filled..])
-}
-
-// What a read's answer says: a negative one that it failed, 0 the end of the input, any other how many bytes
-// came into the room that it was lent.
-fn what_came(answer: isize, room: &[u8]) -> Got
-    ensures { λ r. ⌜ r ≡ cameBy answer (length (now (room .entry))) ⌝ }
+// What a call's answer says: 0 that the input has ended, a negative one that the call failed, any other how
+// many bytes came behind those that wait. More than there was room for cannot have come: the room is full
+// then.
+pub fn took(reader: Reader, buffer: &[u8], answer: isize, error: i32) -> Reader
+    requires { ⌜ reader .filled ≤ length (now buffer) ⌝ }
+    ensures { λ r. ⌜ Takes reader (length (now (buffer .entry)) - reader .filled) answer error r ⌝ }
 {
     if answer < 0 {
-        return Got::Failed;
+        return missed(reader, error);
     }
-    let count = io::count(answer, room);
-    if count == 0 {
-        return Got::End;
+    if answer == 0 {
+        return told(reader, Input::Ended);
     }
-    Got::Bytes(count)
+    let filled = reader.filled;
+    let count = io::count(answer, &buffer[filled..]);
+    let mut more = reader;
+    more.filled = filled + count;
+    more
+}
+
+// A call that failed: an interrupted one is tried again as long as it may be, any other error is told.
+fn missed(reader: Reader, error: i32) -> Reader
+    ensures { λ r. ⌜ Misses reader error r ⌝ }
+{
+    if error == libc::EINTR {
+        if reader.retries > 0 {
+            let mut again = reader;
+            again.retries -= 1;
+            return again;
+        }
+    }
+    told(reader, Input::Failed(error))
+}
+
+// What a call told of the input, with the rest as it was.
+fn told(reader: Reader, input: Input) -> Reader
+    ensures { λ r. ⌜ r ≡ told input reader ⌝ }
+{
+    Reader {
+        at: reader.at,
+        filled: reader.filled,
+        left: reader.left,
+        retries: reader.retries,
+        input,
+    }
 }

@@ -1,2 +1,7 @@
 pub mod Example
 pub mod Putting
+pub mod Determined
+pub mod Numbered
+pub mod Library
+pub mod Decided
+pub mod Exists

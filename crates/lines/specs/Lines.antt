@@ -2,7 +2,7 @@
 -- feed.
 use Prim.Native.Nat.{ℕ}
 use mathlib.Core.Bool.{Bool, cond}
-use mathlib.Core.List.{List, [], _++_}
+use mathlib.Core.List.{List, [], _∷_, _++_, map}
 use Rattle.ac.specs.Values.{Binding}
 use Rattle.text.specs.Ascii.{ascii}
 use Rattle.text.specs.Decimal.{decimal}
@@ -48,6 +48,10 @@ abbrev pub endLine : Line → List ℕ
 endLine (Listed H K N more) = pageEnd N more
 endLine NoUnifier = []
 endLine (Refused X) = []
+
+-- the lines of a block at its place in the file, of which the page may have none
+abbrev pub blockLines : ℕ → Line → List (List Binding) → List (List ℕ)
+blockLines P line page = blockLine P line ∷ map substitutionLine page ++ (endLine line ∷ [])
 
 -- `blocks B listed L none U refused F`
 abbrev pub countsLine : Counts → List ℕ

@@ -1,3 +1,5 @@
-pub mod Places
 pub mod Sides
 pub mod KeyLines
+pub mod Starting
+pub mod Numbered
+pub mod Running

@@ -1,52 +1,35 @@
--- Laws of what Read and Page return: the sides fit their buffers, and a page has no more keys than are wanted.
+-- Laws of what is asked of a block: the sides that Read gave fit their buffers.
 use Prim.Native.Nat.{ℕ, _≤_}
 use native.Mathlib.Omega.{arith}
-use mathlib.Core.Path.{_≡_, refl, sym, subst, subst₂}
-use mathlib.Core.Bool.{Bool}
+use mathlib.Core.Path.{_≡_, sym, subst, subst₂}
 use mathlib.Core.List.{List}
-use lib.ListN.{length, take, drop, replicate, length-append, length-take}
-use Rattle.ac.specs.Pair.{Mode, unifying}
-use Rattle.ac.specs.Keys.{Begin, start, layout, keys, remaining}
+use lib.ListN.{length, take, drop, replicate, length-append}
 use Rattle.block.specs.Front.{leftSide, rightSide}
-use Rattle.block.specs.Read.{told, ReadPromise, is-read}
+use Rattle.numbers.specs.Outcome.{is-given}
+use Rattle.block.specs.Read.{toldRead, ReadPromise, sides}
 use Rattle.block.specs.declared.ReadAnswer.{ReadAnswer}
 use Rattle.block.specs.declared.ReadAnswer.the-variants.{Sides, Refused}
-use Rattle.solver.specs.Request.{wantedCount}
-use Rattle.solver.specs.Page.{PagePromise, is-page}
-use Rattle.solver.specs.Page as outcome
-use Rattle.solver.specs.Page.{told as toldPage}
-use Rattle.solver.specs.declared.page.PageAnswer.{PageAnswer}
-use Rattle.solver.specs.declared.page.PageAnswer.the-variants.{Page}
-use Rattle.solver.specs.declared.page.PageAnswer.the-variants as page
 use Rattle.nightly.specs.Asked.{leftLength, rightLength, PairAsked, BlockAsked}
-use Rattle.nightly.specs.Printed.{PageReady}
 use Rattle.nightly.specs.declared.ask.Asked.{Asked}
 
 -- the left side that Read gave is within its buffer
 pub left-fits : {block : List ℕ} {number : ℕ} {left right left′ right′ : List ℕ} (a : ReadAnswer) →
-    ReadPromise block number left right (told a) left′ right′ → leftLength a ≤ length left′
-left-fits {left = left} (Sides m n) (is-read {s} {t} none v w) =
+    ReadPromise block number left right (toldRead a) left′ right′ → leftLength a ≤ length left′
+left-fits {left = left} (Sides m n) (is-given none (sides {s = s} {t = t} v w)) =
     omega (arith, length-append (leftSide s) (drop (length (leftSide s)) left))
 left-fits (Refused why) p = omega arith
 
 -- and so is the right side
 pub right-fits : {block : List ℕ} {number : ℕ} {left right left′ right′ : List ℕ} (a : ReadAnswer) →
-    ReadPromise block number left right (told a) left′ right′ → rightLength a ≤ length right′
-right-fits {right = right} (Sides m n) (is-read {s} {t} none v w) =
+    ReadPromise block number left right (toldRead a) left′ right′ → rightLength a ≤ length right′
+right-fits {right = right} (Sides m n) (is-given none (sides {s = s} {t = t} v w)) =
     omega (arith, length-append (rightSide t) (drop (length (rightSide t)) right))
 right-fits (Refused why) p = omega arith
-
--- a page has at most as many keys as are wanted
-pub page-fits : {M : Mode} {L R : List ℕ} {begin : Begin} {wanted : ℕ} {out out′ : List ℕ} {written : ℕ}
-    {more : Bool} →
-    PagePromise M L R begin wanted out (outcome.page written more) out′ → written ≤ wantedCount wanted
-page-fits {M} {L} {R} {begin} {wanted} (is-page {G} none groups) =
-    omega (arith, length-take (wantedCount wanted) (remaining begin (keys M layout L R G)))
 
 -- what Read gave and what was asked of its sides, together
 pub block-asked : {block : List ℕ} {number : ℕ} {keys keys′ left right : List ℕ} {answer : ReadAnswer}
     {a : Asked} {m n : ℕ} →
-    ReadPromise block number (replicate 64 0) (replicate 64 0) (told answer) left right →
+    ReadPromise block number (replicate 64 0) (replicate 64 0) (toldRead answer) left right →
     m ≡ leftLength answer →
     n ≡ rightLength answer →
     PairAsked answer (take m left) (take n right) keys a keys′ →
@@ -55,7 +38,7 @@ block-asked {block} {number} {keys} {keys′} {left} {right} {answer} {a} promis
     record {
       left = left;
       right = right;
-      read-promise = subst (λ x. ReadPromise block number (replicate 64 0) (replicate 64 0) (told x) left
+      read-promise = subst (λ x. ReadPromise block number (replicate 64 0) (replicate 64 0) (toldRead x) left
           right) (sym (pair .same-read)) promise;
       pair =
           subst (λ x. PairAsked x (take (leftLength x) left) (take (rightLength x) right) keys a keys′)
@@ -67,16 +50,3 @@ block-asked {block} {number} {keys} {keys′} {left} {right} {answer} {a} promis
 pub numbered : {block : List ℕ} {m n : ℕ} {out out′ : List ℕ} {a : Asked} → m ≡ n
     → BlockAsked block m out a out′ → BlockAsked block n out a out′
 numbered {block} {out = out} {out′ = out′} {a = a} e asked = subst (λ k. BlockAsked block k out a out′) e asked
-
--- what was asked is ready to be printed: a page fits its buffer, and the table's numbers are within its room
-pub asked-ready : {read : ReadAnswer} {L R out out′ : List ℕ} {a : Asked} {size : ℕ}
-    → PairAsked read L R out a out′ → 200 ≤ size →
-    PageReady (a .page) (a .table) size
-asked-ready {L = L} {R = R} {out = out} {out′ = out′} {a = a} {size = size} asked enough = go (a .page) refl
-  where
-    go : (p : PageAnswer) → a .page ≡ p → PageReady p (a .table) size
-    go (Page written more) e =
-        let few = page-fits (subst (λ q. PagePromise unifying L R start 200 out (toldPage q) out′) e
-        (asked .page-promise)) in
-        (omega (arith, few), asked .the-table e .within)
-    go (page.Refused why) e = tt

@@ -1,26 +1,25 @@
 -- What is asked of a block: Read, and of the sides that it gives Rows and Page. What each returned is what
 -- its own promise says.
-use Prim.Native.Nat.{ℕ, _%_}
+use Prim.Native.Nat.{ℕ}
 use mathlib.Core.Path.{_≡_}
 use mathlib.Core.Bool.{Bool}
 use mathlib.Core.List.{List}
 use lib.ListN.{take, replicate}
 use Rattle.ac.specs.Pair.{unifying}
 use Rattle.ac.specs.Keys.{start}
-use Rattle.block.specs.Read.{ReadPromise}
-use Rattle.block.specs.Read.{told as toldRead}
+use Rattle.block.specs.Read.{toldRead, ReadPromise}
 use Rattle.block.specs.declared.ReadAnswer.{ReadAnswer}
 use Rattle.block.specs.declared.ReadAnswer.the-variants.{Sides}
 use Rattle.block.specs.declared.ReadAnswer.the-variants as read
-use Rattle.solver.specs.Rows.{RowsPromise}
-use Rattle.solver.specs.Rows.{told as toldRows}
-use Rattle.solver.specs.Page.{PagePromise}
-use Rattle.solver.specs.Page.{told as toldPage}
+use Rattle.solver.specs.Rows.{rowsBuffer, toldRows, RowsPromise}
+use Rattle.solver.specs.Page.{toldPage, PagePromise}
 use Rattle.solver.specs.declared.page.PageAnswer.the-variants.{Page}
+use Rattle.numbers.specs.First.{NoneOf}
+use Rattle.ac.specs.Limits.{limits}
+use Rattle.pair.specs.Given.{PairGiven}
+use Rattle.numbers.specs.Order.{sidesNumbers}
 use Rattle.table.specs.Table.{TableOf}
-use Rattle.tally.specs.Line.{told, lineOf}
-use Rattle.tally.specs.Counts.{counted}
-use Rattle.tally.specs.declared.Counts.{Counts}
+use Rattle.table.specs.declared.Table.{Table}
 use Rattle.nightly.specs.declared.ask.Asked.{Asked}
 
 -- the lengths of the sides that Read gave; a refused block has none
@@ -32,14 +31,19 @@ abbrev pub rightLength : ReadAnswer → ℕ
 rightLength (Sides left right) = right
 rightLength (read.Refused refusal) = 0
 
+-- the table is that of two sides that give none of 7 to 12
+pub record SolvedPair (L R : List ℕ) (table : Table) : Type 0 where
+  pub none-given : NoneOf (PairGiven limits unifying L R) sidesNumbers
+  pub the-table : TableOf unifying L R table
+
 -- Rows and Page, of two sides, the page the first of 200
 pub record PairAsked (read : ReadAnswer) (L R keys : List ℕ) (a : Asked) (keys-after : List ℕ) : Type 0 where
   pub same-read : a .read ≡ read
   pub rows-after : List ℕ
-  pub rows-promise : RowsPromise unifying L R (replicate 480 0) (toldRows (a .rows)) rows-after
+  pub rows-promise : RowsPromise unifying L R (replicate rowsBuffer 0) (toldRows (a .rows)) rows-after
   pub page-promise : PagePromise unifying L R start 200 keys (toldPage (a .page)) keys-after
   -- where there is a page, the table is that of the sides
-  pub the-table : {written : ℕ} {more : Bool} → a .page ≡ Page written more → TableOf unifying L R (a .table)
+  pub solved : {written : ℕ} {more : Bool} → a .page ≡ Page written more → SolvedPair L R (a .table)
 
 -- Read, of the block and the number that it is to have, and the other questions of the sides
 pub record BlockAsked (block : List ℕ) (number : ℕ) (keys : List ℕ) (a : Asked) (keys-after : List ℕ) : Type 0 where
@@ -48,11 +52,3 @@ pub record BlockAsked (block : List ℕ) (number : ℕ) (keys : List ℕ) (a : A
   pub read-promise : ReadPromise block number (replicate 64 0) (replicate 64 0) (toldRead (a .read)) left right
   pub pair : PairAsked (a .read) (take (leftLength (a .read)) left) (take (rightLength (a .read)) right) keys
       a keys-after
-
--- The counts after a block are those of the line that what was asked of it gives; its number is to be its
--- place in the file, modulo 65,536.
-pub record BlockCounted (block : List ℕ) (before after : Counts) : Type 0 where
-  pub asked : Asked
-  pub keys-after : List ℕ
-  pub the-questions : BlockAsked block (before .blocks % 65536) (replicate 200 0) asked keys-after
-  pub the-counts : after ≡ counted before (lineOf (told (asked .read) (asked .rows) (asked .page)))

@@ -1,51 +1,83 @@
--- Where printing leaves the output buffer, and what a key's line is.
-use Prim.Native.Nat.{ℕ, _+_, _≤_}
+-- What is printed of a block: its lines, from what the program keeps of it.
+use Prim.Native.Nat.{ℕ, _+_, _%_, _<_, _≤_}
 use mathlib.Core.Path.{_≡_}
-use mathlib.Core.Bool.{false}
-use mathlib.Core.List.{List, List·Memᴰ}
-use Rattle.ac.specs.Pair.{Mode, variables}
-use Rattle.ac.specs.Selection.{value}
-use Rattle.ac.specs.Keys.{layout, keys, selectionAt}
-use Rattle.ac.specs.Values.{Binding, bindings}
+use mathlib.Core.List.{List, [], _++_, map, List·Memᴰ}
+use lib.ListN.{length, take}
+use lib.IntN.{ℤ}
+use Rattle.ac.specs.Pair.{unifying}
+use Rattle.ac.specs.Keys.{layout, keys}
+use Rattle.ac.specs.Values.{Binding}
 use Rattle.buffer.specs.Put.{Put}
-use Rattle.table.specs.Table.{InRoom, TableOf, groupsIn}
+use Rattle.table.specs.Table.{InRoom, groupsIn}
 use Rattle.table.specs.declared.Table.{Table}
-use Rattle.solver.specs.declared.page.PageAnswer.{PageAnswer}
-use Rattle.solver.specs.declared.page.PageAnswer.the-variants.{Page, Refused}
-use Rattle.solver.specs.ValuesGiven.{LongValue}
-use Rattle.lines.specs.Lines.{substitutionLine}
-use Rattle.nightly.specs.declared.print.Place.{Place}
-use Rattle.nightly.specs.declared.print.Place.the-variants.{At, Closed}
+use Rattle.tally.specs.Line.{BlockFound, lineOf}
+use Rattle.numbers.specs.Outcome.{Outcome}
+use Rattle.tally.specs.Counts.{counted}
+use Rattle.tally.specs.declared.Line.{Line}
+use Rattle.tally.specs.declared.Line.the-variants.{Listed, NoUnifier, Refused}
+use Rattle.tally.specs.declared.Counts.{Counts}
+use Rattle.output.specs.Step.{together}
+use Rattle.output.specs.Room.{HasRoom, Holds}
+use Rattle.output.specs.declared.Place.{Place}
+use Rattle.output.specs.declared.Place.the-variants.{At, Failed}
+use Rattle.lines.specs.Lines.{substitutionLine, blockLines}
+use Rattle.lines.specs.Library.{substitutionOf, Returns}
+use Rattle.nightly.specs.Asked.{SolvedPair}
+use Rattle.nightly.specs.declared.print.Listing.{Listing}
 
--- there is room for a line behind the place, in a buffer of so many bytes
-abbrev pub HasRoom : ℕ → Place → Type 0
-HasRoom size (At at) = at + 8192 ≤ size
-HasRoom size Closed = Unit {0}
+-- how many keys are printed under a block's line
+abbrev pub keyCount : Line → ℕ
+keyCount (Listed H K N more) = N
+keyCount NoUnifier = 0
+keyCount (Refused X) = 0
 
--- the place is in the buffer
-abbrev pub Inside : ℕ → Place → Type 0
-Inside size (At at) = at ≤ size
-Inside size Closed = Unit {0}
+-- one line for each key, the block's own before them, and what stands after the page
+abbrev pub lineCount : Listing → ℕ
+lineCount l = keyCount (l .line) + 2
 
--- a page of no more keys than there are, of a table whose numbers are within its room; or none
-abbrev pub PageReady : PageAnswer → Table → ℕ → Type 0
-PageReady (Page written more) table keys = (written ≤ keys) × InRoom table
-PageReady (Refused refusal) table keys = Unit {0}
+-- the substitutions of the page, of the sides that the table is of
+abbrev pub pageOf : List ℕ → List ℕ → Listing → List (List Binding)
+pageOf L R l = map (substitutionOf L R (groupsIn (l .table))) (take (keyCount (l .line)) (l .keys))
 
--- the variables with the values that a key gives them, of the pair that the table is of
-abbrev pub bindingsOf : Mode → List ℕ → List ℕ → Table → ℕ → List Binding
-bindingsOf M L R table key = bindings
-    (value M (layout .new) L R (groupsIn table) (selectionAt layout (groupsIn table) key)) (variables M L R)
+-- the lines of the block
+abbrev pub linesOf : List ℕ → List ℕ → Listing → List (List ℕ)
+linesOf L R l = blockLines (l .place) (l .line) (pageOf L R l)
 
--- The line of a listed key is its substitution. A value that would be too long has none.
-pub data KeyLine (M : Mode) (L R : List ℕ) (table : Table) (key : ℕ) (out : List ℕ) (at : ℕ) : ℕ → List ℕ
-    → Type 0 where
-  line : {next : ℕ} {after : List ℕ} → Put out at (substitutionLine (bindingsOf M L R table key)) next after
-      → KeyLine M L R table key out at next after
-  too-long : LongValue M L R (groupsIn table) key → KeyLine M L R table key out at at out
+-- there are no more keys than there is room for, of a table whose numbers are within its room
+pub record Ready (l : Listing) : Type 0 where
+  pub few : keyCount (l .line) ≤ 200
+  pub within : 0 < keyCount (l .line) → InRoom (l .table)
 
+-- what is printed is a page of these sides
+pub record Prints (L R : List ℕ) (l : Listing) : Type 0 where
+  pub enough : keyCount (l .line) ≤ length (l .keys)
+  pub solved : 0 < keyCount (l .line) → SolvedPair L R (l .table)
+  pub listed : (key : ℕ) → List·Memᴰ key (take (keyCount (l .line)) (l .keys))
+      → List·Memᴰ key (keys unifying layout L R (groupsIn (l .table)))
+
+-- the line of a key is put, where the key is on the list of the sides that the table is of
 abbrev pub KeyPut : Table → ℕ → List ℕ → ℕ → ℕ → List ℕ → Type 0
 KeyPut table key out at next after =
-    (M : Mode) (L R : List ℕ) → M .empties ≡ false → TableOf M L R table
-    → List·Memᴰ key (keys M layout L R (groupsIn table))
-    → KeyLine M L R table key out at next after
+    (L R : List ℕ) → SolvedPair L R table → List·Memᴰ key (keys unifying layout L R (groupsIn table))
+    → Put out at (substitutionLine (substitutionOf L R (groupsIn table) key)) next after
+
+-- Printing a block begins: what is printed of it are the lines of what its questions return, where its number is
+-- its place modulo 65,536; and the counts after it are those of its line.
+pub record Starts (block : List ℕ) (before : Counts) (l : Listing) (after : Counts) : Type 0 where
+  pub left : List ℕ
+  pub right : List ℕ
+  pub returned : Outcome BlockFound
+  pub page : List (List Binding)
+  pub found : Returns block (before .blocks % 65536) returned page
+  pub the-lines : linesOf left right l ≡ blockLines (before .blocks) (lineOf returned) page
+  pub the-counts : after ≡ counted before (lineOf returned)
+  pub prints : Prints left right l
+  pub ready : Ready l
+
+-- The block's lines were put behind what stood before the place. Of all that, what was not written out stands
+-- before the place after it, which has room for a line behind it. Or writing out failed.
+pub data BlockPut (l : Listing) (out : List ℕ) (at : ℕ) : Place → List ℕ → Type 0 where
+  lines-put : {next : ℕ} {out′ : List ℕ} → HasRoom (length out) next
+      → ((L R : List ℕ) → Prints L R l → Holds (take at out ++ together (linesOf L R l)) out′ next [])
+      → BlockPut l out at (At next) out′
+  not-put : {error : ℤ} {out′ : List ℕ} → BlockPut l out at (Failed error) out′

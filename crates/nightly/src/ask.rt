@@ -4,6 +4,7 @@ use numbers::Verdict;
 use solver::page::Begin;
 use solver::page::PageAnswer;
 use solver::page::PageRequest;
+use solver::rows::BUFFER;
 use solver::rows::RowsAnswer;
 use table::Table;
 ghost use mathlib.Core.Path.{_≡_};
@@ -72,7 +73,7 @@ fn ask_sides(read: ReadAnswer, left: &[u8], right: &[u8], keys: &mut [u32]) -> A
             table,
         },
         Verdict::Accepted => {
-            let mut bytes = [0u8; 480];
+            let mut bytes = [0u8; BUFFER];
             let rows = solver::rows::rows_of(table, &mut bytes);
             let request = PageRequest {
                 begin: Begin::Start,

@@ -5,70 +5,164 @@ mod print;
 
 use ask::ask;
 use libc::STDIN_FILENO;
+use libc::STDOUT_FILENO;
 use library::Next;
-use print::Place;
+use library::Reader;
+use lines::put_closing;
+use output::Place;
+use output::Written;
+use output::make_room;
+use output::write_out;
+use print::Listing;
+use print::line_count;
+use print::put_lines;
 use tally::Counts;
 use tally::closing_lines;
 use tally::expected_number;
 use tally::tally;
+ghost use mathlib.Core.Path.{_≡_};
 ghost use Prim.Native.Nat.{_≤_};
 ghost use lib.ListN.{length};
-ghost use Rattle.nightly.specs.Asked.{BlockCounted};
-ghost use Rattle.nightly.specs.Printed.{Inside};
+ghost use Rattle.library.specs.Reading.{opened};
+ghost use Rattle.lines.specs.Library.{mostBlocks};
+ghost use Rattle.output.specs.Room.{HasRoom};
+ghost use Rattle.nightly.specs.Printed.{Ready, Starts, BlockPut};
+ghost use Rattle.nightly.specs.Library.{noCounts, Over, Finishes, LibraryPrinted};
 
 // At most so many blocks are read.
 const MOST_BLOCKS: u64 = 1_048_576;
 
+// Where the program says that its last line was written out, if it is asked to.
+const VERDICT: i32 = 3;
+
 fn main() {
     let mut input = io::large_buffer();
     let mut output = io::large_buffer();
-    run(&mut input, &mut output);
+    if run(&mut input, &mut output) {
+        give_verdict();
+    }
 }
 
-// Block by block, until there is none or nobody takes the output.
-fn run(input: &mut [u8], output: &mut [u8])
+// The line `done`, where the program's only argument is `verdict`.
+fn give_verdict() {
+    if os::arg_count() != 2 {
+        return;
+    }
+    let mut word = [0u8; 8];
+    let length = os::arg(1, &mut word);
+    if check::same(&word[..length], b"verdict") {
+        io::write_all(VERDICT, b"done\n");
+    }
+}
+
+// Prints the library, writes out what was not yet, and says whether its last line was written out. What failed is
+// told.
+fn run(input: &mut [u8], output: &mut [u8]) -> bool
     requires { ⌜ 512 ≤ length (now input) ⌝ }
     requires { ⌜ 8192 ≤ length (now output) ⌝ }
 {
-    let mut reader = library::open(MOST_BLOCKS);
-    let mut counts = Counts {
+    let printed = print_library(input, output);
+    match printed {
+        Printed::All(at) => write_last(output, at),
+        Printed::Unread { at, error: _ } => {
+            os::fail(b"standard input");
+            write_last(output, at);
+            false
+        }
+        Printed::Unwritten(error) => {
+            tell_unwritten(error);
+            false
+        }
+    }
+}
+
+// Writes out what was not yet, and says whether all of it was taken.
+fn write_last(output: &[u8], at: usize) -> bool
+    requires { ⌜ at ≤ length (now output) ⌝ }
+{
+    let written = write_out(STDOUT_FILENO, output, at);
+    match written {
+        Written::All => true,
+        Written::Failed(error) => {
+            tell_unwritten(error);
+            false
+        }
+    }
+}
+
+// That writing failed is told, unless nobody reads any more.
+fn tell_unwritten(error: i32) {
+    if error != libc::EPIPE {
+        os::fail(b"standard output");
+    }
+}
+
+// A library of which nothing was read yet.
+fn open_library() -> Reader
+    ensures { λ r. ⌜ r ≡ opened mostBlocks ⌝ }
+{
+    library::open(MOST_BLOCKS)
+}
+
+// No block has been counted yet.
+fn no_counts() -> Counts
+    ensures { λ r. ⌜ r ≡ noCounts ⌝ }
+{
+    Counts {
         blocks: 0,
         listed: 0,
         none: 0,
         refused: 0,
-    };
+    }
+}
+
+// How printing a library ended: all of its text was put, up to a place in the output buffer; a read failed, with the
+// error's number, after the text up to a place; or a write failed, with the error's number.
+enum Printed {
+    All(usize),
+    Unread { at: usize, error: i32 },
+    Unwritten(i32),
+}
+
+// Block by block, until there is none, a read fails or nobody takes the output.
+fn print_library(input: &mut [u8], output: &mut [u8]) -> Printed
+    requires { ⌜ 512 ≤ length (now input) ⌝ }
+    requires { ⌜ 8192 ≤ length (now output) ⌝ }
+    ensures { λ r. ⌜ LibraryPrinted r (now (output .exit)) ⌝ }
+{
+    let mut reader = open_library();
+    let mut counts = no_counts();
     let mut at = 0;
     loop {
         let step = library::next_block(STDIN_FILENO, input, reader);
         let next = step.next;
         let Next::Block { start, length } = next else {
-            finish(next, counts, output, at);
-            return;
+            return finish(next, counts, output, at);
         };
         let end = start + length;
-        let done = do_block(&input[start..end], counts, output, at);
-        let place = done.place;
-        let Place::At(after) = place else {
-            return;
-        };
-        at = after;
-        counts = done.counts;
+        let started = start_block(&input[start..end], counts);
+        let listing = started.listing;
+        let place = print_block(listing, output, at);
+        match place {
+            Place::At(after) => {
+                at = after;
+            }
+            Place::Failed(error) => return Printed::Unwritten(error),
+        }
+        counts = started.counts;
         reader = step.reader;
     }
 }
 
-// Where the next line goes after a block, and the counts after it.
-struct Done {
-    place: Place,
+// What is printed of a block, and the counts after it.
+struct Started {
+    listing: Listing,
     counts: Counts,
 }
 
-// Asks the questions of a block, tallies what they return, and prints it.
-fn do_block(block: &[u8], counts: Counts, output: &mut [u8], at: usize) -> Done
-    requires { ⌜ at ≤ length (now output) ⌝ }
-    requires { ⌜ 8192 ≤ length (now output) ⌝ }
-    ensures { λ r. ⌜ Inside (length (now (output .entry))) (r .place) ⌝ }
-    ensures { λ r. ⌜ BlockCounted (now (block .entry)) counts (r .counts) ⌝ }
+// Asks the questions of a block and tallies what they return.
+fn start_block(block: &[u8], counts: Counts) -> Started
+    ensures { λ r. ⌜ Starts (now (block .entry)) counts (r .listing) (r .counts) ⌝ }
 {
     let mut keys = [0u32; 200];
     let asked = ask(block, expected_number(counts.blocks), &mut keys);
@@ -77,24 +171,50 @@ fn do_block(block: &[u8], counts: Counts, output: &mut [u8], at: usize) -> Done
     let page = asked.page;
     let table = asked.table;
     let tallied = tally(counts, read, rows, page);
+    let line = tallied.line;
     let after = tallied.counts;
-    let place = print::print_block(tallied, page, table, &keys, output, at);
-    Done {
-        place,
+    Started {
+        listing: Listing {
+            place: tallied.place,
+            line,
+            table,
+            keys,
+        },
         counts: after,
     }
 }
 
+// Puts the block's lines into the output buffer step by step, and makes room after each.
+fn print_block(listing: Listing, output: &mut [u8], at: usize) -> Place
+    requires { ⌜ Ready listing ⌝ }
+    requires { ⌜ HasRoom (length (now output)) at ⌝ }
+    ensures { λ r. ⌜ BlockPut listing (now (output .entry)) at r (now (output .exit)) ⌝ }
+{
+    let lines = line_count(listing);
+    let mut number = 0;
+    let mut next = at;
+    while number < lines {
+        let step = put_lines(listing, number, output, next);
+        let place = make_room(STDOUT_FILENO, output, step.at);
+        let Place::At(roomy) = place else {
+            return place;
+        };
+        next = roomy;
+        number = step.line;
+    }
+    Place::At(next)
+}
+
 // The lines at the end; where a read failed there are none.
-fn finish(next: Next, counts: Counts, output: &mut [u8], at: usize)
-    requires { ⌜ at ≤ length (now output) ⌝ }
-    requires { ⌜ 8192 ≤ length (now output) ⌝ }
+fn finish(next: Next, counts: Counts, output: &mut [u8], at: usize) -> Printed
+    requires { ⌜ Over next ⌝ }
+    requires { ⌜ HasRoom (length (now output)) at ⌝ }
+    ensures { λ r. ⌜ Finishes counts (now (output .entry)) at next r (now (output .exit)) ⌝ }
 {
     match next {
-        Next::End => print::print_closing(closing_lines(counts, false), output, at),
-        Next::Remains => print::print_closing(closing_lines(counts, true), output, at),
-        _ => {
-            print::flush(output, at);
-        }
+        Next::End => Printed::All(put_closing(output, at, closing_lines(counts, false))),
+        Next::Remains => Printed::All(put_closing(output, at, closing_lines(counts, true))),
+        Next::Failed(error) => Printed::Unread { at, error },
+        _ => Printed::Unread { at, error: 0 },
     }
 }

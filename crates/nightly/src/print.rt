@@ -1,50 +1,32 @@
-// Printing through one output buffer, which is written out where little room is left in it and at the end.
-use libc::STDOUT_FILENO;
+// A block's lines, put into the output buffer in steps.
+//
+// The lines are numbered: 0 is the block's own, then one follows for each key of its page, and the last is what
+// stands after the page. The state of printing is what is printed of the block, which stays, and the number of the
+// next line.
+use buffer::least;
 use lines::put_block_line;
-use lines::put_closing;
 use lines::put_end_line;
 use lines::put_substitution_line;
-use solver::page::PageAnswer;
+use output::Progress;
+use solver::values::ROOM;
 use solver::values::ValuesAnswer;
 use table::Table;
-use tally::Closing;
 use tally::Line;
-use tally::Tallied;
 ghost use mathlib.Core.Path.{_≡_};
-ghost use Prim.Native.Nat.{_+_, _≤_, min};
-ghost use lib.ListN.{length};
+ghost use mathlib.Core.List.{List, []};
+ghost use Prim.Native.Nat.{ℕ, _+_, _<_, _≤_, min};
+ghost use lib.ListN.{length, getD};
+ghost use Rattle.buffer.specs.Put.{Put};
+ghost use Rattle.output.specs.Step.{Goes, Steps};
 ghost use Rattle.table.specs.Table.{InRoom};
-ghost use Rattle.nightly.specs.Printed.{HasRoom, Inside, PageReady, KeyPut};
+ghost use Rattle.nightly.specs.Printed.{keyCount, lineCount, linesOf, Ready, Prints, KeyPut};
 
-// More than a line takes.
-const ROOM: usize = 8192;
-
-// Where the next line goes, or that nobody takes the output any more.
-pub enum Place {
-    At(usize),
-    Closed,
-}
-
-// Writes out the first bytes of the buffer.
-pub fn flush(output: &[u8], at: usize) -> bool
-    requires { ⌜ at ≤ length (now output) ⌝ }
-{
-    io::write_all(STDOUT_FILENO, &output[..at])
-}
-
-// A place with room for a line: where the text ends or, once it is written out, the start.
-fn make_room(output: &[u8], at: usize) -> Place
-    requires { ⌜ at ≤ length (now output) ⌝ }
-    requires { ⌜ 8192 ≤ length (now output) ⌝ }
-    ensures { λ r. ⌜ HasRoom (length (now (output .entry))) r ⌝ }
-{
-    if at <= output.len() - ROOM {
-        return Place::At(at);
-    }
-    if flush(output, at) {
-        return Place::At(0);
-    }
-    Place::Closed
+// What is printed of a block: its place in the file, its line, and the keys of its page with the pair's table.
+pub struct Listing {
+    pub place: u64,
+    pub line: Line,
+    pub table: Table,
+    pub keys: [u32; 200],
 }
 
 // The line of a key, from its values. Of a solved pair no value is too long to be written.
@@ -54,7 +36,7 @@ fn put_key(table: Table, key: u32, output: &mut [u8], at: usize) -> usize
     ensures { λ r. ⌜ r ≤ at + 8192 ⌝ }
     ensures { λ r. ⌜ KeyPut table key (now (output .entry)) at r (now (output .exit)) ⌝ }
 {
-    let mut bytes = [0u8; 1212];
+    let mut bytes = [0u8; ROOM];
     let answer = solver::values::write(table, key, &mut bytes);
     let ValuesAnswer::Values { length } = answer else {
         return at;
@@ -63,107 +45,69 @@ fn put_key(table: Table, key: u32, output: &mut [u8], at: usize) -> usize
     put_substitution_line(output, at, &bytes[..end])
 }
 
-// The smaller of two numbers.
-fn least(a: usize, b: usize) -> usize
-    ensures { λ r. ⌜ r ≡ min a b ⌝ }
+// How many keys are printed under a block's line: those that Page wrote, and none where there is no page.
+fn key_count(line: Line) -> usize
+    ensures { λ r. ⌜ r ≡ keyCount line ⌝ }
 {
-    if a < b { a } else { b }
+    match line {
+        Line::Listed {
+            balanced: _,
+            of_constants: _,
+            lines,
+            more: _,
+        } => lines as usize,
+        Line::NoUnifier => 0,
+        Line::Refused(_) => 0,
+    }
 }
 
-// The lines of the keys, one after the other.
-fn print_keys(table: Table, keys: &[u32], output: &mut [u8], at: usize) -> Place
-    requires { ⌜ InRoom table ⌝ }
-    requires { ⌜ at ≤ length (now output) ⌝ }
-    requires { ⌜ 8192 ≤ length (now output) ⌝ }
-    ensures { λ r. ⌜ Inside (length (now (output .entry))) r ⌝ }
+// How many lines the block has: its own, one for each key, and what stands after the page.
+pub fn line_count(listing: Listing) -> usize
+    requires { ⌜ Ready listing ⌝ }
+    ensures { λ r. ⌜ r ≡ lineCount listing ⌝ }
 {
+    let line = listing.line;
+    key_count(line) + 2
+}
+
+// The line of this number.
+fn put_line(listing: Listing, number: usize, output: &mut [u8], at: usize) -> usize
+    requires { ⌜ Ready listing ⌝ }
+    requires { ⌜ number < lineCount listing ⌝ }
+    requires { ⌜ at + 8192 ≤ length (now output) ⌝ }
+    ensures { λ r. ⌜ r ≤ at + 8192 ⌝ }
+    ensures { λ r. ⌜ ((L R : List ℕ) → Prints L R listing
+        → Put (now (output .entry)) at (getD (linesOf L R listing) number []) r (now (output .exit))) ⌝ }
+{
+    let line = listing.line;
+    if number == 0 {
+        return put_block_line(output, at, listing.place, line);
+    }
+    if number <= key_count(line) {
+        let table = listing.table;
+        return put_key(table, listing.keys[number - 1], output, at);
+    }
+    put_end_line(output, at, line)
+}
+
+// A step: the lines from this number on, as many as fit behind the place.
+pub fn put_lines(listing: Listing, number: usize, output: &mut [u8], at: usize) -> Progress
+    requires { ⌜ Ready listing ⌝ }
+    requires { ⌜ number ≤ lineCount listing ⌝ }
+    requires { ⌜ at ≤ length (now output) ⌝ }
+    ensures { λ r. ⌜ Goes (lineCount listing) number at (length (now (output .entry))) r ⌝ }
+    ensures { λ r. ⌜ ((L R : List ℕ) → Prints L R listing
+        → Steps (linesOf L R listing) number (now (output .entry)) at r (now (output .exit))) ⌝ }
+{
+    let lines = line_count(listing);
+    let mut line = number;
     let mut next = at;
-    let mut i = 0;
-    while i < keys.len() {
-        let place = make_room(output, next);
-        let Place::At(start) = place else {
-            return Place::Closed;
-        };
-        next = put_key(table, keys[i], output, start);
-        i += 1;
+    while line < lines {
+        if !output::has_room(output, next) {
+            break;
+        }
+        next = put_line(listing, line, output, next);
+        line += 1;
     }
-    Place::At(next)
-}
-
-// The lines of a page; a question that refused gives none.
-fn print_page(page: PageAnswer, table: Table, keys: &[u32], output: &mut [u8], at: usize) -> Place
-    requires { ⌜ PageReady page table (length (now keys)) ⌝ }
-    requires { ⌜ at ≤ length (now output) ⌝ }
-    requires { ⌜ 8192 ≤ length (now output) ⌝ }
-    ensures { λ r. ⌜ Inside (length (now (output .entry))) r ⌝ }
-{
-    match page {
-        PageAnswer::Page { written, more: _ } => { print_keys(table, &keys[..written], output, at) }
-        PageAnswer::Refused(_) => Place::At(at),
-    }
-}
-
-// The line of a block.
-fn print_block_line(place: u64, line: Line, output: &mut [u8], at: usize) -> Place
-    requires { ⌜ at ≤ length (now output) ⌝ }
-    requires { ⌜ 8192 ≤ length (now output) ⌝ }
-    ensures { λ r. ⌜ Inside (length (now (output .entry))) r ⌝ }
-{
-    let roomy = make_room(output, at);
-    let Place::At(start) = roomy else {
-        return Place::Closed;
-    };
-    Place::At(put_block_line(output, start, place, line))
-}
-
-// What stands after the page.
-fn print_end_line(line: Line, output: &mut [u8], at: usize) -> Place
-    requires { ⌜ at ≤ length (now output) ⌝ }
-    requires { ⌜ 8192 ≤ length (now output) ⌝ }
-    ensures { λ r. ⌜ Inside (length (now (output .entry))) r ⌝ }
-{
-    let roomy = make_room(output, at);
-    let Place::At(start) = roomy else {
-        return Place::Closed;
-    };
-    Place::At(put_end_line(output, start, line))
-}
-
-// A block's line, its page, and what stands after the page.
-pub fn print_block(
-    tallied: Tallied,
-    page: PageAnswer,
-    table: Table,
-    keys: &[u32],
-    output: &mut [u8],
-    at: usize,
-) -> Place
-    requires { ⌜ PageReady page table (length (now keys)) ⌝ }
-    requires { ⌜ at ≤ length (now output) ⌝ }
-    requires { ⌜ 8192 ≤ length (now output) ⌝ }
-    ensures { λ r. ⌜ Inside (length (now (output .entry))) r ⌝ }
-{
-    let line = tallied.line;
-    let first = print_block_line(tallied.place, line, output, at);
-    let Place::At(after_line) = first else {
-        return Place::Closed;
-    };
-    let second = print_page(page, table, keys, output, after_line);
-    let Place::At(after_page) = second else {
-        return Place::Closed;
-    };
-    print_end_line(line, output, after_page)
-}
-
-// The lines at the end, and all that was not written out yet.
-pub fn print_closing(closing: Closing, output: &mut [u8], at: usize)
-    requires { ⌜ at ≤ length (now output) ⌝ }
-    requires { ⌜ 8192 ≤ length (now output) ⌝ }
-{
-    let roomy = make_room(output, at);
-    let Place::At(start) = roomy else {
-        return;
-    };
-    let end = put_closing(output, start, closing);
-    flush(output, end);
+    Progress { line, at: next }
 }

@@ -3,7 +3,8 @@ use Prim.Native.Nat.{ℕ, _+_, _-_, _^_, min}
 use mathlib.Core.Path.{_≡_}
 use mathlib.Core.Bool.{Bool, true, false, cond}
 use lib.Dec.{eqb}
-use Rattle.tally.specs.Line.{Returned, lineOf}
+use Rattle.numbers.specs.Outcome.{Outcome}
+use Rattle.tally.specs.Line.{BlockFound, lineOf}
 use Rattle.tally.specs.declared.Line.{Line}
 use Rattle.tally.specs.declared.Line.the-variants.{Listed, NoUnifier, Refused}
 use Rattle.tally.specs.declared.Counts.{Counts}
@@ -25,7 +26,7 @@ counted c (Refused n) =
     record { blocks = oneMore (c .blocks); listed = c .listed; none = c .none; refused = oneMore (c .refused) }
 
 -- What is said of a block, from the counts so far and what the questions returned for it.
-pub record Tallies (c : Counts) (returned : Returned) (r : Tallied) : Type 0 where
+pub record Tallies (c : Counts) (returned : Outcome BlockFound) (r : Tallied) : Type 0 where
   -- P, the place in the file from 0, is the number of blocks before it
   pub the-place : r .place ≡ c .blocks
   pub the-line : r .line ≡ lineOf returned

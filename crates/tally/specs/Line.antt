@@ -2,7 +2,8 @@
 use Prim.Native.Nat.{ℕ, _+_, _-_, _^_, min}
 use mathlib.Core.Bool.{Bool, cond}
 use lib.Dec.{eqb}
-use Rattle.numbers.specs.Numbers.{numberOf}
+use Rattle.numbers.specs.Numbers.{saidOf}
+use Rattle.numbers.specs.Outcome.{Outcome, refused, given}
 use Rattle.block.specs.declared.ReadAnswer.{ReadAnswer}
 use Rattle.block.specs.declared.ReadAnswer.the-variants.{Sides}
 use Rattle.block.specs.declared.ReadAnswer.the-variants as read
@@ -15,11 +16,13 @@ use Rattle.solver.specs.declared.page.PageAnswer.the-variants as page
 use Rattle.tally.specs.declared.Line.{Line}
 use Rattle.tally.specs.declared.Line.the-variants.{Listed, NoUnifier, Refused}
 
--- What the questions returned for a block: a number of the table; or the balanced rows, the rows of all
+-- What the questions return for a block that none of them refuses: the balanced rows, the rows of all
 -- constants, the number of keys that Page wrote and whether more follow.
-pub data Returned : Type 0 where
-  refused : ℕ → Returned
-  gave : (balanced constants written : ℕ) (more : Bool) → Returned
+pub record BlockFound : Type 0 where
+  pub balanced : ℕ
+  pub constants : ℕ
+  pub written : ℕ
+  pub more : Bool
 
 -- the rows of all constants, as far as a number of 64 bits goes; the sizes of constants that there are not are
 -- 0
@@ -27,13 +30,19 @@ abbrev pub constantsRows : ℕ → ℕ → ℕ → ℕ → ℕ
 constantsRows first second third fourth = min (first + second + third + fourth) (2 ^ 64 - 1)
 
 -- this paper's number and values for each case of the answers: the first that refuses decides
-abbrev pub told : ReadAnswer → RowsAnswer → PageAnswer → Returned
-told (read.Refused refusal) rows page = refused (numberOf refusal)
-told (Sides left right) (rows.Refused refusal) page = refused (numberOf refusal)
-told (Sides left right) (Groups balanced constants first second third fourth) (page.Refused refusal) =
-    refused (numberOf refusal)
-told (Sides left right) (Groups balanced constants first second third fourth) (Page written more) =
-    gave balanced (constantsRows first second third fourth) written more
+abbrev pub toldBlock : ReadAnswer → RowsAnswer → PageAnswer → Outcome BlockFound
+toldBlock (read.Refused refusal) rows page = refused (saidOf refusal)
+toldBlock (Sides left right) (rows.Refused refusal) page = refused (saidOf refusal)
+toldBlock (Sides left right) (Groups balanced constants first second third fourth) (page.Refused refusal) =
+    refused (saidOf refusal)
+toldBlock (Sides left right) (Groups balanced constants first second third fourth) (Page written more) =
+    given
+    (record {
+      balanced = balanced;
+      constants = constantsRows first second third fourth;
+      written = written;
+      more = more;
+    })
 
 -- No unifier gives `block P none`; any other number `block P refused X`.
 abbrev pub lineOfNumber : ℕ → Line
@@ -41,6 +50,6 @@ lineOfNumber n = cond (eqb n 13) NoUnifier (Refused n)
 
 -- `block P rows H K` (balanced rows, rows of all constants), then the page, then `end N` (lines printed) or
 -- `more`.
-abbrev pub lineOf : Returned → Line
-lineOf (refused n) = lineOfNumber n
-lineOf (gave balanced constants written more) = Listed balanced constants written more
+abbrev pub lineOf : Outcome BlockFound → Line
+lineOf (refused said) = lineOfNumber (said .number)
+lineOf (given found) = Listed (found .balanced) (found .constants) (found .written) (found .more)

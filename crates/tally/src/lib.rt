@@ -4,7 +4,7 @@
 ghost use mathlib.Core.Path.{_≡_};
 ghost use Prim.Native.Nat.{_+_, _-_, _%_, _^_, min};
 ghost use Rattle.numbers.specs.Numbers.{numberOf};
-ghost use Rattle.tally.specs.Line.{told, lineOf, lineOfNumber, constantsRows};
+ghost use Rattle.tally.specs.Line.{toldBlock, lineOf, lineOfNumber, constantsRows};
 ghost use Rattle.tally.specs.Counts.{oneMore, counted, Tallies, closingOf};
 use block::ReadAnswer;
 use numbers::Refusal;
@@ -51,7 +51,7 @@ pub enum Closing {
 
 // What is said of a block, from the counts so far and what Read, Rows and Page returned for it.
 pub fn tally(counts: Counts, read: ReadAnswer, rows: RowsAnswer, page: PageAnswer) -> Tallied
-    ensures { λ r. ⌜ Tallies counts (told read rows page) r ⌝ }
+    ensures { λ r. ⌜ Tallies counts (toldBlock read rows page) r ⌝ }
 {
     let line = line_of(read, rows, page);
     let after = count(counts, line);
@@ -64,7 +64,7 @@ pub fn tally(counts: Counts, read: ReadAnswer, rows: RowsAnswer, page: PageAnswe
 
 // The block's line: the first refusal of Read, Rows and Page decides, in this order.
 fn line_of(read: ReadAnswer, rows: RowsAnswer, page: PageAnswer) -> Line
-    ensures { λ r. ⌜ r ≡ lineOf (told read rows page) ⌝ }
+    ensures { λ r. ⌜ r ≡ lineOf (toldBlock read rows page) ⌝ }
 {
     if let ReadAnswer::Refused(refusal) = read {
         return refused_line(refusal);

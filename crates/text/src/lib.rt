@@ -12,7 +12,9 @@ ghost use Rattle.text.specs.Decimal.{decimal};
 ghost use Rattle.ac.specs.Values.{Binding, laidOut};
 ghost use Rattle.buffer.specs.Put.{Put};
 ghost use Rattle.text.specs.Text.{name, further, joined, bindingOf, bound, spaced, substitution};
+use buffer::least;
 use buffer::put_bytes;
+use buffer::wide;
 
 // The number in decimal.
 pub fn put_number(out: &mut [u8], at: usize, number: u64) -> usize
@@ -30,14 +32,7 @@ fn put_lettered(out: &mut [u8], at: usize, letter: u8, number: u8) -> usize
     ensures { λ r. ⌜ Put (now (out .entry)) at (letter ∷ decimal number) r (now (out .exit)) ⌝ }
 {
     out[at] = letter;
-    put_number(out, at + 1, wide(number))
-}
-
-// The same number as a wider one.
-fn wide(number: u8) -> u64
-    ensures { λ r. ⌜ r ≡ number ⌝ }
-{
-    number as u64
+    put_number(out, at + 1, wide(number) as u64)
 }
 
 // The name of an atom: v, c or n and its number.
@@ -102,13 +97,6 @@ fn put_bound(out: &mut [u8], at: usize, bytes: &[u8]) -> usize
     put_value(out, next + 1, &bytes[skipped..])
 }
 
-// The smaller of two numbers.
-fn least(a: usize, b: usize) -> usize
-    ensures { λ r. ⌜ r ≡ min a b ⌝ }
-{
-    if a < b { a } else { b }
-}
-
 // The place after the binding that begins at `from`, or the end where the bytes run out before.
 fn binding_end(values: &[u8], from: usize) -> usize
     requires { ⌜ from < length (now values) ⌝ }
@@ -118,7 +106,7 @@ fn binding_end(values: &[u8], from: usize) -> usize
     if left < 2 {
         return values.len();
     }
-    let count = wide(values[from + 1]) as usize;
+    let count = wide(values[from + 1]);
     from + least(2 + count, left)
 }
 

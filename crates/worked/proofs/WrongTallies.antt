@@ -10,7 +10,7 @@ use Rattle.solver.specs.declared.rows.RowsAnswer.{RowsAnswer}
 use Rattle.solver.specs.declared.rows.RowsAnswer.the-variants.{Groups}
 use Rattle.solver.specs.declared.page.PageAnswer.{PageAnswer}
 use Rattle.solver.specs.declared.page.PageAnswer.the-variants.{Page, Refused}
-use Rattle.tally.specs.Line.{told}
+use Rattle.tally.specs.Line.{toldBlock}
 use Rattle.tally.specs.Counts.{Tallies}
 use Rattle.tally.specs.declared.Line.the-variants.{Listed, NoUnifier}
 use Rattle.tally.specs.declared.Line.the-variants as line
@@ -28,7 +28,7 @@ counts b l u f = record { blocks = b; listed = l; none = u; refused = f }
 module _ (program : Tally) where
   -- at these counts and returns the program meets the contract
   abbrev MeetsAt : Counts → ReadAnswer → RowsAnswer → PageAnswer → Type 0
-  MeetsAt so-far read rows page = Tallies so-far (told read rows page) (program so-far read rows page)
+  MeetsAt so-far read rows page = Tallies so-far (toldBlock read rows page) (program so-far read rows page)
 
   -- block 0 of the example, v0+v1 and c0+c1: no balanced row, two for each of two constants, two keys and no more
   abbrev first : Tallied

@@ -1,55 +1,68 @@
--- `library::next_block` meets its contract: what is handed on of the bytes that wait is what comes next.
--- Assumes nothing.
-use Rattle.library.specs.Reading.{HandsOn}
-use Rattle.library.proofs.Waiting.{ready-waits}
-use Rattle.library.proofs.Readings.{hands-on}
+-- `library::next_block` meets its contract: before each turn some calls were made, each where a read was
+-- wanted. It ends, since every call leaves less to ask for. Assumes nothing.
 use borrow.Author.Needs.{needs}
+use Rattle.library.proofs.Coming.{comes-wanted, not-wanted}
+use Rattle.library.proofs.Calling.{to-ask, Reached, reached-none, reached-more, wanted-falls}
 use Rattle.library.proofs.next_block.Statement.{statement}
 use Rattle.library.proofs.next_block.Tie as tie
 
-wanted-requires : tie.Need-wanted-requires
-wanted-requires c κs = search needs
+abbrev Inv-loop : tie.InvT-loop
+Inv-loop fd buffer₀ read₀ buffer read = Reached buffer₀ read₀ read buffer
 
-make-ready-requires : tie.Need-make-ready-requires
-make-ready-requires c κs = search needs
+abbrev μ-loop : tie.MeasureT-loop
+μ-loop fd buffer₀ read₀ buffer read = to-ask read
 
-enum-known-ready : tie.Need-enum-known-ready
-enum-known-ready c = search needs
+loop-holds : tie.Need-loop-holds Inv-loop μ-loop
+loop-holds c = reached-none (c .before .pre)
 
-hand-on-requires : tie.Need-hand-on-requires
-hand-on-requires c κs =
-    let at-make-ready = c .before .before .before .before .before in
-    ready-waits (at-make-ready .make-ready .ensures) (c .before .ready .given .1) .fits .ordered
+next-step-requires : tie.Need-next-step-requires Inv-loop μ-loop
+next-step-requires c κs = c .loop .inv .fits .ordered
 
-enum-told : tie.Need-enum-told
+enum-told : tie.Need-enum-told Inv-loop μ-loop
 enum-told c = search needs
 
-same-length : tie.Need-same-length
-same-length c = search needs
+same-length : tie.Need-same-length Inv-loop μ-loop
+same-length c = c .before .before .loop .inv .same-length
 
-returns : tie.Need-returns
+returns : tie.Need-returns Inv-loop μ-loop
 returns c =
-    let at-make-ready = c .before .before .before .before .before .before in
-    let at-wanted = at-make-ready .before in
-    hands-on (at-wanted .wanted .ensures)
-    (ready-waits (at-make-ready .make-ready .ensures) (c .before .before .ready .given .1)) (c .hand-on .ensures)
+    let far = c .before .before .loop .inv in
+    record {
+      calls = far .calls;
+      full = c .before .before .loop .read;
+      reads = far .reads;
+      comes = c .before .next-step .ensures;
+      not-wanted = not-wanted (c .match .keys2);
+    }
 
-same-length-2 : tie.Need-same-length-2
-same-length-2 c = search needs
+read-more-requires : tie.Need-read-more-requires Inv-loop μ-loop
+read-more-requires c κs = c .before .before .before .before .loop .inv .fits
 
-returns-2 : tie.Need-returns-2
-returns-2 c = HandsOn.failed
+loop-less : tie.Need-loop-less Inv-loop μ-loop
+loop-less c =
+    let at-next-step = c .before .before .before .before .before .before in
+    wanted-falls (at-next-step .before .loop .inv .fits)
+    (comes-wanted (at-next-step .next-step .ensures) (c .before .before .before .before .enum-told .given .1))
+    (c .before .before .read-more .ensures)
+
+loop-again : tie.Need-loop-again Inv-loop μ-loop
+loop-again c =
+    let at-next-step = c .before .before .before .before .before .before in
+    reached-more (at-next-step .before .loop .inv)
+    (comes-wanted (at-next-step .next-step .ensures) (c .before .before .before .before .enum-told .given .1))
+    (c .before .before .read-more .ensures)
 
 pub next-block-spec : {M : Type 1} → statement M
 next-block-spec =
     tie.close
     (tie.spec
-    wanted-requires
-    make-ready-requires
-    enum-known-ready
-    hand-on-requires
+    Inv-loop
+    μ-loop
+    loop-holds
+    next-step-requires
     enum-told
     same-length
     returns
-    same-length-2
-    returns-2)
+    read-more-requires
+    loop-less
+    loop-again)

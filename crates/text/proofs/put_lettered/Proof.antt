@@ -28,7 +28,7 @@ same-length c = put-length (c .before .before .put-number .ensures) ∙ simp len
 returns : tie.Need-returns
 returns c =
     let entry = c .before .before .before .before .before .before in
-    put-as (ap (λ (n : ℕ). entry .args .letter ∷ decimal n) (c .before .before .before .wide .ensures))
+    put-as (ap (λ (n : ℕ). entry .args .letter ∷ decimal n) (c .before .before .before .wide .ensures .0))
     (put-then (put-byte _ _ _) (c .before .before .put-number .ensures))
 
 pub put-lettered-spec : {M : Type 1} → statement M

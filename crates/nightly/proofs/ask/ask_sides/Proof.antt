@@ -3,9 +3,11 @@
 use native.Mathlib.Omega.{arith}
 use mathlib.Core.Path.{_≡_, refl}
 use Prim.Native.Nat.{ℕ}
-use Rattle.solver.specs.Page.{is-refused}
-use Rattle.solver.proofs.PageGiven.{first-of-sides}
-use Rattle.solver.proofs.RowsPromise.{sides-refused}
+use mathlib.Core.List.{[]}
+use Rattle.ac.proofs.Groups.{groups-exist}
+use Rattle.numbers.specs.Order.{beginningNumbers}
+use Rattle.numbers.proofs.Parts.{verdict-promised}
+use Rattle.solver.proofs.Given.{rows-made, page-made}
 use borrow.Author.Needs.{needs}
 use Rattle.nightly.proofs.ask.ask_sides.Statement.{statement}
 use Rattle.nightly.proofs.ask.ask_sides.Tie as tie
@@ -24,24 +26,26 @@ slice-aggregate-rows-of c = search needs
 
 rows-of-requires : tie.Need-rows-of-requires
 rows-of-requires c κs = (
-  c .before .before .before .before .solve .ensures .the-table (c .before .enum-told .given .1) .within,
+  c .before .before .before .before .solve .ensures .so (c .before .enum-told .given .1) .within,
   omega arith,
 )
 
 page-of-requires : tie.Need-page-of-requires
-page-of-requires c κs = c .before .before .before .before .before .before .before .solve .ensures .the-table
+page-of-requires c κs = c .before .before .before .before .before .before .before .solve .ensures .so
     (c .before .before .before .before .enum-told .given .1) .within
 
 returns : tie.Need-returns
-returns c = let first =
-    c .before .before .before .before .solve .ensures .refused _ (c .before .verdict .given .1) in
+returns c =
+    let decided = c .before .before .before .before .solve .ensures in
+    let refused = c .before .verdict .given .1 in
     record {
       same-read = refl;
       rows-after = _;
-      rows-promise = sides-refused (omega arith) first;
-      page-promise = is-refused (first-of-sides
-          (c .before .before .before .before .before .before .before .before .pre) first);
-      the-table = λ e. absurd (let z : _≡_ {A = ℕ} 0 1 = cc e in omega arith);
+      rows-promise = verdict-promised rows-made (omega arith) decided [] refused;
+      page-promise =
+          verdict-promised (page-made (groups-exist _ _ _))
+          (c .before .before .before .before .before .before .before .before .pre) decided beginningNumbers refused;
+      solved = λ e. absurd (let z : _≡_ {A = ℕ} 0 1 = cc e in omega arith);
     }
 
 same-length : tie.Need-same-length
@@ -55,10 +59,10 @@ returns-2 c = let solved =
       same-read = refl;
       rows-after = _;
       rows-promise = c .before .before .before .before .before .rows-of .ensures _ _ _
-          (solved .the-table accepted) (solved .none-given accepted);
-      page-promise = c .before .before .page-of .ensures _ _ _ refl (solved .the-table accepted)
-          (solved .none-given accepted);
-      the-table = λ e. solved .the-table accepted;
+          (solved .so accepted) (solved .none-given accepted);
+      page-promise = c .before .before .page-of .ensures _ _ _ (solved .so accepted)
+          (solved .none-given accepted) refl;
+      solved = λ e. record { none-given = solved .none-given accepted; the-table = solved .so accepted };
     }
 
 pub ask-sides-spec : {M : Type 1} → statement M

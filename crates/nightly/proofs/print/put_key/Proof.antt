@@ -1,15 +1,15 @@
 -- `nightly::print::put_key` meets its contract: the values that were written are those of the key. Assumes nothing.
-use Rattle.nightly.specs.Printed.{bindingsOf}
-use Prim.Native.Nat.{ℕ, _≤_, min}
-use lib.ListN.{take}
-use mathlib.Core.Path.{sym}
-use Prim.Native.Nat.{_≤_}
-use lib.ListN.{length, length-take}
 use native.Mathlib.Omega.{arith}
-use mathlib.Core.Path.{_≡_, sym, ap, _∙_}
+use Prim.Native.Nat.{ℕ, _≤_, min}
+use mathlib.Core.Path.{_≡_, refl, sym, ap, _∙_}
+use lib.ListN.{length, take, length-take}
 use lib.Seq.{length-take-le}
-use Rattle.solver.specs.Values.{told}
-use Rattle.nightly.specs.Printed.{KeyLine}
+use Rattle.ac.specs.Pair.{unifying, variables}
+use Rattle.ac.specs.Values.{bindings}
+use Rattle.table.specs.Table.{groupsIn}
+use Rattle.solver.specs.Values.{toldValues}
+use Rattle.solver.specs.Existence.{replacementOf}
+use Rattle.whole.proofs.Short.{not-long}
 use Rattle.nightly.proofs.KeyLines.{refused-is-long, written-values}
 use borrow.Author.Needs.{needs}
 use Rattle.nightly.proofs.print.put_key.Statement.{statement}
@@ -30,9 +30,11 @@ enum-told c = search needs
 returns : tie.Need-returns
 returns c = (
   omega arith,
-  λ M L R full of listed. KeyLine.too-long
-      (refused-is-long (c .before .before .before .write .ensures M L R full of listed)
-      (ap told (c .enum-told .given .1))),
+  λ L R solved listed.
+      absurd
+      (not-long (solved .none-given) (solved .the-table .the-groups) listed
+      (refused-is-long (c .before .before .before .write .ensures unifying L R refl (solved .the-table) listed)
+      (ap toldValues (c .enum-told .given .1)))),
 )
 
 least-requires : tie.Need-least-requires
@@ -42,52 +44,39 @@ array-share-prefix-bytes : tie.Need-array-share-prefix-bytes
 array-share-prefix-bytes c = search needs
 
 slice-aggregate-put-substitution-line : tie.Need-slice-aggregate-put-substitution-line
-slice-aggregate-put-substitution-line c = let within : c .before .before .least .result
-    ≤ length (c .before .before .before .before .before .before .before .write .last .1 .1 .0) = omega (
-      arith,
-      c .before .before .least .ensures,
-      c .before .before .before .before .before .before .before .write .kept .1 .1 .0,
-    ) in
-    sym (length-take-le (c .before .before .least .result)
-    (c .before .before .before .before .before .before .before .write .last .1 .1 .0) within)
+slice-aggregate-put-substitution-line c =
+    let at-write = c .before .before .before .before .before .before .before in
+    let w = at-write .write in
+    let within : c .before .before .least .result ≤ length (w .last .1 .1 .0) =
+    omega (arith, c .before .before .least .ensures, w .kept .1 .1 .0) in
+    sym (length-take-le (c .before .before .least .result) (at-write .write .last .1 .1 .0) within)
 
 put-substitution-line-requires : tie.Need-put-substitution-line-requires
-put-substitution-line-requires c κs = omega (
-  arith,
-  c .before .before .least .ensures,
-  length-take (c .before .before .least .result)
-      (c .before .before .before .before .before .before .before .write .last .1 .1 .0),
-)
+put-substitution-line-requires c κs =
+    let at-write = c .before .before .before .before .before .before .before in
+    let l = c .before .before .least in
+    omega (arith, l .ensures, length-take (l .result) (at-write .write .last .1 .1 .0))
 
 same-length : tie.Need-same-length
 same-length c = search needs
 
 returns-2 : tie.Need-returns-2
-returns-2 c = let bytes =
-    c .before .before .before .before .before .before .before .before .before .before .write .last .1 .1 .0 in
-    let all : min (c .before .before .before .before .before .before .before .answer .given .0 .0)
-    (length bytes) ≡ c .before .before .before .before .before .least .result = omega (
-      arith,
-      c .before .before .before .before .before .least .ensures,
-      c .before .before .before .before .before .before .before .before .before .before .write .kept .1 .1 .0,
-    ) in (
-      omega (
-        arith,
-        c .before .before .put-substitution-line .ensures .1,
-        c .before .before .before .before .before .least .ensures,
-        length-take (c .before .before .before .before .before .least .result) bytes,
-      ),
-      λ M L R full of listed.
-          KeyLine.line
-          (c .before .before .put-substitution-line .ensures .0
-          (bindingsOf M L R (c .before .before .before .before .before .before .before .before .before
-          .before .before .before .before .args .table)
-          (c .before .before .before .before .before .before .before .before .before .before .before
-          .before .before .args .key))
-          (written-values (c .before .before .before .before .before .before .before .before .before .before
-          .write .ensures M L R full of listed)
-          (ap told (c .before .before .before .before .before .before .before .answer .given .1))
-          ∙ ap (λ (k : ℕ). take k bytes) all)),
+returns-2 c =
+    let at-least = c .before .before .before .before .before in
+    let at-answer = at-least .before .before in
+    let at-write = at-answer .before .before .before in
+    let entry = at-write .before .before .before in
+    let a = entry .args in
+    let w = at-write .write in
+    let l = at-least .least in
+    let bytes = w .last .1 .1 .0 in
+    let all : min (at-answer .answer .given .0 .0) (length bytes) ≡ l .result = omega (arith, l .ensures, w .kept .1 .1 .0) in
+    let put = c .before .before .put-substitution-line .ensures in (
+      omega (arith, put .1, l .ensures, length-take (l .result) bytes),
+      λ L R solved listed.
+          put .0 (bindings (replacementOf unifying L R (groupsIn (a .table)) (a .key)) (variables unifying L R))
+          (written-values (w .ensures unifying L R refl (solved .the-table) listed) (ap toldValues (at-answer .answer .given .1))
+          ∙ ap (λ (k : ℕ). take k bytes) all),
     )
 
 pub put-key-spec : {M : Type 1} → statement M

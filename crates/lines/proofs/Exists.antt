@@ -1,0 +1,138 @@
+-- Every library has its text: the questions return something for every block.
+use Prim.Native.Nat.{ℕ, _+_, _%_, _<_, _≤_}
+use native.Mathlib.Omega.{arith}
+use mathlib.Core.Path.{_≡_, refl}
+use mathlib.Core.Bool.{Bool, true}
+use mathlib.Core.Logic.{_⊎_, inl, inr, ⊎-elim}
+use mathlib.Core.List.{List, [], _∷_, _++_, List·Memᴰ}
+use lib.ListN.{length, take}
+use Rattle.ac.specs.Lists.{receives}
+use Rattle.ac.specs.Pair.{unifying}
+use Rattle.ac.specs.Rows.{Groups, GroupsOf}
+use Rattle.ac.specs.Keys.{start, layout, keys}
+use Rattle.ac.specs.Values.{Binding}
+use Rattle.ac.specs.Term.{Term}
+use Rattle.ac.proofs.Groups.{groups-exist}
+use Rattle.numbers.specs.First.{NoneOf}
+use Rattle.numbers.proofs.Carried.{none-given, its-member}
+use Rattle.block.specs.Front.{Writes}
+use Rattle.block.specs.Block.{leftTerm, rightTerm}
+use Rattle.block.specs.Table.{NoTerm, ReadGiven, no-term}
+use Rattle.block.specs.Read.{ReadPromise}
+use Rattle.block.specs.Read as read
+use Rattle.block.proofs.Faults.{term-or-fault, fault-is-no-term}
+use Rattle.list.specs.Given.{ListGiven}
+use Rattle.ac.specs.Limits.{limits}
+use Rattle.pair.specs.Given.{PairGiven}
+use Rattle.numbers.specs.Order.{readNumbers, sidesNumbers, beginningNumbers}
+use Rattle.numbers.specs.Outcome.{Outcome, given, is-given}
+use Rattle.numbers.proofs.Parts.{first-of-sides, none-of-sides}
+use Rattle.numbers.proofs.Promises.{refuse}
+use Rattle.solver.specs.Rows.{rowsBuffer, RowsPromise, sizesOf, allRows, bytesOf, rows}
+use Rattle.solver.specs.Page.{next}
+use Rattle.solver.proofs.Given.{rows-made, page-first, page-none}
+use Rattle.tally.specs.Line.{BlockFound, lineOf}
+use Rattle.tally.specs.Counts.{closingOf}
+use Rattle.tally.specs.declared.Line.{Line}
+use Rattle.lines.specs.Lines.{closingLines}
+use Rattle.lines.specs.Library.{mostBlocks, lent, PairFound, rows-refused, page-refused, a-page, Returns, read-refused, sides, BlocksText, no-more, one-more, countsOf, LibraryText}
+use Rattle.lines.proofs.Decided.{Settled, given as settled-given, none-given as settled-none, read-settled, pair-settled, list-settled}
+
+-- something is returned for two sides, and for a block
+record SomePair (L R : List ℕ) : Type 0 where
+  pub returned : Outcome BlockFound
+  pub page : List (List Binding)
+  pub found : PairFound L R returned page
+
+pub record SomeFound (block : List ℕ) (number : ℕ) : Type 0 where
+  pub returned : Outcome BlockFound
+  pub page : List (List Binding)
+  pub found : Returns block number returned page
+
+module _ (L R : List ℕ) {G : Groups} (of : GroupsOf unifying L R G) where
+  module _ (none : NoneOf (PairGiven limits unifying L R) sidesNumbers) where
+    -- sides within the limits have their rows ..
+    rows-given : RowsPromise unifying L R (lent rowsBuffer) (given (sizesOf G))
+        (receives (lent rowsBuffer) (bytesOf (allRows G)))
+    rows-given = is-given (none-of-sides rows-made (omega arith) none) (rows of)
+
+    -- .. and a page, or 13
+    some-page : SomePair L R
+    some-page = by-list (list-settled (keys unifying layout L R G))
+      where
+        by-list : Settled (ListGiven (keys unifying layout L R G) start) beginningNumbers → SomePair L R
+        by-list (settled-given first) =
+            record {
+              returned = _;
+              page = [];
+              found = page-refused rows-given (refuse (page-first of none (omega arith) first));
+            }
+        by-list (settled-none nothing) =
+            record {
+              returned = _;
+              page = _;
+              found = a-page rows-given (is-given (page-none of none (omega arith) nothing) (next of)) of;
+            }
+
+  some-pair : SomePair L R
+  some-pair = by-sides (pair-settled unifying L R of)
+    where
+      by-sides : Settled (PairGiven limits unifying L R) sidesNumbers → SomePair L R
+      by-sides (settled-given first) =
+          record {
+            returned = _;
+            page = [];
+            found = rows-refused (refuse (first-of-sides rows-made (omega arith) [] first));
+          }
+      by-sides (settled-none none) = some-page none
+
+-- The questions return something for every block.
+pub some-found : (block : List ℕ) (number : ℕ) → SomeFound block number
+some-found block number = by-read (read-settled block number (lent 64) (lent 64) long)
+  where
+    long : (length (lent 64) < 64) ⊎ (length (lent 64) < 64) → ⊥
+    long (inl short) = omega arith
+    long (inr short) = omega arith
+
+    -- where 5 is not given, the bytes are a term
+    a-term : {bytes : List ℕ} → (NoTerm bytes → ⊥) → (t : Term) × Writes bytes t
+    a-term {bytes} some = ⊎-elim (λ term. term) (λ fault. absurd (some (fault-is-no-term fault))) (term-or-fault bytes)
+
+    by-read : Settled (ReadGiven block number (lent 64) (lent 64)) readNumbers → SomeFound block number
+    by-read (settled-given first) = record { returned = _; page = []; found = read-refused (refuse first) }
+    by-read (settled-none none) =
+        let five : List·Memᴰ 5 readNumbers = its-member readNumbers refl in
+        let left = a-term (λ no-left. none-given none five (no-term (inl no-left))) in
+        let right = a-term (λ no-right. none-given none five (no-term (inr no-right))) in
+        let promise = is-given none (read.sides (left .1) (right .1)) in
+        let pair = some-pair _ _ (groups-exist unifying _ _) in
+        record { returned = pair .returned; page = pair .page; found = sides promise (pair .found) }
+
+-- blocks have their text, from every place on
+record SomeText (place : ℕ) (blocks : List (List ℕ)) : Type 0 where
+  pub lines : List Line
+  pub text : List ℕ
+  pub of-blocks : BlocksText place blocks lines text
+
+some-text : (place : ℕ) (blocks : List (List ℕ)) → SomeText place blocks
+some-text place [] = record { lines = []; text = []; of-blocks = no-more }
+some-text place (block ∷ blocks) =
+    let first = some-found block (place % 65536) in
+    let rest = some-text (place + 1) blocks in
+    record { lines = _; text = _; of-blocks = one-more (first .found) (rest .of-blocks) }
+
+-- Every list of as many blocks as may be read has its text; input remains only after the last of them.
+pub library-exists : (blocks : List (List ℕ)) (remains : Bool) → length blocks ≤ mostBlocks
+    → (remains ≡ true → length blocks ≡ mostBlocks) → (text : List ℕ) × LibraryText blocks remains text
+library-exists blocks remains few only =
+    let all = some-text 0 blocks in (
+      _,
+      record {
+        at-most = few;
+        only-after-most = only;
+        lines = all .lines;
+        before = all .text;
+        of-blocks = all .of-blocks;
+        whole = refl;
+      },
+    )

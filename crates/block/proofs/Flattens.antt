@@ -39,27 +39,21 @@ atom-may-be-written (Classified.plus e) first-two = absurd (later-kind (omega ar
 atom-may-be-written (refused h) first-two = absurd (later-kind (omega arith) first-two)
 
 -- a plus is byte 128
-pub plus-is-128 : {b : ℕ} → Classified b Plus → b ≡ 128
-plus-is-128 (Classified.plus e) = e
+pub plus-is-128 : {b : ℕ} {kind : ByteKind} → Classified b kind → kind ≡ Plus → b ≡ 128
+plus-is-128 (variable h) e = apart (cc e)
+plus-is-128 (constant l h) e = apart (cc e)
+plus-is-128 (Classified.plus is) e = is
+plus-is-128 (refused h) e = apart (cc e)
 
 -- a byte that is refused is above 128
 pub refused-is-above : {b : ℕ} → Classified b Refused → 128 < b
 refused-is-above (refused h) = h
 
--- bytes that are not empty are their first byte and the others
-first-byte : (bytes : List ℕ) → 0 < length bytes → bytes ≡ getD bytes 0 0 ∷ take (length bytes - 1) (drop 1 bytes)
-first-byte bytes h = drop-cons bytes 0 0 h ∙ ap (λ (l : List ℕ). getD bytes 0 0 ∷ l) (sym (part-to-end bytes 1))
-
 -- what is found where the first byte was looked at is found in the whole
-module _ {bytes buffer after : List ℕ} {r : Flattened} (some : 0 < length bytes) where
-  pub after-first-byte : Flattens (getD bytes 0 0 ∷ take (length bytes - 1) (drop 1 bytes)) buffer r after
-      → Flattens bytes buffer r after
-  after-first-byte f = subst (λ (l : List ℕ). Flattens l buffer r after) (sym (first-byte bytes some)) f
-
-  -- and where it is a plus
-  pub after-plus-byte : getD bytes 0 0 ≡ 128
-      → Flattens (128 ∷ take (length bytes - 1) (drop 1 bytes)) buffer r after → Flattens bytes buffer r after
-  after-plus-byte is-plus f = after-first-byte (rw is-plus f)
+pub after-first-byte : {bytes buffer after : List ℕ} {r : Flattened} → 0 < length bytes
+    → Flattens (getD bytes 0 0 ∷ drop 1 bytes) buffer r after → Flattens bytes buffer r after
+after-first-byte {bytes} {buffer} {after} {r} some f =
+    subst (λ (l : List ℕ). Flattens l buffer r after) (sym (drop-cons bytes 0 0 some)) f
 
 -- a buffer that is not empty, with an atom written at its start
 pub receives-atom : (buffer : List ℕ) (a : ℕ) → 0 < length buffer
@@ -103,22 +97,26 @@ length-zero : (l : List ℕ) → length l ≡ 0 → l ≡ []
 length-zero [] e = refl
 length-zero (a ∷ l) e = absurd (omega (arith, e))
 
-module _ {bytes buffer after : List ℕ} {used filled : ℕ} (f : FoundTerm bytes buffer used filled after) where
-  -- the bytes of the term are among the bytes, and n bytes are (n + 1) / 2 atoms
-  pub found-sizes : (used ≤ length bytes) × (used + 1 ≡ 2 * filled)
-  found-sizes = omega (
-    arith,
-    bytes-of-atoms (f .term),
-    simp length-append at (ap length (f .begins .splits)),
-    f .used-is,
-    f .filled-is,
-  )
+-- the bytes of the term are among the bytes, and n bytes are (n + 1) / 2 atoms
+pub found-sizes : {bytes buffer after : List ℕ} {used filled : ℕ} → FoundTerm bytes buffer used filled after
+    → (used ≤ length bytes) × (used + 1 ≡ 2 * filled)
+found-sizes f = omega (
+  arith,
+  bytes-of-atoms (f .term),
+  simp length-append at (ap length (f .begins .splits)),
+  f .used-is,
+  f .filled-is,
+)
 
+-- the bytes left after a plus and the first term
+pub left-for-second : (bytes : List ℕ) (used : ℕ)
+    → take (length bytes - (1 + used)) (drop (1 + used) bytes) ≡ drop used (drop 1 bytes)
+left-for-second bytes used = part-to-end bytes (1 + used) ∙ sym (drop-drop used 1 bytes)
+
+module _ {bytes buffer after : List ℕ} {used filled : ℕ} (f : FoundTerm bytes buffer used filled after) where
   -- the bytes after the term
-  rest-is : take (length bytes - used) (drop used bytes) ≡ f .begins .rest
-  rest-is =
-      part-to-end bytes used
-      ∙ ap (drop used) (f .begins .splits)
+  rest-is : drop used bytes ≡ f .begins .rest
+  rest-is = ap (drop used) (f .begins .splits)
       ∙ drop-at (encode (f .term)) (f .begins .rest) used (sym (f .used-is))
 
   -- the term uses exactly the bytes, or no term does
@@ -148,37 +146,29 @@ module _ {bytes buffer after : List ℕ} {used filled : ℕ} (f : FoundTerm byte
       ∙ take-at (flatten (f .term)) (drop (length (flatten (f .term))) buffer) filled (sym (f .filled-is))
 
   -- and what stands after them
-  back-is : take (length after - filled) (drop filled after) ≡ drop (length (flatten (f .term))) buffer
-  back-is =
-      part-to-end after filled
-      ∙ ap (drop filled) (f .after-is)
+  back-is : drop filled after ≡ drop (length (flatten (f .term))) buffer
+  back-is = ap (drop filled) (f .after-is)
       ∙ drop-at (flatten (f .term)) (drop (length (flatten (f .term))) buffer) filled (sym (f .filled-is))
 
   -- there is room for the atoms
   pub filled-within : filled ≤ length after
   filled-within = omega (arith, simp length-append at (ap length (f .after-is)), f .filled-is)
 
-  -- fewer bytes are left for the second term, and room enough for its atoms
-  pub second-sizes :
-      length bytes + 1 < 2 * length buffer →
-      length after ≡ length buffer →
-      (length (take (length bytes - used) (drop used bytes)) ≤ length bytes)
-      × (length (take (length bytes - used) (drop used bytes))
-      < 2 * length (take (length after - filled) (drop filled after)))
-  second-sizes fits same =
-      simp (part-to-end, length-drop) (let sizes : (used ≤ length bytes)
-      × (used + 1 ≡ 2 * filled) = found-sizes in omega arith)
+  -- and behind them for those of a second term
+  pub room-for-second : length bytes + 1 < 2 * length buffer → length after ≡ length buffer
+      → length (drop used bytes) < 2 * length (drop filled after)
+  room-for-second fits same = simp length-drop (let sizes = found-sizes f in omega arith)
 
   -- where no second term stands there is no term
-  pub second-nothing : ((t : Term) → Begins (take (length bytes - used) (drop used bytes)) t → ⊥) → (t : Term)
-      → Begins (128 ∷ bytes) t → ⊥
+  pub second-nothing : ((t : Term) → Begins (drop used bytes) t → ⊥) → (t : Term) → Begins (128 ∷ bytes) t → ⊥
   second-nothing none = second-missing (f .begins) (rw rest-is at none)
 
-  module _
-      {end : List ℕ} {used′ filled′ : ℕ}
-      (g : FoundTerm (take (length bytes - used) (drop used bytes))
-      (take (length after - filled) (drop filled after)) used′ filled′ end)
+  module _ {end : List ℕ} {used′ filled′ : ℕ} (g : FoundTerm (drop used bytes) (drop filled after) used′ filled′ end)
     where
+      -- the two terms take no more bytes than there are, and have no more atoms than bytes and one
+      pub both-sizes : (used + used′ ≤ length bytes) × (filled + filled′ ≤ length bytes + 1)
+      both-sizes = omega (arith, found-sizes f, found-sizes g, length-drop used bytes)
+
       both : Begins (128 ∷ bytes) (plus (f .term) (g .term))
       both = plus-begins (f .begins) (rw rest-is at (g .begins))
 
@@ -210,14 +200,3 @@ module _ {bytes buffer after : List ℕ} {used filled : ℕ} (f : FoundTerm byte
           Flattens (128 ∷ bytes) buffer (Found (1 + used + used′) (filled + filled′))
           (putMid filled (length after - filled) after end)
       found-both = rw (← bytes-add-up, ← atoms-add-up, ← buffer-holds-both) (found both)
-
--- the two terms take no more bytes than there are, and have no more atoms than bytes and one
-pub both-sizes :
-    {bytes buffer middle after end : List ℕ} {used filled used′ filled′ : ℕ} →
-    FoundTerm bytes buffer used filled after →
-    FoundTerm (take (length bytes - used) (drop used bytes)) middle used′ filled′ end →
-    (used + used′ ≤ length bytes) × (filled + filled′ ≤ length bytes + 1)
-both-sizes {bytes = bytes} {used = used} first second =
-    let rest : length (take (length bytes - used) (drop used bytes)) ≡ length bytes - used =
-    ap length (part-to-end bytes used) ∙ length-drop used bytes in
-    omega (arith, found-sizes first, found-sizes second, rest)

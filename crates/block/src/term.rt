@@ -33,7 +33,8 @@ pub enum Flattened {
 }
 
 // Takes the term apart that the bytes begin with and puts its atoms at the start of the buffer, in the order
-// in which they are read. Where the bytes begin with no term, the buffer may hold atoms of a part of one.
+// in which they are read: after a plus the first term, then the second behind it, each from fewer bytes. Where
+// the bytes begin with no term, the buffer may hold atoms of a part of one.
 pub fn flatten(bytes: &[u8], buffer: &mut [u8]) -> Flattened
     requires { ⌜ length (now bytes) < 2 * length (now buffer) ⌝ }
     ensures { λ r. ⌜ Flattens (now (bytes .entry)) (now (buffer .entry)) r (now (buffer .exit)) ⌝ }
@@ -44,28 +45,11 @@ pub fn flatten(bytes: &[u8], buffer: &mut [u8]) -> Flattened
     let byte = bytes[0];
     let kind = classify(byte);
     match kind {
-        ByteKind::Variable | ByteKind::Constant => flatten_atom(byte, buffer),
-        ByteKind::Plus => flatten_two(&bytes[1..], buffer),
-        ByteKind::Refused => Flattened::Nothing,
+        ByteKind::Variable | ByteKind::Constant => return flatten_atom(byte, buffer),
+        ByteKind::Plus => {}
+        ByteKind::Refused => return Flattened::Nothing,
     }
-}
-
-// An atom is a term by itself, whatever follows it.
-fn flatten_atom(atom: u8, buffer: &mut [u8]) -> Flattened
-    requires { ⌜ MayBeWritten atom ⌝ }
-    requires { ⌜ 0 < length (now buffer) ⌝ }
-    ensures { λ r. ⌜ ((rest : List ℕ) → Flattens (atom ∷ rest) (now (buffer .entry)) r (now (buffer .exit))) ⌝ }
-{
-    buffer[0] = atom;
-    Flattened::Found { bytes: 1, atoms: 1 }
-}
-
-// Takes apart the two terms that follow a plus: each has fewer bytes left than the plus had.
-fn flatten_two(bytes: &[u8], buffer: &mut [u8]) -> Flattened
-    requires { ⌜ length (now bytes) + 1 < 2 * length (now buffer) ⌝ }
-    ensures { λ r. ⌜ Flattens (128 ∷ now (bytes .entry)) (now (buffer .entry)) r (now (buffer .exit)) ⌝ }
-{
-    let first = flatten(bytes, buffer);
+    let first = flatten(&bytes[1..], buffer);
     let Flattened::Found {
         bytes: used,
         atoms: filled,
@@ -73,7 +57,7 @@ fn flatten_two(bytes: &[u8], buffer: &mut [u8]) -> Flattened
     else {
         return Flattened::Nothing;
     };
-    let second = flatten(&bytes[used..], &mut buffer[filled..]);
+    let second = flatten(&bytes[1 + used..], &mut buffer[filled..]);
     let Flattened::Found {
         bytes: used_next,
         atoms: filled_next,
@@ -85,6 +69,16 @@ fn flatten_two(bytes: &[u8], buffer: &mut [u8]) -> Flattened
         bytes: 1 + used + used_next,
         atoms: filled + filled_next,
     }
+}
+
+// An atom is a term by itself, whatever follows it.
+fn flatten_atom(atom: u8, buffer: &mut [u8]) -> Flattened
+    requires { ⌜ MayBeWritten atom ⌝ }
+    requires { ⌜ 0 < length (now buffer) ⌝ }
+    ensures { λ r. ⌜ ((rest : List ℕ) → Flattens (atom ∷ rest) (now (buffer .entry)) r (now (buffer .exit))) ⌝ }
+{
+    buffer[0] = atom;
+    Flattened::Found { bytes: 1, atoms: 1 }
 }
 
 // What a term's bytes are: a whole term, by how many atoms it has, or no term.

@@ -22,11 +22,11 @@ use Rattle.ac.proofs.Listed.{keys-ascending, listed-exactly, listed-candidates}
 use Rattle.ac.proofs.Pages.{page-members, page-ascending}
 use Rattle.ac.proofs.Places.{getD-member, one-place}
 use Rattle.ac.proofs.Theorems.{sound, complete, independent}
-use Rattle.numbers.specs.First.{First, NoneOf, here, also}
+use Rattle.numbers.specs.First.{First, NoneOf, here}
 use Rattle.numbers.specs.Order.{rowsNumbers, pageNumbers, beginningNumbers}
 use Rattle.numbers.specs.Outcome.{Outcome, refused, is-refused, is-given}
 use Rattle.numbers.proofs.Laws.{first-unique, first-not-none}
-use Rattle.numbers.proofs.Carried.{none-carried, first-after, none-front, first-given, none-given, its-member, elsewhere, first-past}
+use Rattle.numbers.proofs.Carried.{first-after, none-front, first-given, none-given, its-member, elsewhere, first-past}
 use Rattle.pair.proofs.Lists.{member-at}
 use Rattle.list.specs.Given.{none-admissible}
 use Rattle.list.proofs.Given.{given-13}
@@ -34,7 +34,7 @@ use Rattle.solver.specs.Page.{wantedCount, nextKeys, moreFollow, PageGiv
 use Rattle.numbers.proofs.Promises.{refused-not-given, same-values, same-number}
 use Rattle.solver.specs.Existence.{SomeUnifies, NoneUnifies, replacementOf, PageExistence}
 use Rattle.solver.proofs.Given.{page-given}
-use Rattle.solver.proofs.Limits.{WithinLimits, within-limits}
+use Rattle.solver.proofs.Limits.{WithinLimits, within-limits, sides-give-none}
 
 empty-or-member : (bs : List ℕ) → (bs ≡ []) ⊎ ((b : ℕ) × List·Memᴰ b bs)
 empty-or-member [] = inl refl
@@ -96,7 +96,7 @@ uptoEmpty = rowsNumbers ++ (13 ∷ [])
 module _ {M : Mode} {L R : List ℕ} {begin : Begin} {wanted : ℕ} {out : List ℕ} where
   -- where nothing up to 12 is given, the sides and the groups are within the limits
   fine-sides : NoneOf (PageGiven M L R begin wanted out) rowsNumbers → WithinLimits M L R
-  fine-sides (also no-16 none) = within-limits (none-carried (λ n m given. of-the-sides given) none)
+  fine-sides none = within-limits (sides-give-none (λ n number. of-the-sides number) none)
 
   -- 13 is the answer where nothing before it is given and nothing unifies
   first-13 : NoneOf (PageGiven M L R begin wanted out) rowsNumbers → NoneUnifies M L R

@@ -5,3 +5,5 @@ pub mod Whole
 pub mod Only
 pub mod Short
 pub mod Exist
+pub mod OnPages
+pub mod Unifiers

@@ -6,4 +6,5 @@ pub mod Only
 pub mod Short
 pub mod Exist
 pub mod OnPages
+pub mod Substitutions
 pub mod Unifiers

@@ -1,6 +1,7 @@
 -- What a client may ask on (document 01, "The questions"), by what Page and Values promise, in every mode.
 --
--- `never-empty`. A page that is given has at least one key, and so a last one (`last-key`).
+-- `never-empty`. A page that is given has at least one key, and so a last one (`last-key`). What is written at a place
+-- of the buffer stands on the page (`stands-on-page`).
 -- `key-answered`. Values answers a key that stands on a page, whatever the page's beginning and count, if its lent
 -- buffer is long enough. So none of 13, 14 and 17 is given of such a key.
 -- `asked-on`. Where more follow, Page asked for after the last key gives a page if its lent buffer is long enough;
@@ -12,9 +13,10 @@ use native.Mathlib.Omega.{arith}
 use native.Mathlib.Decide.{decLe}
 use mathlib.Core.Path.{_≡_, refl, sym, ap, subst, _∙_}
 use mathlib.Core.Bool.{Bool, true}
-use mathlib.Core.List.{List, [], _∷_, _++_, List·Memᴰ, List·Memᴰ·head, Memᴰ·append-right}
+use mathlib.Core.List.{List, [], _∷_, _++_, List·Memᴰ, List·Memᴰ·head, Memᴰ·append-right, Memᴰ·cast}
 use borrow.Author.Tests.{ltb-true}
-use lib.ListN.{length, take, length-drop}
+use lib.ListN.{length, getD, take, drop, length-drop}
+use lib.Seq.{take-append-seam, getD-take}
 use Rattle.ac.specs.Limits.{limits}
 use Rattle.ac.specs.Pair.{Mode}
 use Rattle.ac.specs.Search.{groups}
@@ -22,6 +24,7 @@ use Rattle.ac.specs.Keys.{layout, keys, Begin, start, after, remaining}
 use Rattle.ac.proofs.Groups.{groups-exist}
 use Rattle.ac.proofs.Listed.{keys-ascending}
 use Rattle.ac.proofs.Pages.{page-members, remaining-after-page}
+use Rattle.ac.proofs.Places.{getD-member}
 use Rattle.numbers.specs.First.{NoneOf}
 use Rattle.numbers.specs.Numbers.{saidOf}
 use Rattle.numbers.specs.Order.{sidesNumbers, rowsNumbers, beginningNumbers}
@@ -34,7 +37,7 @@ use Rattle.numbers.proofs.Promises.{refused-not-given, refused-first, given-non
 use Rattle.pair.specs.Given.{PairGiven}
 use Rattle.list.specs.Given.{ListGiven, none-admissible, not-listed, last-listed}
 use Rattle.list.proofs.Given.{list-number, listed-after, list-gives-none}
-use Rattle.solver.specs.Page.{wantedCount, PageWritten, PagePromise, of-the-sides, of-the-list, next}
+use Rattle.solver.specs.Page.{wantedCount, nextKeys, PageWritten, PagePromise, of-the-sides, of-the-list, next}
 use Rattle.solver.specs.Values.{valuesBuffer, values, ValuesPromise}
 use Rattle.solver.proofs.Determined.{one-page, one-values}
 use Rattle.solver.proofs.Given.{page-made, page-none, values-none}
@@ -47,10 +50,6 @@ some-taken : (n : ℕ) (xs : List ℕ) → 0 < n → (xs ≡ [] → ⊥) → 0 <
 some-taken zero xs wanted some = absurd (omega arith)
 some-taken (suc n) [] wanted some = absurd (some refl)
 some-taken (suc n) (x ∷ xs) wanted some = omega arith
-
-taken-some : (n : ℕ) (xs : List ℕ) → 0 < length (take n xs) → 0 < n
-taken-some zero xs some = some
-taken-some (suc n) xs some = omega arith
 
 first-of : (xs : List ℕ) → 0 < length xs → (x : ℕ) × List·Memᴰ x xs
 first-of [] some = absurd (omega arith)
@@ -76,6 +75,14 @@ list-remains : (begin : Begin) {listed : List ℕ} → ((n : ℕ) → ListGiven 
 list-remains start never empty = never 13 (none-admissible empty)
 list-remains (after k) never empty = never 14 (not-listed refl (λ m. never 15 (last-listed refl m empty)))
 
+-- a page is as long as Page says
+page-length : {M : Mode} {L R : List ℕ} {begin : Begin} {wanted written : ℕ} {more : Bool} {out out′ : List ℕ}
+    → PagePromise M L R begin wanted out (given (record { written = written; more = more })) out′
+    → length (take written out′) ≡ written
+page-length {M} {L} {R} {begin} {wanted} {out = out} (is-given none (next {G = G} of)) =
+    ap length
+    (take-append-seam (nextKeys M L R G begin wanted) (drop (length (nextKeys M L R G begin wanted)) out))
+
 module _ {M : Mode} {L R : List ℕ} {begin : Begin} {wanted written : ℕ} {more : Bool} {out out′ : List ℕ}
     (page : PagePromise M L R begin wanted out (given (record { written = written; more = more })) out′) where
   -- the sides of a page that is given give no number
@@ -99,11 +106,17 @@ module _ {M : Mode} {L R : List ℕ} {begin : Begin} {wanted written : ℕ} {mor
 
   -- A page is never empty.
   pub never-empty : 0 < written
-  never-empty = taken-some written out′ some-keys
+  never-empty = subst (λ n. 0 < n) (page-length page) some-keys
 
   -- So it has a last key, after which the next page can be asked for.
   pub last-key : (before : List ℕ) × (last : ℕ) × (take written out′ ≡ before ++ last ∷ [])
   last-key = last-of (take written out′) some-keys
+
+  -- What stands in the buffer before the written end stands on the page.
+  pub stands-on-page : (i : ℕ) → i < written → List·Memᴰ (getD out′ i 0) (take written out′)
+  stands-on-page i h =
+      Memᴰ·cast (sym (getD-take written out′ i 0 h))
+      (getD-member (take written out′) i 0 (subst (λ n. i < n) (sym (page-length page)) h))
 
   -- A key that stands on a page is answered, and not refused, where the lent buffer is long enough.
   pub key-answered : {key : ℕ} → List·Memᴰ key (take written out′) → {lent lent′ : List ℕ}
@@ -111,8 +124,7 @@ module _ {M : Mode} {L R : List ℕ} {begin : Begin} {wanted written : ℕ} {mor
       → ValuesPromise M L R key lent outcome lent′ → (n : ℕ) × (outcome ≡ given n)
   key-answered m enough promise =
       let of = groups-exist M L R in
-      let short = not-long none-of-sides of (on-list m) in
-      (
+      let short = not-long none-of-sides of (on-list m) in (
         _,
         outcome-determined one-values promise
             (is-given (values-none of none-of-sides enough (on-list m) short) (values of)) .0,
@@ -148,8 +160,7 @@ module _ {M : Mode} {L R : List ℕ} {begin : Begin} {wanted written : ℕ} {out
         → PagePromise M L R (after last) wanted′ lent outcome lent′
         → (following : PageWritten) × (outcome ≡ given following)
     asked-on enough promise =
-        let of = groups-exist M L R in
-        (
+        let of = groups-exist M L R in (
           _,
           outcome-determined one-page promise
               (is-given (page-none of (none-of-sides page) enough none-after-last) (next of)) .0,

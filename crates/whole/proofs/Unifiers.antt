@@ -14,37 +14,26 @@
 --
 -- Here t is the right term with its atoms as `onTheRight` has them. Not covered are sides that give 7 to 12: of their
 -- unifiers nothing is said.
-use Prim.Native.Nat.{ℕ, _+_, _≤_}
+use Prim.Native.Nat.{ℕ}
 use native.Mathlib.Omega.{arith}
-use mathlib.Core.Path.{_≡_, refl, sym, ap, ap₂, subst, subst₂, _∙_, fun-ext}
+use mathlib.Core.Path.{_≡_, refl, sym, ap, ap₂, subst₂, _∙_}
 use mathlib.Core.Logic.{_↔_}
-use mathlib.Core.Bool.{Bool, true, false, cond}
-use mathlib.Core.List.{List, [], _∷_, _++_, map, List·Memᴰ, List·Memᴰ·head, List·Memᴰ·tail}
-use borrow.Author.Tests.{eqb-true, lt-ltb, le-ltb}
-use lib.Dec.{eqb, ltb, lit≤}
+use mathlib.Core.Bool.{false}
+use mathlib.Core.List.{List, _++_, map}
+use borrow.Author.Tests.{le-ltb}
 use lib.ListN.{length, take, drop}
 use lib.Seq.{take-append-seam}
 use Rattle.ac.specs.Term.{Term, atom, plus, flatten}
-use Rattle.ac.specs.Pair.{Mode, IsSide, unifying, count, variables}
-use Rattle.ac.specs.Rows.{Groups, GroupsOf}
-use Rattle.ac.specs.Search.{groups}
-use Rattle.ac.specs.Selection.{Selection, SelectionOf, admissible, value}
-use Rattle.ac.specs.Keys.{layout, keyOf, selectionAt, selections, listed, Begin, start, Fits}
+use Rattle.ac.specs.Pair.{Mode, IsSide, unifying}
+use Rattle.ac.specs.Keys.{layout, Begin, start}
 use Rattle.ac.specs.Pages.{together}
-use Rattle.ac.specs.Values.{bindings}
-use Rattle.ac.specs.Replacement.{Replacement}
-use Rattle.ac.specs.Fages.{Substitution, tree, substitutionOf, MinimalSet}
-use Rattle.ac.proofs.Groups.{groups-exist, groups-unique}
-use Rattle.ac.proofs.Keys.{taken-apart}
-use Rattle.ac.proofs.Order.{filter-member}
-use Rattle.ac.proofs.Listed.{selections-are}
+use Rattle.ac.specs.Fages.{MinimalSet}
 use Rattle.ac.proofs.Fages.{flattened, unifier-unifies, unifies-unifier}
-use Rattle.ac.proofs.MinimalSet.{minimal-set}
 use Rattle.pair.proofs.Lists.{map-append}
 use Rattle.numbers.specs.First.{NoneOf}
 use Rattle.numbers.specs.Numbers.{saidOf}
 use Rattle.numbers.specs.Order.{rowsNumbers, pageNumbers}
-use Rattle.numbers.specs.Outcome.{Outcome, refused, given, is-given}
+use Rattle.numbers.specs.Outcome.{Outcome, refused, given}
 use Rattle.numbers.specs.declared.Refusal.the-variants.{NoUnifier}
 use Rattle.numbers.proofs.Promises.{given-gives}
 use Rattle.block.specs.Front.{Writes, onTheRight, leftSide, rightSide}
@@ -53,67 +42,13 @@ use Rattle.block.specs.Read.{SideLengths, ReadGives, ReadPromise, sides}
 use Rattle.block.proofs.Terms.{writes-unique}
 use Rattle.solver.specs.Page.{PageGiven, of-the-sides, PageWritten, PagePromise}
 use Rattle.solver.specs.Pages.{PagesAsked}
-use Rattle.solver.specs.Values.{values, valuesOf}
 use Rattle.solver.specs.Existence.{NoneUnifies}
 use Rattle.solver.proofs.Limits.{sides-give-none, within-limits}
-use Rattle.solver.proofs.Pages.{asked-within, pages-hold-the-list}
-use Rattle.whole.specs.Whole.{ValuesAsked, no-more, one-more}
-use Rattle.whole.specs.Unifiers.{renamed, substitutionIn, readSubstitution, NoUnifierOf}
-use Rattle.whole.proofs.ReadBack.{takenApart-laidOut}
+use Rattle.whole.specs.Whole.{ValuesAsked}
+use Rattle.whole.specs.Unifiers.{renamed, readSubstitution, NoUnifierOf}
 use Rattle.whole.proofs.Exist.{pages-wherever-given}
 use Rattle.whole.proofs.Whole.{none-at-all}
-
--- ---- what is read back of the bytes
-
--- a variable that stands among the bindings becomes the tree of its value, and every other atom stays
-substitutionIn-bindings : (θ : Replacement) (xs : List ℕ) (x : ℕ)
-    → substitutionIn (bindings θ xs) x ≡ cond (ltb 0 (count x xs)) (tree (θ x)) (atom x)
-substitutionIn-bindings θ [] x = refl
-substitutionIn-bindings θ (y ∷ ys) x = go (eqb x y) refl (substitutionIn-bindings θ ys x)
-  where
-    go : (b : Bool) → eqb x y ≡ b → substitutionIn (bindings θ ys) x
-        ≡ cond (ltb 0 (count x ys)) (tree (θ x)) (atom x)
-        → cond b (tree (θ y)) (substitutionIn (bindings θ ys) x)
-        ≡ cond (ltb 0 (cond b 1 0 + count x ys)) (tree (θ x)) (atom x)
-    go true same later =
-        ap (λ z. tree (θ z)) (sym (eqb-true x y same))
-        ∙ ap (λ t. cond t (tree (θ x)) (atom x)) (sym (lt-ltb 0 (1 + count x ys) (omega arith)))
-    go false other later =
-        later ∙ ap (λ n. cond (ltb 0 n) (tree (θ x)) (atom x)) (let e : count x ys ≡ 0 + count x ys = omega arith in e)
-
-module _ {M : Mode} {L R : List ℕ} {G : Groups} (of : GroupsOf M L R G) where
-  -- what Values writes of a key is read back as the substitution of the key's selection
-  values-substitution : (key : ℕ)
-      → readSubstitution (valuesOf M L R G key)
-      ≡ substitutionOf M (layout .new) L R G (selectionAt layout G key)
-  values-substitution key =
-      let θ = value M (layout .new) L R G (selectionAt layout G key) in
-      fun-ext (λ x. ap (λ bs. substitutionIn bs x) (takenApart-laidOut (bindings θ (variables M L R)))
-      ∙ substitutionIn-bindings θ (variables M L R) x)
-
-  -- each answer is what Values writes of its key
-  answers-are : {asked : List ℕ} {answers : List (List ℕ)} → ValuesAsked M L R asked answers
-      → answers ≡ map (valuesOf M L R G) asked
-  answers-are no-more = refl
-  answers-are (one-more {key = key} {out = out} (is-given none (values {G = H} others)) rest) =
-      ap₂ {C = List (List ℕ)} (λ a as′. a ∷ as′)
-      (take-append-seam (valuesOf M L R H key) (drop (length (valuesOf M L R H key)) out)
-      ∙ ap (λ K. valuesOf M L R K key) (groups-unique M L R others of))
-      (answers-are rest)
-
-  -- so the answers to the keys of selections are read back as the selections' substitutions
-  read-as-substitutions : Fits layout G → (ks : List Selection)
-      → ((k : Selection) → List·Memᴰ k ks → SelectionOf G k)
-      → map readSubstitution (map (valuesOf M L R G) (map (keyOf layout) ks))
-      ≡ map (substitutionOf M (layout .new) L R G) ks
-  read-as-substitutions fits [] selection = refl
-  read-as-substitutions fits (k ∷ ks) selection =
-      ap₂ {C = List Substitution} (λ σ σs. σ ∷ σs)
-      (values-substitution (keyOf layout k)
-      ∙ ap (substitutionOf M (layout .new) L R G) (taken-apart fits (selection k (List·Memᴰ·head refl))))
-      (read-as-substitutions fits ks (λ l m. selection l (List·Memᴰ·tail m)))
-
--- ---- the answers to two terms
+use Rattle.whole.proofs.Substitutions.{answers-minimal-set}
 
 module _ {M : Mode} (some : M .empties ≡ false) (s t : Term) where
   -- no replacement unifies the flattened sides exactly where no substitution is a unifier
@@ -138,37 +73,6 @@ module _ {M : Mode} (some : M .empties ≡ false) (s t : Term) where
       alike none =
           let fine = within-limits (sides-give-none (λ n number. of-the-sides number) none) in
           none-alike (fine .left-side) (fine .right-side)
-
-  -- The substitutions read back from the answers are a complete set of minimal unifiers, in every mode in which
-  -- no value may be empty and no new variable moves.
-  pub answers-minimal-set : ((a : ℕ) → layout .new ≤ a → M .moves a ≡ false) → {pages answers : List (List ℕ)}
-      → PagesAsked M (flatten s) (flatten t) start pages
-      → ValuesAsked M (flatten s) (flatten t) (together pages) answers
-      → MinimalSet M (layout .new) s t (map readSubstitution answers)
-  answers-minimal-set stay {pages} {answers} asked answered =
-      subst (MinimalSet M (layout .new) s t) (sym read)
-      (minimal-set M layout s t (asked-within refl asked .left-side) (asked-within refl asked .right-side)
-      some (lit≤ tt) stay (groups-exist M (flatten s) (flatten t)))
-    where
-      of : GroupsOf M (flatten s) (flatten t) (groups M (flatten s) (flatten t))
-      of = groups-exist M (flatten s) (flatten t)
-
-      read : map readSubstitution answers
-          ≡ map (substitutionOf M (layout .new) (flatten s) (flatten t) (groups M (flatten s) (flatten t)))
-          (listed M layout (flatten s) (flatten t) (groups M (flatten s) (flatten t)))
-      read =
-          ap (map readSubstitution)
-          (answers-are of answered
-          ∙ ap (map (valuesOf M (flatten s) (flatten t) (groups M (flatten s) (flatten t))))
-          (pages-hold-the-list of asked .whole))
-          ∙ read-as-substitutions of (asked-within refl asked .groups-fit _ of)
-          (listed M layout (flatten s) (flatten t) (groups M (flatten s) (flatten t)))
-          (λ k m. selections-are (groups M (flatten s) (flatten t)) .0
-          (filter-member
-          (admissible M (layout .new) (flatten s) (flatten t) (groups M (flatten s) (flatten t)))
-          (selections (groups M (flatten s) (flatten t))) m .0))
-
--- ---- the terms of a block
 
 -- flattening keeps the atoms' order under other names
 flatten-renamed : (name : ℕ → ℕ) (t : Term) → flatten (renamed name t) ≡ map name (flatten t)
@@ -206,7 +110,7 @@ module _ {block : List ℕ} {number : ℕ} {left right left′ right′ : List �
       → MinimalSet unifying (layout .new) s (renamed onTheRight t) (map readSubstitution answers)
   block-unifiers {s} {t} of-left of-right {pages} {answers} asked answered =
       let same = read-sides (given-gives read) of-left of-right in
-      answers-minimal-set refl s (renamed onTheRight t) (λ a new. le-ltb a 64 (omega arith))
+      answers-minimal-set refl (λ a new. le-ltb a 64 (omega arith)) s (renamed onTheRight t)
       (subst₂ (λ L R. PagesAsked unifying L R start pages) (same .0) (same .1) asked)
       (subst₂ (λ L R. ValuesAsked unifying L R (together pages) answers) (same .0) (same .1) answered)
 

@@ -2,27 +2,27 @@
 -- RR-0287). The terms are trees, and a substitution is read back from the bytes of Values alone.
 use Prim.Native.Nat.{ℕ}
 use mathlib.Core.Bool.{cond}
-use mathlib.Core.List.{List, [], _∷_}
-use lib.Dec.{eqb}
+use mathlib.Core.List.{List, map}
+use lib.Dec.{ltb}
 use Rattle.ac.specs.Term.{Term, atom, plus}
+use Rattle.ac.specs.Pair.{Mode, count}
 use Rattle.ac.specs.Values.{Binding}
-use Rattle.ac.specs.Pair.{Mode}
 use Rattle.ac.specs.Fages.{Substitution, ACUnifier, tree}
-use Rattle.whole.specs.Whole.{takenApart}
+use Rattle.whole.specs.Whole.{takenApart, readBack}
 
 -- the term with another name for each of its atoms
 abbrev pub renamed : (ℕ → ℕ) → Term → Term
 renamed name (atom a) = atom (name a)
 renamed name (plus s t) = plus (renamed name s) (renamed name t)
 
--- a variable becomes the term of the value that stands with it; an atom that does not stand there stays
-abbrev pub substitutionIn : List Binding → Substitution
-substitutionIn [] x = atom x
-substitutionIn (b ∷ bs) x = cond (eqb x (b .variable)) (tree (b .value)) (substitutionIn bs x)
+-- the variables that stand in bytes, each with its value
+abbrev pub variablesIn : List ℕ → List ℕ
+variablesIn bytes = map (λ (b : Binding). b .variable) (takenApart 0 bytes)
 
--- The substitution read back from bytes.
+-- The substitution read back from bytes: a variable that stands in them becomes the term of its value, and every
+-- other atom stays.
 abbrev pub readSubstitution : List ℕ → Substitution
-readSubstitution bytes = substitutionIn (takenApart 0 bytes)
+readSubstitution bytes x = cond (ltb 0 (count x (variablesIn bytes))) (tree (readBack bytes x)) (atom x)
 
 -- no substitution is a unifier of the two terms
 abbrev pub NoUnifierOf : Mode → Term → Term → Type 0

@@ -1,11 +1,12 @@
 -- Members of the lists that the definitions build, and lists in ascending order.
-use Prim.Native.Nat.{ℕ, _<_}
+use Prim.Native.Nat.{ℕ, zero, suc, _<_}
 use native.Mathlib.Omega.{arith}
 use mathlib.Core.Path.{_≡_, refl, sym, ap, ap₂, subst}
 use mathlib.Core.Logic.{⊎-elim}
 use mathlib.Core.Bool.{Bool, true}
 use mathlib.Core.List.{List, [], _∷_, _++_, map, List·Memᴰ, List·Memᴰ·head, List·Memᴰ·tail, List·Memᴰ·not-nil}
 use mathlib.Core.List.{List·Memᴰ·append-cases, Memᴰ·append-left, Memᴰ·append-right}
+use lib.ListN.{take}
 use Rattle.ac.specs.Lists.{below, keep, filter, flatMap, Ascending, none, next}
 use Rattle.ac.proofs.Places.{from-bounds, from-member}
 use Rattle.ac.proofs.Order.{ascending-append}
@@ -62,6 +63,21 @@ member-splits {A = A} (List·Memᴰ·head {x = b} {xs = rest} e) = ([], rest, ap
 member-splits {A = A} (List·Memᴰ·tail {x = b} m) =
     let t = member-splits m in
     (b ∷ t .0, t .1, ap {B = List A} (λ l. b ∷ l) (t .2))
+
+-- a member of a list's front is a member of the list
+pub taken-member : {A : Type 0} {a : A} (n : ℕ) (xs : List A) → List·Memᴰ a (take n xs) → List·Memᴰ a xs
+taken-member zero xs m = absurd (List·Memᴰ·not-nil m)
+taken-member (suc n) [] m = absurd (List·Memᴰ·not-nil m)
+taken-member (suc n) (x ∷ xs) (List·Memᴰ·head e) = List·Memᴰ·head e
+taken-member (suc n) (x ∷ xs) (List·Memᴰ·tail m) = List·Memᴰ·tail (taken-member n xs m)
+
+-- the front of an ascending list ascends
+pub taken-ascending : {A : Type 0} {_before_ : A → A → Type 0} (n : ℕ) {xs : List A} → Ascending _before_ xs
+    → Ascending _before_ (take n xs)
+taken-ascending zero ascending = none
+taken-ascending (suc n) none = none
+taken-ascending (suc n) (next {rest = rest} first later) =
+    next (λ b m. first b (taken-member n rest m)) (taken-ascending n later)
 
 -- a list that ascends in one order ascends in any other that follows from it on the members
 pub ascending-in : {A : Type 0} {_before_ _earlier_ : A → A → Type 0} {xs : List A}

@@ -14,7 +14,7 @@ use Rattle.ac.specs.Keys.{Begin, start, after, remaining}
 use Rattle.ac.specs.Pages.{page, more, LeastFrom, NoneFrom, boundOf}
 use Rattle.ac.proofs.Order.{ascending-unique}
 use Rattle.ac.proofs.Order.{filter-member, member-filter, filter-ascending}
-use Rattle.ac.proofs.Members.{filter-all}
+use Rattle.ac.proofs.Members.{filter-all, taken-member, taken-ascending}
 
 -- a number that is below another is not above it
 one-way : (a b : ℕ) → a < b → b < a → ⊥
@@ -38,6 +38,16 @@ module _ {keys : List ℕ} where
   remaining-ascending : (begin : Begin) → Ascending _<_ keys → Ascending _<_ (remaining begin keys)
   remaining-ascending start ascending = ascending
   remaining-ascending (after k) ascending = filter-ascending (ltb k) ascending
+
+-- a key of a page is a key of the list
+pub page-members : (begin : Begin) (wanted : ℕ) {keys : List ℕ} {key : ℕ} → List·Memᴰ key (page begin wanted keys)
+    → List·Memᴰ key keys
+page-members begin wanted {keys} m = remaining-members begin (taken-member wanted (remaining begin keys) m) .0
+
+-- and the keys of a page ascend
+pub page-ascending : (begin : Begin) (wanted : ℕ) {keys : List ℕ} → Ascending _<_ keys
+    → Ascending _<_ (page begin wanted keys)
+page-ascending begin wanted ascending = taken-ascending wanted (remaining-ascending begin ascending)
 
 -- what stands behind a key of an ascending list is what remains after it
 remaining-behind : (before : List ℕ) (key : ℕ) {behind : List ℕ} → Ascending _<_ (before ++ key ∷ behind)

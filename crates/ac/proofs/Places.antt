@@ -76,3 +76,9 @@ placeOf-getD (next {a} {rest} before ascending) (suc i) h =
     let l : i < length rest = omega arith in
     let n : (getD rest i 0 ≡ a → ⊥) = λ e. omega (arith, before (getD rest i 0) (getD-member rest i 0 l)) in
     placeOf-later (getD rest i 0) a rest n ∙ ap suc (placeOf-getD ascending i l)
+
+-- so what stands at two places of it is the same only if the places are
+pub one-place : {xs : List ℕ} → Ascending _<_ xs → (i j : ℕ) → i < length xs → j < length xs
+    → getD xs i 0 ≡ getD xs j 0 → i ≡ j
+one-place {xs} ascending i j h h′ same =
+    sym (placeOf-getD ascending i h) ∙ ap (λ x. placeOf x xs) same ∙ placeOf-getD ascending j h′

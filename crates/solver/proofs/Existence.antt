@@ -1,13 +1,13 @@
 -- Demand 3 follows from Page's promise: 13 exactly where nothing unifies, all else only where something does.
-use Prim.Native.Nat.{ℕ, zero, suc, _<_}
+use Prim.Native.Nat.{ℕ, _<_}
 use native.Mathlib.Omega.{arith}
 use mathlib.Core.Path.{_≡_, refl, sym, _∙_, ap, subst}
-use mathlib.Core.Bool.{Bool, true, false}
+use mathlib.Core.Bool.{true, false}
 use mathlib.Core.Logic.{_⊎_, inl, inr, ⊎-elim}
-use mathlib.Core.List.{List, [], _∷_, _++_, List·Memᴰ, List·Memᴰ·head, List·Memᴰ·tail, List·Memᴰ·not-nil}
+use mathlib.Core.List.{List, [], _∷_, _++_, List·Memᴰ, List·Memᴰ·head, List·Memᴰ·not-nil, Memᴰ·cast}
 use borrow.Author.Tests.{ltb-false}
 use lib.Dec.{lit≤}
-use lib.ListN.{length, getD, take, List·getD-append}
+use lib.ListN.{length, getD, List·getD-append}
 use lib.Seq.{take-all}
 use Rattle.ac.specs.Lists.{receives}
 use Rattle.ac.specs.Pair.{Mode}
@@ -17,34 +17,24 @@ use Rattle.ac.specs.Keys.{layout, keys, keyOf, Begin, start, remaining}
 use Rattle.ac.specs.Pages.{more}
 use Rattle.ac.specs.Replacement.{Replacement, Unifies, ComesFrom}
 use Rattle.ac.proofs.Groups.{groups-exist, groups-unique}
-use Rattle.ac.proofs.Keys.{taken-apart, candidate-selection}
-use Rattle.ac.proofs.Listed.{listed-exactly, listed-candidates}
-use Rattle.ac.proofs.Pages.{remaining-members}
-use Rattle.ac.proofs.Places.{getD-member}
-use Rattle.ac.proofs.Theorems.{sound, complete}
-use Rattle.numbers.specs.First.{First, NoneOf, here, also}
+use Rattle.ac.proofs.Keys.{taken-apart, packed, candidate-selection}
+use Rattle.ac.proofs.Listed.{keys-ascending, listed-exactly, listed-candidates}
+use Rattle.ac.proofs.Pages.{page-members, page-ascending}
+use Rattle.ac.proofs.Places.{getD-member, one-place}
+use Rattle.ac.proofs.Theorems.{sound, complete, independent}
+use Rattle.numbers.specs.First.{First, NoneOf, here}
 use Rattle.numbers.specs.Order.{rowsNumbers, pageNumbers, beginningNumbers}
 use Rattle.numbers.specs.Outcome.{Outcome, refused, is-refused, is-given}
 use Rattle.numbers.proofs.Laws.{first-unique, first-not-none}
-use Rattle.numbers.proofs.Carried.{none-carried, first-after, none-front, first-given, none-given, its-member, elsewhere, first-past}
+use Rattle.numbers.proofs.Carried.{first-after, none-front, first-given, none-given, its-member, elsewhere, first-past}
+use Rattle.pair.proofs.Lists.{member-at}
 use Rattle.list.specs.Given.{none-admissible}
 use Rattle.list.proofs.Given.{given-13}
 use Rattle.solver.specs.Page.{wantedCount, nextKeys, moreFollow, PageGiven, of-the-sides, of-the-list, PageWritten, next, PagePromise}
 use Rattle.numbers.proofs.Promises.{refused-not-given, same-values, same-number}
 use Rattle.solver.specs.Existence.{SomeUnifies, NoneUnifies, replacementOf, PageExistence}
 use Rattle.solver.proofs.Given.{page-given}
-use Rattle.solver.proofs.Limits.{WithinLimits, within-limits}
-
--- a member of a list stands at a place
-member-place : {a : ℕ} (bs : List ℕ) → List·Memᴰ a bs → (i : ℕ) × (i < length bs) × (getD bs i 0 ≡ a)
-member-place (b ∷ bs) (List·Memᴰ·head e) = (0, omega arith, sym e)
-member-place (b ∷ bs) (List·Memᴰ·tail m) = let t = member-place bs m in (suc (t .0), omega (arith, t .1), t .2)
-
-taken-member : {a : ℕ} (n : ℕ) (bs : List ℕ) → List·Memᴰ a (take n bs) → List·Memᴰ a bs
-taken-member zero bs m = absurd (List·Memᴰ·not-nil m)
-taken-member (suc n) [] m = absurd (List·Memᴰ·not-nil m)
-taken-member (suc n) (b ∷ bs) (List·Memᴰ·head e) = List·Memᴰ·head e
-taken-member (suc n) (b ∷ bs) (List·Memᴰ·tail m) = List·Memᴰ·tail (taken-member n bs m)
+use Rattle.solver.proofs.Limits.{WithinLimits, within-limits, sides-give-none}
 
 empty-or-member : (bs : List ℕ) → (bs ≡ []) ⊎ ((b : ℕ) × List·Memᴰ b bs)
 empty-or-member [] = inl refl
@@ -71,6 +61,19 @@ module _ {M : Mode} {L R : List ℕ} (fine : WithinLimits M L R) {G : Groups} (o
             (found .3),
       )
 
+  -- of two keys of the list neither names a replacement that comes from the other's
+  pub keys-independent : {key other : ℕ} → List·Memᴰ key (keys M layout L R G) → List·Memᴰ other (keys M layout L R G)
+      → ComesFrom M (layout .new) L R (replacementOf M L R G key) (replacementOf M L R G other) → key ≡ other
+  keys-independent m m′ comes =
+      let fits = fine .groups-fit G of in
+      let one = listed-candidates fits M L R .0 m in
+      let two = listed-candidates fits M L R .0 m′ in
+      sym (packed fits (one .0))
+      ∙ ap (keyOf layout)
+      (independent M (layout .new) L R (lit≤ tt) of (candidate-selection fits (one .0))
+      (candidate-selection fits (two .0)) (one .1) (two .1) comes)
+      ∙ packed fits (two .0)
+
   pub empty-none : keys M layout L R G ≡ [] → NoneUnifies M L R
   empty-none e θ unifies = let found =
       unifier-listed unifies in List·Memᴰ·not-nil (subst (List·Memᴰ (found .0)) e (found .1))
@@ -93,7 +96,7 @@ uptoEmpty = rowsNumbers ++ (13 ∷ [])
 module _ {M : Mode} {L R : List ℕ} {begin : Begin} {wanted : ℕ} {out : List ℕ} where
   -- where nothing up to 12 is given, the sides and the groups are within the limits
   fine-sides : NoneOf (PageGiven M L R begin wanted out) rowsNumbers → WithinLimits M L R
-  fine-sides (also no-16 none) = within-limits (none-carried (λ n m given. of-the-sides given) none)
+  fine-sides none = within-limits (sides-give-none (λ n number. of-the-sides number) none)
 
   -- 13 is the answer where nothing before it is given and nothing unifies
   first-13 : NoneOf (PageGiven M L R begin wanted out) rowsNumbers → NoneUnifies M L R
@@ -138,14 +141,27 @@ module _ {M : Mode} {L R : List ℕ} {begin : Begin} {wanted : ℕ} {out : List 
         → getD (receives out (nextKeys M L R G begin wanted)) i 0 ≡ getD (nextKeys M L R G begin wanted) i 0
     at-place i h = List·getD-append (nextKeys M L R G begin wanted) _ 0 i h
 
+    on-list : (i : ℕ) → i < length (nextKeys M L R G begin wanted)
+        → List·Memᴰ (getD (receives out (nextKeys M L R G begin wanted)) i 0) (keys M layout L R G)
+    on-list i h =
+        Memᴰ·cast (at-place i h)
+        (page-members begin (wantedCount wanted) (getD-member (nextKeys M L R G begin wanted) i 0 h))
+
     pub page-unifies : (i : ℕ) → i < length (nextKeys M L R G begin wanted)
         → Unifies M L R (replacementOf M L R G (getD (receives out (nextKeys M L R G begin wanted)) i 0))
-    page-unifies i h =
-        subst (λ key. Unifies M L R (replacementOf M L R G key)) (sym (at-place i h))
-        (key-unifies fine-page of
-        (remaining-members begin
-        (taken-member (wantedCount wanted) (remaining begin (keys M layout L R G))
-        (getD-member (nextKeys M L R G begin wanted) i 0 h)) .0))
+    page-unifies i h = key-unifies fine-page of (on-list i h)
+
+    -- the keys of a page ascend, so none of them stands at two places
+    pub page-independent : (i j : ℕ) → i < length (nextKeys M L R G begin wanted)
+        → j < length (nextKeys M L R G begin wanted)
+        → ComesFrom M (layout .new) L R
+        (replacementOf M L R G (getD (receives out (nextKeys M L R G begin wanted)) i 0))
+        (replacementOf M L R G (getD (receives out (nextKeys M L R G begin wanted)) j 0))
+        → i ≡ j
+    page-independent i j h h′ comes =
+        one-place (page-ascending begin (wantedCount wanted) (keys-ascending (fine-page .groups-fit G of) M L R))
+        i j h h′
+        (sym (at-place i h) ∙ keys-independent fine-page of (on-list i h) (on-list j h′) comes ∙ at-place j h′)
 
     -- a page from the start after which no more follow is the whole list
     pub page-covers : begin ≡ start → moreFollow M L R G begin wanted ≡ false → (θ : Replacement) → Unifies M L R θ
@@ -154,8 +170,7 @@ module _ {M : Mode} {L R : List ℕ} {begin : Begin} {wanted : ℕ} {out : List 
         (getD (receives out (nextKeys M L R G begin wanted)) i 0)) θ
     page-covers from-start no-more θ unifies =
         let found = unifier-listed fine-page of unifies in
-        let place = member-place (nextKeys M L R G begin wanted)
-        (subst (List·Memᴰ (found .0)) (sym whole) (found .1)) in (
+        let place = member-at (subst (List·Memᴰ (found .0)) (sym whole) (found .1)) in (
           place .0,
           place .1,
           subst (λ key. ComesFrom M (layout .new) L R (replacementOf M L R G key) θ)
@@ -182,6 +197,7 @@ page-existence (is-refused refuses) =
       page-where-some = λ e. absurd (refused-not-given e);
       written-unify = λ i of e h. absurd (refused-not-given e);
       written-cover = λ of from-start e θ unifies. absurd (refused-not-given e);
+      written-independent = λ i j of e h h′ comes. absurd (refused-not-given e);
     }
 page-existence {M} {L} {R} {begin} {wanted} {out} (is-given none (next {G = G} of)) =
     record {
@@ -205,4 +221,13 @@ page-existence {M} {L} {R} {begin} {wanted} {out} (is-given none (next {G = G} o
                 (replacementOf M L R H (getD (receives out (nextKeys M L R G begin wanted)) (covered .0) 0)) θ)
                 (groups-unique M L R of other) (covered .2),
           );
+      written-independent =
+          λ i j other e h h′ comes.
+          let written = ap (λ p. p .written) (same-values e) in
+          page-independent none of i j (omega (arith, written)) (omega (arith, written))
+          (subst
+          (λ H. ComesFrom M (layout .new) L R
+          (replacementOf M L R H (getD (receives out (nextKeys M L R G begin wanted)) i 0))
+          (replacementOf M L R H (getD (receives out (nextKeys M L R G begin wanted)) j 0)))
+          (groups-unique M L R other of) comes);
     }

@@ -8,9 +8,9 @@ use lib.ListN.{length, length-map}
 use Rattle.ac.specs.Pair.{Mode, IsSide, unbalanced}
 use Rattle.ac.specs.Rows.{Group, Groups, GroupsOf}
 use Rattle.ac.specs.Keys.{layout, Fits}
-use Rattle.numbers.specs.First.{NoneOf}
-use Rattle.numbers.specs.Order.{sidesNumbers}
-use Rattle.numbers.proofs.Carried.{none-given, its-member}
+use Rattle.numbers.specs.First.{NoneOf, also}
+use Rattle.numbers.specs.Order.{sidesNumbers, rowsNumbers}
+use Rattle.numbers.proofs.Carried.{none-carried, none-given, its-member}
 use Rattle.ac.specs.Limits.{limits}
 use Rattle.pair.specs.Given.{PairGiven, SideOf, left, right, no-atom, many-constants, many-rows, balanced, of-a-constant}
 
@@ -28,6 +28,11 @@ pub record WithinLimits (M : Mode) (L R : List ℕ) : Type 0 where
   pub groups-fit : (G : Groups) → GroupsOf M L R G → Fits layout G
 
 module _ {M : Mode} {L R : List ℕ} where
+  -- where a question on two sides gives no number up to 12, the sides give none
+  pub sides-give-none : {Given : ℕ → Type 0} → ((n : ℕ) → PairGiven limits M L R n → Given n)
+      → NoneOf Given rowsNumbers → NoneOf (PairGiven limits M L R) sidesNumbers
+  sides-give-none carried (also no-16 none) = none-carried (λ n m number. carried n number) none
+
   -- where 8 is not given, a side holds atoms only
   pub atoms-only : {side : List ℕ} → (PairGiven limits M L R 8 → ⊥) → SideOf L R side → IsSide side
   atoms-only no-8 side a m =

@@ -7,20 +7,19 @@ use mathlib.Core.List.{List, [], _∷_, _++_, List·Memᴰ}
 use lib.ListN.{length, getD}
 use Rattle.ac.specs.Pair.{Mode, count, variables}
 use Rattle.ac.specs.Search.{groups}
-use Rattle.ac.specs.Selection.{placeOf}
 use Rattle.ac.specs.Keys.{layout, keys, start}
 use Rattle.ac.specs.Pages.{together, WholeList}
 use Rattle.ac.specs.Replacement.{Replacement, put, isNew, SameSum, Unifies, ComesFrom}
 use Rattle.ac.proofs.Groups.{groups-exist}
-use Rattle.ac.proofs.Places.{getD-member, placeOf-getD}
+use Rattle.ac.proofs.Places.{getD-member, one-place}
 use Rattle.ac.proofs.Fages.{Agree, unifies-alike, comes-alike}
 use Rattle.pair.proofs.Lists.{member-at}
 use Rattle.solver.specs.Existence.{replacementOf}
 use Rattle.solver.specs.Pages.{PagesAsked}
-use Rattle.solver.proofs.Existence.{key-unifies, unifier-listed}
+use Rattle.solver.proofs.Existence.{key-unifies, unifier-listed, keys-independent}
 use Rattle.solver.proofs.Pages.{asked-within, pages-hold-the-list}
 use Rattle.whole.specs.Whole.{replacementAt, ValuesAsked, WholeSet}
-use Rattle.whole.proofs.Named.{keys-independent, as-many-answers, answers-name}
+use Rattle.whole.proofs.Named.{as-many-answers, answers-name}
 
 -- each new variable filled with itself changes nothing
 put-itself : (new : ℕ) (s : List ℕ) → put (isNew new) (λ n. n ∷ []) s ≡ s
@@ -87,10 +86,9 @@ module _ {M : Mode} {L R : List ℕ} {pages answers : List (List ℕ)} (asked : 
   none-from-another : (i j : ℕ) → i < length answers → j < length answers
       → ComesFrom M (layout .new) L R (replacementAt answers i) (replacementAt answers j) → i ≡ j
   none-from-another i j h h′ comes =
-      let same = keys-independent (groups-exist M L R) (asked-within refl asked) (listed i h) (listed j h′)
-      (comes-alike M (layout .new) L R (named i h) (named j h′) comes) in
-      sym (placeOf-getD (list .none-twice) i (at-key i h)) ∙ ap (λ key. placeOf key (together pages)) same
-      ∙ placeOf-getD (list .none-twice) j (at-key j h′)
+      one-place (list .none-twice) i j (at-key i h) (at-key j h′)
+      (keys-independent (asked-within refl asked) (groups-exist M L R) (listed i h) (listed j h′)
+      (comes-alike M (layout .new) L R (named i h) (named j h′) comes))
 
   -- all of it
   pub whole-set : WholeSet M L R answers

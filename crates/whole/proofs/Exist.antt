@@ -13,18 +13,18 @@ use Rattle.ac.specs.Keys.{layout, keys, Begin, start}
 use Rattle.ac.specs.Pages.{together}
 use Rattle.ac.proofs.Groups.{groups-exist}
 use Rattle.numbers.specs.First.{NoneOf}
-use Rattle.numbers.proofs.Carried.{none-of}
+use Rattle.numbers.proofs.Carried.{none-of, none-front}
 use Rattle.list.proofs.Given.{start-not-after, list-gives-none}
 use Rattle.ac.specs.Limits.{limits}
 use Rattle.pair.specs.Given.{PairGiven}
-use Rattle.numbers.specs.Order.{sidesNumbers, beginningNumbers}
+use Rattle.numbers.specs.Order.{sidesNumbers, rowsNumbers, beginningNumbers, pageNumbers}
 use Rattle.numbers.specs.Outcome.{given, is-given}
-use Rattle.solver.specs.Page.{PagePromise, next}
+use Rattle.solver.specs.Page.{PageGiven, of-the-sides, PagePromise, next}
 use Rattle.solver.specs.Existence.{SomeUnifies}
 use Rattle.solver.specs.Pages.{PagesAsked, no-more as no-more-pages}
 use Rattle.solver.proofs.Given.{page-none, values-none}
-use Rattle.solver.proofs.Limits.{within-limits}
-use Rattle.solver.proofs.Existence.{unifier-listed}
+use Rattle.solver.proofs.Limits.{sides-give-none, within-limits}
+use Rattle.solver.proofs.Existence.{unifier-listed, page-existence}
 use Rattle.solver.proofs.Pages.{pages-hold-the-list}
 use Rattle.solver.specs.Values.{valuesBuffer, values}
 use Rattle.whole.specs.Whole.{ValuesAsked, no-more, one-more}
@@ -83,3 +83,12 @@ pages-and-answers {M} {L} {R} none some =
     let whole = pages-hold-the-list of (pages .1) .whole in
     let answers = all-answered none of (together (pages .0)) (λ key m. subst (List·Memᴰ key) whole m) in
     (pages .0, answers .0, pages .1, answers .1)
+
+-- So have sides of which Page gives none of its numbers, wherever it begins and whatever is wanted and lent.
+pub pages-wherever-given : {M : Mode} {L R : List ℕ} {begin : Begin} {wanted : ℕ} {out : List ℕ}
+    → NoneOf (PageGiven M L R begin wanted out) pageNumbers
+    → (pages answers : List (List ℕ)) × PagesAsked M L R start pages × ValuesAsked M L R (together pages) answers
+pages-wherever-given {M} {L} {R} none =
+    pages-and-answers
+    (sides-give-none (λ n number. of-the-sides number) (none-front rowsNumbers beginningNumbers none))
+    (page-existence (is-given none (next (groups-exist M L R))) .page-where-some refl)

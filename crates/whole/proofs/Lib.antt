@@ -5,3 +5,6 @@ pub mod Whole
 pub mod Only
 pub mod Short
 pub mod Exist
+pub mod OnPages
+pub mod Substitutions
+pub mod Unifiers

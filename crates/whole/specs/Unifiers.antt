@@ -1,0 +1,29 @@
+-- The words in which the answers to a block are unifiers of its two terms as source document 000 has them (Fages,
+-- RR-0287). The terms are trees, and a substitution is read back from the bytes of Values alone.
+use Prim.Native.Nat.{ℕ}
+use mathlib.Core.Bool.{cond}
+use mathlib.Core.List.{List, map}
+use lib.Dec.{ltb}
+use Rattle.ac.specs.Term.{Term, atom, plus}
+use Rattle.ac.specs.Pair.{Mode, count}
+use Rattle.ac.specs.Values.{Binding}
+use Rattle.ac.specs.Fages.{Substitution, ACUnifier, tree}
+use Rattle.whole.specs.Whole.{takenApart, readBack}
+
+-- the term with another name for each of its atoms
+abbrev pub renamed : (ℕ → ℕ) → Term → Term
+renamed name (atom a) = atom (name a)
+renamed name (plus s t) = plus (renamed name s) (renamed name t)
+
+-- the variables that stand in bytes, each with its value
+abbrev pub variablesIn : List ℕ → List ℕ
+variablesIn bytes = map (λ (b : Binding). b .variable) (takenApart 0 bytes)
+
+-- The substitution read back from bytes: a variable that stands in them becomes the term of its value, and every
+-- other atom stays.
+abbrev pub readSubstitution : List ℕ → Substitution
+readSubstitution bytes x = cond (ltb 0 (count x (variablesIn bytes))) (tree (readBack bytes x)) (atom x)
+
+-- no substitution is a unifier of the two terms
+abbrev pub NoUnifierOf : Mode → Term → Term → Type 0
+NoUnifierOf M s t = (σ : Substitution) → ACUnifier M s t σ → ⊥

@@ -1,1 +1,3 @@
+pub mod Bits
 pub mod Groups
+pub mod Marks

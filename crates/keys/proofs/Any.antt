@@ -4,7 +4,7 @@ use native.Mathlib.Omega.{arith}
 use native.Mathlib.Numerals.{add-one}
 use native.Mathlib.Decide.{decLt}
 use mathlib.Core.Path.{_≡_, refl, sym, _∙_, ap, ap₂, subst}
-use mathlib.Core.Bool.{Bool, true, false, _||_, _&&_, false≢true}
+use mathlib.Core.Bool.{Bool, true, false, _||_, _&&_, false≢true, or-false, or-assoc}
 use borrow.Author.Tests.{lt-ltb, le-ltb}
 use lib.Dec.{ltb}
 use Rattle.keys.specs.Reach.{any, all}
@@ -66,6 +66,34 @@ any-some (suc n) test e = go (any n test) refl (test n) refl (any-some n test)
     go true p b q rec = let r = rec p in (r .0, omega (arith, r .1), r .2)
     go false p true q rec = (n, omega arith, q)
     go false p false q rec = absurd (false≢true (sym (ap (λ a. a || test n) p ∙ q) ∙ e))
+
+-- where none passes, each fails
+pub any-none : {n i : ℕ} (test : ℕ → Bool) → any n test ≡ false → i < n → test i ≡ false
+any-none {n} {i} test none h = go (test i) refl
+  where
+    go : (b : Bool) → test i ≡ b → test i ≡ false
+    go true e = absurd (false≢true (sym none ∙ any-found n i test h e))
+    go false e = e
+
+-- tests that agree below n
+pub any-same : (n : ℕ) (t u : ℕ → Bool) → ((i : ℕ) → i < n → t i ≡ u i) → any n t ≡ any n u
+any-same zero t u e = refl
+any-same (suc n) t u e =
+    ap₂ (λ a b. a || b) (any-same n t u (λ i h. e i (omega arith))) (e n (omega arith))
+
+-- counted from the front
+pub any-front : (n : ℕ) (test : ℕ → Bool) → any (suc n) test ≡ (test 0 || any n (λ i. test (suc i)))
+any-front zero test = sym (or-false (test 0))
+any-front (suc n) test =
+    ap (λ b. b || test (suc n)) (any-front n test) ∙ or-assoc (test 0) (any n (λ i. test (suc i))) (test (suc n))
+
+-- numbers that fail add nothing
+pub any-further : (n m : ℕ) (test : ℕ → Bool) → ((i : ℕ) → n ≤ i → test i ≡ false)
+    → any (n + m) test ≡ any n test
+any-further n zero test fail = ap (λ (k : ℕ). any k test) (let e : n + 0 ≡ n = omega arith in e)
+any-further n (suc m) test fail =
+    ap (λ (k : ℕ). any k test) (let e : n + suc m ≡ suc (n + m) = omega arith in e)
+    ∙ ap₂ (λ a b. a || b) (any-further n m test fail) (fail (n + m) (omega arith)) ∙ or-false (any n test)
 
 -- where all passed so far and this one does, all passed with this one; one that does not is enough against all
 pub all-more : (i : ℕ) (test : ℕ → Bool) → all i test ≡ true → test i ≡ true → all (i + 1) test ≡ true

@@ -3,21 +3,20 @@
 use Prim.Native.Nat.{ℕ, zero, suc, _+_, _*_, _<_, _≤_}
 use native.Mathlib.Omega.{arith}
 use native.Mathlib.Decide.{decLt}
-use mathlib.Core.Path.{_≡_, refl, _∙_, ap}
-use mathlib.Core.List.{List, [], _∷_, map, List·Memᴰ}
-use lib.ListN.{length, getD, take, drop}
-use lib.Seq.{length-take-le, getD-take, getD-drop}
-use Rattle.ac.specs.Lists.{from, Ascending}
+use mathlib.Core.Path.{_≡_, _∙_, ap}
+use mathlib.Core.List.{List, [], List·Memᴰ}
+use lib.ListN.{length, getD, take}
+use Rattle.ac.specs.Lists.{Ascending}
 use Rattle.ac.specs.Pair.{Mode}
-use Rattle.ac.specs.Rows.{Group, rowsAt}
+use Rattle.ac.specs.Rows.{Group}
 use Rattle.ac.specs.Keys.{layout, keys, Fits}
 use Rattle.ac.proofs.Listed.{keys-ascending}
-use Rattle.table.specs.Table.{rowAt, groupAt, groupsFrom, groupsIn, Within, TableOf}
+use Rattle.table.specs.Table.{groupsIn, Within, TableOf}
+use Rattle.table.specs.Masks.{group}
 use Rattle.table.specs.declared.Table.{Table}
-use Rattle.table.proofs.Groups.{length-groupAt, constants-groupsFrom, how-many-constants, groupsFrom-stands}
+use Rattle.table.proofs.Groups.{length-groupAt, constants-groupsFrom, how-many-constants, groupsFrom-stands, rowsAt-beyond, entry-at, how-many, group-in}
 use Rattle.keys.specs.Runs.{selectionIn}
-use Rattle.keys.specs.Reach.{group, Holds}
-use Rattle.keys.specs.Candidates.{Sized}
+use Rattle.keys.specs.Reach.{Holds}
 
 module _ {t : Table} (within : Within t) where
   -- the groups fit a key
@@ -48,13 +47,13 @@ module _ {t : Table} (within : Within t) where
           → getD (getD (group (groupsIn t) g) i []) p 0 ≡ getD (t .rows) (96 * g + 6 * i + p) 0
       go g i p row place (no small) =
           let used : g ≤ t .unbalanced = omega arith in
-          ap (λ rs. getD (getD rs i []) p 0) (group-in g used)
-          ∙ entry-at t g i p (omega (arith, ap length (group-in g used), length-groupAt t g)) place
+          ap (λ rs. getD (getD rs i []) p 0) (group-in within g used)
+          ∙ entry-at t g i p (omega (arith, ap length (group-in within g used), length-groupAt t g)) place
       go zero i p row place (yes beyond) = absurd (omega arith)
       go (suc g) i p row place (yes beyond) =
           absurd (omega (
             arith,
-            ap length (rowsAt-beyond t 1 (take (t .unbalanced) (t .constants)) g (omega (arith, how-many))),
+            ap length (rowsAt-beyond t 1 (take (t .unbalanced) (t .constants)) g (omega (arith, how-many within))),
           ))
 
 -- so that the list of the pair that it is of is ascending

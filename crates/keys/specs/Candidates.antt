@@ -7,32 +7,25 @@ use lib.Dec.{ltb}
 use lib.ListN.{length, getD}
 use Rattle.ac.specs.Rows.{Groups}
 use Rattle.ac.specs.Selection.{taken, allReached}
-use Rattle.ac.specs.Keys.{layout, selectionAt, Candidate as IsCandidate}
-use Rattle.keys.specs.Reach.{group}
+use Rattle.ac.specs.Keys.{layout, selectionAt, Fits, Candidate as IsCandidate}
+use Rattle.table.specs.Masks.{Sized}
 use Rattle.keys.specs.declared.Standing.{Standing}
 use Rattle.keys.specs.declared.Standing.the-variants.{Candidate, NoneBefore}
 use Rattle.keys.specs.declared.Next.{Next}
 use Rattle.keys.specs.declared.Next.the-variants.{Key, None}
 
--- the sizes are those of the groups
-pub record Sized (sizes : List ℕ) (unbalanced : ℕ) (G : Groups) : Type 0 where
-  pub how-many-constants : length (G .constants) ≡ unbalanced
-  pub a-size-each : (g : ℕ) → g ≤ unbalanced → length (group G g) ≡ getD sizes g 0
-
 -- how many values the field of constant number g may have
 abbrev pub fieldLimit : List ℕ → ℕ → ℕ → ℕ
 fieldLimit sizes unbalanced g = cond (ltb g unbalanced) (getD sizes (g + 1) 0) 1
 
--- on a candidate, or where no candidate comes before a later number
-pub data Stands (G : Groups) (key : ℕ) : Standing → Type 0 where
-  on-candidate : IsCandidate layout G key → Stands G key Candidate
-  between : {later : ℕ} → key < later → ((other : ℕ) → key ≤ other → other < later → IsCandidate layout G other → ⊥)
-      → Stands G key (NoneBefore later)
-
--- each set of balanced rows makes a candidate with the tuple of row indexes
-abbrev pub HasTuple : Groups → ℕ → Type 0
-HasTuple G tuple =
-    (mask : ℕ) → mask < 2 ^ length (G .balanced) → IsCandidate layout G (tuple * 2 ^ (layout .rows) + mask)
+-- on a candidate of all groups of these sizes, or where none of theirs comes before a later number
+pub data Stands (sizes : List ℕ) (unbalanced key : ℕ) : Standing → Type 0 where
+  on-candidate : ((G : Groups) → Sized sizes unbalanced G → Fits layout G → IsCandidate layout G key)
+      → Stands sizes unbalanced key Candidate
+  between : {later : ℕ} → key < later
+      → ((G : Groups) → Sized sizes unbalanced G → Fits layout G
+      → (other : ℕ) → key ≤ other → other < later → IsCandidate layout G other → ⊥)
+      → Stands sizes unbalanced key (NoneBefore later)
 
 -- the rows that the key takes reach every place: of a candidate, that its selection is admissible
 abbrev pub fills : Groups → ℕ → ℕ → Bool

@@ -4,17 +4,18 @@ ghost use mathlib.Core.Path.{_≡_};
 ghost use Prim.Native.Nat.{_+_, _*_, _/_, _^_, _<_, _≤_};
 ghost use lib.ListN.{getD};
 ghost use Rattle.ac.specs.Rows.{Groups};
-ghost use Rattle.ac.specs.Keys.{layout, bit, fieldAt, Candidate, Fits};
-ghost use Rattle.table.specs.Table.{Within, groupsIn};
-ghost use Rattle.keys.specs.Candidates.{Sized, Stands, fieldLimit, fills, HasTuple, LeastWithin};
-ghost use Rattle.keys.specs.List.{OfItsList, NextFrom, FoundOf};
-ghost use Rattle.keys.specs.Reach.{reaches, Holds};
+ghost use Rattle.ac.specs.Keys.{layout, bit, fieldAt, Fits};
+ghost use Rattle.table.specs.Masks.{Marked, MasksWithin};
+ghost use Rattle.keys.specs.Candidates.{Stands, fieldLimit, fills, LeastWithin};
+ghost use Rattle.keys.specs.List.{OfTheirList, NextFrom, FoundOf};
+ghost use Rattle.keys.specs.Reach.{takesAny, reaches, NoRowBelow, InTuple, Weighs};
 ghost use Rattle.keys.specs.Runs.{selectionIn, Fit, runCount, timesAt};
 use numbers::Refusal;
 use table::CONSTANTS;
 use table::GROUP;
 use table::Table;
 use table::VARIABLES;
+use table::masks::Masks;
 
 // A key has 16 low bits for the balanced rows, and above them 4 fields of 4 bits; the lowest constant's
 // stands highest.
@@ -104,36 +105,80 @@ pub fn times(rows: &[u8; 480], selection: Selection, place: usize, run: usize) -
     }
 }
 
-// Whether a row that the selection takes is above 0 at the place.
-fn reached(rows: &[u8; 480], selection: Selection, place: usize) -> bool
-    requires { ⌜ Fit selection × (place < 6) ⌝ }
-    ensures { λ r. ⌜ r ≡ reaches (now (rows .entry)) selection place ⌝ }
+// Whether row `i` is one of the mask's.
+fn has_row(rows: u64, i: usize) -> bool
+    requires { ⌜ i < 64 ⌝ }
+    ensures { λ r. ⌜ r ≡ bit rows i ⌝ }
 {
-    let runs = selection.unbalanced + selection.balanced;
-    let mut run: usize = 0;
-    while run < runs {
-        if times(rows, selection, place, run) > 0 {
-            return true;
-        }
-        run += 1;
-    }
-    false
+    rows >> i & 1 == 1
 }
 
-// Whether the selection is admissible, of a candidate: each place is above 0 in at least one taken row.
-fn weigh(rows: &[u8; 480], places: usize, selection: Selection) -> bool
-    requires { ⌜ Fit selection × (places ≤ 6) ⌝ }
-    ensures { λ r. ⌜ ((G : Groups) → Holds (now (rows .entry)) places selection G → Fits layout G → Candidate layout G (selection .key)
-        → r ≡ fills G places (selection .key)) ⌝ }
+// Whether the key takes a balanced row that is one of the mask's: the low 16 bits and the mask have a bit in
+// common.
+fn takes_any(rows: u64, key: u32) -> bool
+    ensures { λ r. ⌜ r ≡ takesAny rows key ⌝ }
 {
+    rows & (key & LOW_MASK) as u64 > 0
+}
+
+// Whether a row that the key takes is above 0 at the place: that of one of the constants, or a balanced one.
+fn reached(reaching: &[u64; 30], unbalanced: usize, place: usize, key: u32) -> bool
+    requires { ⌜ (unbalanced ≤ 4) × (place < 6) ⌝ }
+    ensures { λ r. ⌜ r ≡ reaches (now (reaching .entry)) unbalanced place key ⌝ }
+{
+    let mut g: usize = 0;
+    while g < unbalanced {
+        let index = index_at(key, g);
+        if has_row(reaching[VARIABLES * (g + 1) + place], index) {
+            return true;
+        }
+        g += 1;
+    }
+    takes_any(reaching[place], key)
+}
+
+// The lowest row of a mask of balanced rows, or 16 if it has none.
+fn lowest_row(rows: u64) -> usize
+    ensures { λ r. ⌜ (r ≤ layout .rows) × NoRowBelow rows r ⌝ }
+{
+    let lowest = u64::trailing_zeros(rows) as usize;
+    if lowest < MASK_BITS {
+        lowest
+    } else {
+        MASK_BITS
+    }
+}
+
+// The first number from the key on that may reach the place. Where the key does not, no number before the next
+// multiple of the bit of the lowest balanced row above 0 there does: the bits of all such rows stay as they are.
+fn first_reaching(reaching: &[u64; 30], unbalanced: usize, place: usize, key: u32) -> u64
+    requires { ⌜ (unbalanced ≤ 4) × (place < 6) ⌝ }
+    ensures { λ r. ⌜ InTuple key r ⌝ }
+    ensures { λ r. ⌜ Weighs (reaches (now (reaching .entry)) unbalanced place) key r ⌝ }
+{
+    if reached(reaching, unbalanced, place, key) {
+        return key as u64;
+    }
+    block_end(key, lowest_row(reaching[place]))
+}
+
+// The first number from the key on that may be admissible, of candidates: the key itself if it is, for each
+// place is above 0 in at least one taken row. Else it is the farthest that a missed place sends to.
+fn weigh(reaching: &[u64; 30], unbalanced: usize, places: usize, key: u32) -> u64
+    requires { ⌜ (unbalanced ≤ 4) × (places ≤ 6) ⌝ }
+    ensures { λ r. ⌜ InTuple key r ⌝ }
+    ensures { λ r. ⌜ ((G : Groups) → Marked (now (reaching .entry)) unbalanced places G → Fits layout G → Weighs (fills G places) key r) ⌝ }
+{
+    let mut first = key as u64;
     let mut place: usize = 0;
     while place < places {
-        if !reached(rows, selection, place) {
-            return false;
+        let next = first_reaching(reaching, unbalanced, place, key);
+        if first < next {
+            first = next;
         }
         place += 1;
     }
-    true
+    first
 }
 
 // How many values the field of constant number `g` may have: one for each of its rows; where there is no such
@@ -163,7 +208,7 @@ enum Standing {
 // so, and the block is left.
 fn stands(sizes: &[usize; 5], unbalanced: usize, key: u32) -> Standing
     requires { ⌜ (unbalanced ≤ layout .constants) × (getD (now sizes) 0 0 ≤ layout .rows) ⌝ }
-    ensures { λ r. ⌜ ((G : Groups) → Sized (now (sizes .entry)) unbalanced G → Fits layout G → Stands G key r) ⌝ }
+    ensures { λ r. ⌜ Stands (now (sizes .entry)) unbalanced key r ⌝ }
 {
     let mut g: usize = 0;
     while g < CONSTANTS {
@@ -186,42 +231,42 @@ pub enum Next {
     None,
 }
 
-// The least admissible key of a tuple from a mask on: the sets of balanced rows are taken one after the
-// other, in the order of their masks.
-fn least_of_tuple(table: Table, tuple: u32, from: u32) -> Next
-    requires { ⌜ Within table × (tuple < 65536) × (from < 2 ^ layout .rows) ⌝ }
-    ensures { λ r. ⌜ (HasTuple (groupsIn table) tuple → LeastWithin (fills (groupsIn table) (table .places)) (tuple * 2 ^ layout .rows + from)
-        (tuple * 2 ^ layout .rows + 2 ^ getD (table .sizes) 0 0) r) ⌝ }
+// The least admissible key of a tuple from a mask on: the sets of balanced rows are taken in the order of their
+// masks, and those that miss a place are passed over.
+fn least_of_tuple(masks: Masks, tuple: u32, from: u32) -> Next
+    requires { ⌜ MasksWithin masks × (tuple < 65536) × (from < 2 ^ layout .rows) ⌝ }
+    ensures { λ r. ⌜ ((G : Groups) → Marked (masks .reaching) (masks .unbalanced) (masks .places) G → Fits layout G
+        → LeastWithin (fills G (masks .places)) (tuple * 2 ^ layout .rows + from) (tuple * 2 ^ layout .rows + 2 ^ getD (masks .sizes) 0 0) r) ⌝ }
 {
-    let balanced = table.sizes[0];
+    let balanced = masks.sizes[0];
     let mut mask = from;
     while mask >> balanced == 0 {
         let key = pack(tuple, mask);
-        let selection = selection_of(table, key);
-        if weigh(&table.rows, table.places, selection) {
+        let first = weigh(&masks.reaching, masks.unbalanced, masks.places, key);
+        if first == key as u64 {
             return Next::Key(key);
         }
-        mask += 1;
+        mask += (first - key as u64) as u32;
     }
     Next::None
 }
 
 // The least key on the list from a number on. The highest key may be listed, so that the number after it
 // needs 64 bits.
-pub fn least_listed(table: Table, from: u64) -> Next
-    requires { ⌜ Within table ⌝ }
-    ensures { λ r. ⌜ OfItsList table (λ keys. NextFrom keys from r) ⌝ }
+pub fn least_listed(masks: Masks, from: u64) -> Next
+    requires { ⌜ MasksWithin masks ⌝ }
+    ensures { λ r. ⌜ OfTheirList masks (λ keys. NextFrom keys from r) ⌝ }
 {
     let mut at = from;
     while at < KEYS {
         let key = at as u32;
-        let standing = stands(&table.sizes, table.unbalanced, key);
+        let standing = stands(&masks.sizes, masks.unbalanced, key);
         match standing {
             Standing::NoneBefore(later) => {
                 at = later;
             }
             Standing::Candidate => {
-                let least = least_of_tuple(table, key >> MASK_BITS, key & LOW_MASK);
+                let least = least_of_tuple(masks, key >> MASK_BITS, key & LOW_MASK);
                 if let Next::Key(found) = least {
                     return Next::Key(found);
                 }
@@ -239,11 +284,11 @@ pub enum Found {
 }
 
 // A key is listed if the least listed key from it on is itself. Else it is 14, or 13 where nothing is listed.
-pub fn find_key(table: Table, key: u32) -> Found
-    requires { ⌜ Within table ⌝ }
-    ensures { λ r. ⌜ OfItsList table (λ listed. FoundOf listed key r) ⌝ }
+pub fn find_key(masks: Masks, key: u32) -> Found
+    requires { ⌜ MasksWithin masks ⌝ }
+    ensures { λ r. ⌜ OfTheirList masks (λ listed. FoundOf listed key r) ⌝ }
 {
-    let least = least_listed(table, key as u64);
+    let least = least_listed(masks, key as u64);
     match least {
         Next::Key(found) => {
             if found == key {
@@ -253,7 +298,7 @@ pub fn find_key(table: Table, key: u32) -> Found
             }
         }
         Next::None => {
-            let first = least_listed(table, 0);
+            let first = least_listed(masks, 0);
             match first {
                 Next::Key(_) => Found::Refused(Refusal::NotListed),
                 Next::None => Found::Refused(Refusal::NoUnifier),

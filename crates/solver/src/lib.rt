@@ -5,7 +5,8 @@ ghost use Prim.Native.Nat.{_<_, _≤_};
 ghost use lib.ListN.{length};
 ghost use Rattle.ac.specs.Keys.{after, remaining};
 ghost use Rattle.table.specs.Table.{Within};
-ghost use Rattle.keys.specs.List.{OfItsList};
+ghost use Rattle.table.specs.Masks.{MasksWithin};
+ghost use Rattle.keys.specs.List.{OfTheirList};
 ghost use Rattle.solver.specs.Request.{wantedCount, beginningOf};
 ghost use Rattle.solver.specs.Page.{told, PagePromise};
 ghost use Rattle.solver.specs.Existence.{PageExistence};
@@ -20,6 +21,8 @@ use keys::least_listed;
 use numbers::Refusal;
 use sides::Verdict;
 use table::Table;
+use table::masks::Masks;
+use table::masks::masks_of;
 use values::ROOM;
 use values::ValuesAnswer;
 use values::values_of;
@@ -59,15 +62,15 @@ enum Settled {
 }
 
 // After a key: 13 or 14 if it is not listed, else the next one, unless it is the last.
-fn settle_after(table: Table, key: u32) -> Settled
-    requires { ⌜ Within table ⌝ }
-    ensures { λ r. ⌜ OfItsList table (λ listed. SettledOf listed (after key) r) ⌝ }
+fn settle_after(masks: Masks, key: u32) -> Settled
+    requires { ⌜ MasksWithin masks ⌝ }
+    ensures { λ r. ⌜ OfTheirList masks (λ listed. SettledOf listed (after key) r) ⌝ }
 {
-    let found = find_key(table, key);
+    let found = find_key(masks, key);
     match found {
         Found::Refused(refusal) => Settled::Refused(refusal),
         Found::Listed => {
-            let next = least_listed(table, key as u64 + 1);
+            let next = least_listed(masks, key as u64 + 1);
             match next {
                 Next::Key(first) => Settled::FirstKey(first),
                 Next::None => Settled::Refused(Refusal::LastKey),
@@ -77,32 +80,32 @@ fn settle_after(table: Table, key: u32) -> Settled
 }
 
 // The first key of the page that begins there, or 13, 14 or 15.
-fn settle(table: Table, begin: Begin) -> Settled
-    requires { ⌜ Within table ⌝ }
-    ensures { λ r. ⌜ OfItsList table (λ listed. SettledOf listed (beginningOf begin) r) ⌝ }
+fn settle(masks: Masks, begin: Begin) -> Settled
+    requires { ⌜ MasksWithin masks ⌝ }
+    ensures { λ r. ⌜ OfTheirList masks (λ listed. SettledOf listed (beginningOf begin) r) ⌝ }
 {
     match begin {
         Begin::Start => {
-            let first = least_listed(table, 0);
+            let first = least_listed(masks, 0);
             match first {
                 Next::Key(key) => Settled::FirstKey(key),
                 Next::None => Settled::Refused(Refusal::NoUnifier),
             }
         }
-        Begin::After(key) => settle_after(table, key),
+        Begin::After(key) => settle_after(masks, key),
     }
 }
 
 // Write the keys from the first one on, as many as are wanted or, if fewer remain, all that remain.
-fn write_keys(table: Table, first: u32, wanted: usize, out: &mut [u32]) -> PageAnswer
-    requires { ⌜ Within table × (0 < wanted) × (wanted ≤ length (now out)) ⌝ }
-    ensures { λ r. ⌜ OfItsList table (λ listed. WrittenOf (first ∷ remaining (after first) listed) wanted (now (out .entry)) (told r) (now (out .exit))) ⌝ }
+fn write_keys(masks: Masks, first: u32, wanted: usize, out: &mut [u32]) -> PageAnswer
+    requires { ⌜ MasksWithin masks × (0 < wanted) × (wanted ≤ length (now out)) ⌝ }
+    ensures { λ r. ⌜ OfTheirList masks (λ listed. WrittenOf (first ∷ remaining (after first) listed) wanted (now (out .entry)) (told r) (now (out .exit))) ⌝ }
 {
     out[0] = first;
     let mut last = first;
     let mut written: usize = 1;
     while written < wanted {
-        let next = least_listed(table, last as u64 + 1);
+        let next = least_listed(masks, last as u64 + 1);
         let Next::Key(key) = next else {
             return PageAnswer::Page {
                 written,
@@ -113,7 +116,7 @@ fn write_keys(table: Table, first: u32, wanted: usize, out: &mut [u32]) -> PageA
         last = key;
         written += 1;
     }
-    let next = least_listed(table, last as u64 + 1);
+    let next = least_listed(masks, last as u64 + 1);
     match next {
         Next::Key(_) => PageAnswer::Page {
             written,
@@ -126,7 +129,8 @@ fn write_keys(table: Table, first: u32, wanted: usize, out: &mut [u32]) -> PageA
     }
 }
 
-// The question Page on a solved pair: every refusal is settled before the first key is written.
+// The question Page on a solved pair: every refusal is settled before the first key is written. Which rows
+// reach which variable is worked out once.
 pub fn page_of(table: Table, request: PageRequest, out: &mut [u32]) -> PageAnswer
     requires { ⌜ Within table ⌝ }
     ensures { λ r. ⌜ PromiseOfTable table request (now (out .entry)) (told r) (now (out .exit)) ⌝ }
@@ -135,10 +139,11 @@ pub fn page_of(table: Table, request: PageRequest, out: &mut [u32]) -> PageAnswe
     if out.len() < wanted {
         return PageAnswer::Refused(Refusal::ShortBuffer);
     }
+    let masks = masks_of(table);
     let begin = request.begin;
-    let settled = settle(table, begin);
+    let settled = settle(masks, begin);
     match settled {
-        Settled::FirstKey(first) => write_keys(table, first, wanted, out),
+        Settled::FirstKey(first) => write_keys(masks, first, wanted, out),
         Settled::Refused(refusal) => PageAnswer::Refused(refusal),
     }
 }

@@ -1,4 +1,4 @@
--- Bits of a number: where the low or the high parts of two numbers agree their bits do, and a mask made bit by bit.
+-- Bits of a number and its parts, and a mask made bit by bit.
 use Prim.Native.Nat.{ℕ, _+_, _-_, _*_, _/_, _%_, _^_, _<_, _≤_}
 use native.Mathlib.Omega.{arith}
 use native.Mathlib.Nat.{div-lt-iff-lt-mul, mod-eq-of-lt}
@@ -11,7 +11,7 @@ use lib.Dec.{ltb, eqb}
 use lib.Pow.{pow-pos, pow-mono, pow-add, field, low, high, shl-exact, shr-shr, mod-mod-pow}
 use Rattle.ac.specs.Keys.{bit}
 
--- a bit is told by the low part in which it stands, and by the high part
+-- a bit is told by the low part in which it stands, and a high part by one that begins lower
 pub bit-of-low : (n : ℕ) {w i : ℕ} → i < w → bit n i ≡ bit (n % 2 ^ w) i
 bit-of-low n {w} {i} h = ap (λ k. eqb k 1) (sym (field n 1 i) ∙ ap (λ k. k / 2 ^ i) lower ∙ field (n % 2 ^ w) 1 i)
   where
@@ -22,11 +22,10 @@ bit-of-low n {w} {i} h = ap (λ k. eqb k 1) (sym (field n 1 i) ∙ ap (λ k. k /
     lower = subst (λ (k : ℕ). n % 2 ^ (1 + i) ≡ n % 2 ^ k % 2 ^ (1 + i)) parts
         (sym (mod-mod-pow n (w - (1 + i)) (1 + i)))
 
-pub bit-of-high : (m n : ℕ) {w i : ℕ} → w ≤ i → m / 2 ^ w ≡ n / 2 ^ w → bit m i ≡ bit n i
-bit-of-high m n {w} {i} h same =
-    subst (λ (k : ℕ). bit m k ≡ bit n k) (let e : w + (i - w) ≡ i = omega arith in e)
-    (ap (λ k. eqb (k % 2) 1)
-    (sym (shr-shr m w (i - w)) ∙ ap (λ (k : ℕ). k / 2 ^ (i - w)) same ∙ shr-shr n w (i - w)))
+pub high-part : (m n : ℕ) {w i : ℕ} → w ≤ i → m / 2 ^ w ≡ n / 2 ^ w → m / 2 ^ i ≡ n / 2 ^ i
+high-part m n {w} {i} h same =
+    subst (λ (k : ℕ). m / 2 ^ k ≡ n / 2 ^ k) (let e : w + (i - w) ≡ i = omega arith in e)
+    (sym (shr-shr m w (i - w)) ∙ ap (λ (k : ℕ). k / 2 ^ (i - w)) same ∙ shr-shr n w (i - w))
 
 -- a number below 2 ^ w has no bit from w on
 pub no-bit-from : {n w i : ℕ} → n < 2 ^ w → w ≤ i → bit n i ≡ false

@@ -19,6 +19,7 @@ use keys::selection_of;
 use keys::times;
 use numbers::Refusal;
 use table::Table;
+use table::masks::masks_of;
 
 // A value has at most 200 atoms.
 pub const LONGEST: usize = 200;
@@ -167,7 +168,8 @@ pub fn values_of(table: Table, key: u32, out: &mut [u8]) -> ValuesAnswer
     if out.len() < ROOM {
         return ValuesAnswer::Refused(Refusal::ShortBuffer);
     }
-    let found = find_key(table, key);
+    let masks = masks_of(table);
+    let found = find_key(masks, key);
     match found {
         Found::Refused(refusal) => ValuesAnswer::Refused(refusal),
         Found::Listed => write(table, key, out),

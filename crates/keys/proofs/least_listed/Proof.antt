@@ -12,10 +12,10 @@ use Rattle.keys.proofs.least_listed.Statement.{statement}
 use Rattle.keys.proofs.least_listed.Tie as tie
 
 abbrev Inv-loop : tie.InvT-loop
-Inv-loop from table at₀ at = Walked table from at
+Inv-loop from masks at₀ at = Walked masks from at
 
 abbrev μ-loop : tie.MeasureT-loop
-μ-loop from table at₀ at = 2 ^ 32 - at
+μ-loop from masks at₀ at = 2 ^ 32 - at
 
 loop-holds : tie.Need-loop-holds Inv-loop μ-loop
 loop-holds c = record { above = le-refl _; passed = passed-none _ _ }
@@ -37,7 +37,7 @@ loop-less c =
     let turn = stood .before .before .before in
     omega (
       arith,
-      step-between (turn .before .before .pre) (turn .before .loop .inv) (stood .stands .ensures)
+      step-between (turn .before .loop .inv) (stood .stands .ensures)
           (c .before .standing .given .1) .0,
       turn .loop-test .taken,
     )
@@ -46,7 +46,7 @@ loop-again : tie.Need-loop-again Inv-loop μ-loop
 loop-again c =
     let stood = c .before .before .before in
     let turn = stood .before .before .before in
-    step-between (turn .before .before .pre) (turn .before .loop .inv) (stood .stands .ensures)
+    step-between (turn .before .loop .inv) (stood .stands .ensures)
     (c .before .standing .given .1) .1
 
 enum-told : tie.Need-enum-told Inv-loop μ-loop
@@ -74,7 +74,7 @@ returns c =
     let candidate = c .before .before .before .before in
     let stood = candidate .before .before in
     let turn = stood .before .before .before in
-    step-found (turn .before .before .pre) (turn .before .loop .inv) (stood .stands .ensures)
+    step-found (turn .before .loop .inv) (stood .stands .ensures)
     (candidate .enum-told .given .1) refl
     (and-mask (turn .before .loop .at) 16) (c .before .before .before .least-of-tuple .ensures)
     (c .before .least .given .1)
@@ -96,7 +96,7 @@ loop-again-2 c =
     let stood = candidate .before .before in
     let turn = stood .before .before .before in
     subst (Walked _ _) (sym (c .block-end .ensures))
-    (step-over (turn .before .before .pre) (turn .before .loop .inv) (stood .stands .ensures)
+    (step-over (turn .before .loop .inv) (stood .stands .ensures)
     (candidate .enum-told .given .1) refl
     (and-mask (turn .before .loop .at) 16) (c .before .before .before .least-of-tuple .ensures)
     (c .before .enum-told2 .given .1))

@@ -3,18 +3,16 @@
 use Prim.Native.Nat.{_≤_, _-_}
 use native.Mathlib.Omega.{arith}
 use native.Mathlib.Nat.{le-refl}
-use mathlib.Core.Path.{sym, subst}
 use borrow.Author.Needs.{needs}
-use Rattle.keys.specs.Runs.{Fit}
-use Rattle.keys.proofs.Tuples.{no-bit-left, a-bit-left, mask-fits, Missed, missed-none, missed-more, missed-found, missed-all}
+use Rattle.keys.proofs.Tuples.{no-bit-left, a-bit-left, no-bit-fits, mask-on, Missed, missed-none, missed-more, missed-found, missed-all}
 use Rattle.keys.proofs.least_of_tuple.Statement.{statement}
 use Rattle.keys.proofs.least_of_tuple.Tie as tie
 
 abbrev Inv-loop : tie.InvT-loop
-Inv-loop tuple from table balanced mask₀ mask = (from ≤ mask) × (mask ≤ 65536) × Missed table tuple from mask
+Inv-loop tuple from masks balanced mask₀ mask = (from ≤ mask) × (mask ≤ 65536) × Missed masks tuple from mask
 
 abbrev μ-loop : tie.MeasureT-loop
-μ-loop tuple from table balanced mask₀ mask = 65536 - mask
+μ-loop tuple from masks balanced mask₀ mask = 65536 - mask
 
 element-copy-out-balanced : tie.Need-element-copy-out-balanced Inv-loop μ-loop
 element-copy-out-balanced c = search needs
@@ -31,57 +29,65 @@ shr-loop c = omega (arith, c .before .before .pre .0 .sizes-fit 0)
 pack-requires : tie.Need-pack-requires Inv-loop μ-loop
 pack-requires c κs = (
   c .before .before .before .pre .1,
-  mask-fits
-      (c .before .before .before .pre .0 .sizes-fit 0)
-      (no-bit-left (c .before .loop .mask) _ (c .loop-test .taken)),
+  no-bit-fits (c .before .loop .mask) (c .before .before .before .pre .0 .sizes-fit 0) (c .loop-test .taken),
 )
-
-selection-of-requires : tie.Need-selection-of-requires Inv-loop μ-loop
-selection-of-requires c κs = search needs
 
 weigh-requires : tie.Need-weigh-requires Inv-loop μ-loop
 weigh-requires c κs =
-    let fit = c .before .before .before .before .before .before .before .pre .0 in (
-      subst Fit (sym (c .before .before .selection-of .ensures)) (fit .constants-fit, fit .sizes-fit 0),
-      fit .places-fit,
-    )
+    let fit = c .before .before .before .before .before .before .pre .0 in
+    (fit .constants-fit, fit .places-fit)
+
+cast-if1 : tie.Need-cast-if1 Inv-loop μ-loop
+cast-if1 c = search needs
 
 returns : tie.Need-returns Inv-loop μ-loop
 returns c =
-    missed-found _ _ _ (c .before .before .before .before .before .before .before .loop .inv .2)
-    (c .before .before .before .before .before .pack .ensures)
-    (no-bit-left (c .before .before .before .before .before .before .before .loop .mask) _
-    (c .before .before .before .before .before .before .loop-test .taken))
-    (c .before .before .before .before .before .before .before .before .before .pre .0)
-    (c .before .before .before .before .selection-of .ensures) (c .before .weigh .ensures) (c .if1 .taken)
-    (c .before .before .before .before .before .before .before .loop .inv .0)
+    let turn = c .before .before .before .before .before in
+    let args = turn .before .before .before .args in
+    missed-found (args .t1) (args .tuple) (args .from) (turn .before .loop .mask) (turn .before .loop .inv .2)
+    (c .before .before .before .before .pack .ensures) (c .before .weigh .ensures .1) (c .if1 .taken)
+    (no-bit-left (turn .before .loop .mask) _ (turn .loop-test .taken)) (turn .before .loop .inv .0)
+
+cast-mask : tie.Need-cast-mask Inv-loop μ-loop
+cast-mask c = search needs
+
+sub-mask : tie.Need-sub-mask Inv-loop μ-loop
+sub-mask c = omega (arith, c .before .weigh .ensures .0)
+
+cast-mask-2 : tie.Need-cast-mask-2 Inv-loop μ-loop
+cast-mask-2 c =
+    let turn = c .before .before .before .before .before in
+    omega (
+      arith,
+      mask-on (turn .before .before .before .args .tuple) (turn .before .loop .mask)
+          (c .before .before .before .before .pack .ensures) (no-bit-fits (turn .before .loop .mask) (turn .before .before .before .pre .0 .sizes-fit 0) (turn .loop-test .taken)) (c .before .weigh .ensures .0),
+    )
 
 add-mask : tie.Need-add-mask Inv-loop μ-loop
-add-mask c = omega arith
+add-mask c =
+    let turn = c .before .before .before .before .before in
+    omega (
+      arith,
+      mask-on (turn .before .before .before .args .tuple) (turn .before .loop .mask)
+          (c .before .before .before .before .pack .ensures) (no-bit-fits (turn .before .loop .mask) (turn .before .before .before .pre .0 .sizes-fit 0) (turn .loop-test .taken)) (c .before .weigh .ensures .0),
+    )
 
 loop-less : tie.Need-loop-less Inv-loop μ-loop
-loop-less c = omega (
-  arith,
-  mask-fits (c .before .before .before .before .before .before .before .before .before .pre .0 .sizes-fit 0)
-      (no-bit-left (c .before .before .before .before .before .before .before .loop .mask) _
-      (c .before .before .before .before .before .before .loop-test .taken)),
-)
+loop-less c =
+    let turn = c .before .before .before .before .before in
+    omega (arith, no-bit-fits (turn .before .loop .mask) (turn .before .before .before .pre .0 .sizes-fit 0) (turn .loop-test .taken), c .before .weigh .ensures .0, c .if1 .left)
 
 loop-again : tie.Need-loop-again Inv-loop μ-loop
 loop-again c =
-    let low = no-bit-left (c .before .before .before .before .before .before .before .loop .mask) _
-    (c .before .before .before .before .before .before .loop-test .taken) in (
-      omega arith,
-      omega (
-        arith,
-        mask-fits (c .before .before .before .before .before .before .before .before .before .pre
-            .0 .sizes-fit 0) low,
-      ),
-      missed-more _ _ _ (c .before .before .before .before .before .before .before .loop .inv .2)
-          (c .before .before .before .before .before .pack .ensures) low
-          (c .before .before .before .before .before .before .before .before .before .pre .0)
-          (c .before .before .before .before .selection-of .ensures)
-          (c .before .weigh .ensures) (c .if1 .left),
+    let turn = c .before .before .before .before .before in
+    let args = turn .before .before .before .args in
+    let at = turn .before .loop in (
+      omega (arith, at .inv .0),
+      mask-on (args .tuple) (at .mask) (c .before .before .before .before .pack .ensures) (no-bit-fits (turn .before .loop .mask) (turn .before .before .before .pre .0 .sizes-fit 0) (turn .loop-test .taken))
+          (c .before .weigh .ensures .0),
+      missed-more (args .t1) (args .tuple) (args .from) (at .mask) (at .inv .2)
+          (c .before .before .before .before .pack .ensures) (c .before .weigh .ensures .1)
+          (c .before .weigh .ensures .0 .0),
     )
 
 returns-2 : tie.Need-returns-2 Inv-loop μ-loop
@@ -99,9 +105,12 @@ least-of-tuple-spec =
     cast-loop
     shr-loop
     pack-requires
-    selection-of-requires
     weigh-requires
+    cast-if1
     returns
+    cast-mask
+    sub-mask
+    cast-mask-2
     add-mask
     loop-less
     loop-again

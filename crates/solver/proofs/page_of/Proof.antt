@@ -11,6 +11,9 @@ wanted-count-requires c κs = search needs
 returns : tie.Need-returns
 returns c = λ M L R full of none. promise-short (rw (c .before .wanted-count .ensures) at (c .if1 .taken))
 
+masks-of-requires : tie.Need-masks-of-requires
+masks-of-requires c κs = search needs
+
 settle-requires : tie.Need-settle-requires
 settle-requires c κs = search needs
 
@@ -19,9 +22,10 @@ enum-known-settled c = search needs
 
 write-keys-requires : tie.Need-write-keys-requires
 write-keys-requires c κs =
-    let long = c .before .before .before .before .before in
+    let masks = c .before .before .before .before .before in
+    let long = masks .before in
     let entry = long .before .before .before in (
-      entry .pre,
+      masks .masks-of .ensures .1,
       rw (long .before .wanted-count .ensures) (wanted-some (entry .args .request .wanted)),
       long .if1 .left,
     )
@@ -35,18 +39,20 @@ same-length c = search needs
 returns-2 : tie.Need-returns-2
 returns-2 c = λ M L R full of none.
     let settled = c .before .before .before .before .before .before .before in
-    let long = settled .before in
+    let masks = settled .before in
+    let long = masks .before in
     promise-page of none (rw (long .before .wanted-count .ensures) at (long .if1 .left))
-    (settled .settle .ensures M L R full of)
+    (settled .settle .ensures _ (masks .masks-of .ensures .0) M L R full of)
     (c .before .before .before .before .before .settled .given .1)
-    (rw (long .before .wanted-count .ensures) at (c .before .before .write-keys .ensures M L R full of))
+    (rw (long .before .wanted-count .ensures) at (c .before .before .write-keys .ensures _ (masks .masks-of .ensures .0) M L R full of))
 
 returns-3 : tie.Need-returns-3
 returns-3 c = λ M L R full of none.
     let settled = c .before .before .before in
-    let long = settled .before in
+    let masks = settled .before in
+    let long = masks .before in
     promise-refused of none (rw (long .before .wanted-count .ensures) at (long .if1 .left))
-    (settled .settle .ensures M L R full of)
+    (settled .settle .ensures _ (masks .masks-of .ensures .0) M L R full of)
     (c .before .settled2 .given .1)
 
 pub page-of-spec : {M : Type 1} → statement M
@@ -55,6 +61,7 @@ page-of-spec =
     (tie.spec
     wanted-count-requires
     returns
+    masks-of-requires
     settle-requires
     enum-known-settled
     write-keys-requires

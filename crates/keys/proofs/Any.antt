@@ -75,6 +75,11 @@ any-none {n} {i} test none h = go (test i) refl
     go true e = absurd (false≢true (sym none ∙ any-found n i test h e))
     go false e = e
 
+pub any-fails : (n : ℕ) (test : ℕ → Bool) → ((i : ℕ) → i < n → test i ≡ false) → any n test ≡ false
+any-fails zero test fail = refl
+any-fails (suc n) test fail =
+    ap₂ (λ a b. a || b) (any-fails n test (λ i h. fail i (omega arith))) (fail n (omega arith))
+
 -- tests that agree below n
 pub any-same : (n : ℕ) (t u : ℕ → Bool) → ((i : ℕ) → i < n → t i ≡ u i) → any n t ≡ any n u
 any-same zero t u e = refl
@@ -95,10 +100,7 @@ any-further n (suc m) test fail =
     ap (λ (k : ℕ). any k test) (let e : n + suc m ≡ suc (n + m) = omega arith in e)
     ∙ ap₂ (λ a b. a || b) (any-further n m test fail) (fail (n + m) (omega arith)) ∙ or-false (any n test)
 
--- where all passed so far and this one does, all passed with this one; one that does not is enough against all
-pub all-more : (i : ℕ) (test : ℕ → Bool) → all i test ≡ true → test i ≡ true → all (i + 1) test ≡ true
-all-more i test e f = ap (λ n. all n test) (add-one i) ∙ ap₂ (λ a b. a && b) e f
-
+-- one that does not pass is enough against all
 pub all-missed : (n i : ℕ) (test : ℕ → Bool) → i < n → test i ≡ false → all n test ≡ false
 all-missed zero i test h e = absurd (omega arith)
 all-missed (suc n) i test h e = go (decLt i n) (λ g. all-missed n i test g e)
@@ -108,3 +110,11 @@ all-missed (suc n) i test h e = go (decLt i n) (λ g. all-missed n i test g e)
     go (no g) rec =
         let same : i ≡ n = omega arith in
         and-right-false (all n test) (subst (λ k. test k ≡ false) same e)
+
+-- where all pass, each does
+pub all-each : (n i : ℕ) (test : ℕ → Bool) → i < n → all n test ≡ true → test i ≡ true
+all-each n i test h e = go (test i) refl
+  where
+    go : (b : Bool) → test i ≡ b → test i ≡ true
+    go true passes = passes
+    go false fails = absurd (false≢true (sym (all-missed n i test h fails) ∙ e))

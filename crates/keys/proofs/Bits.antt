@@ -2,17 +2,17 @@
 -- in common, and the lowest one of a mask.
 use Prim.Native.Nat.{ℕ, zero, suc, _+_, _/_, _%_, _^_, _-_, _*_, _<_, _≤_}
 use native.Mathlib.Omega.{arith}
-use native.Mathlib.Nat.{div-lt-iff-lt-mul, mod-lt}
+use native.Mathlib.Nat.{div-lt-iff-lt-mul}
 use native.Mathlib.Decide.{decLt}
-use mathlib.Core.Path.{_≡_, refl, sym, _∙_, ap, ap₂, subst}
+use mathlib.Core.Path.{_≡_, refl, sym, _∙_, ap}
 use mathlib.Core.Bool.{Bool, true, false, _&&_, false≢true, and-comm}
-use borrow.Author.Tests.{lt-ltb, le-ltb, eqb-true, eqb-false}
-use lib.Bits.{bitAnd, and-mask, mask-lt, and-shr, and-mod, and-le-r}
+use borrow.Author.Tests.{lt-ltb, le-ltb}
+use lib.Bits.{bitAnd, and-mask, mask-lt, and-le-r}
 use lib.Count.{trailingZeros, under}
 use lib.Dec.{ltb, eqb}
-use lib.Pow.{pow-pos, pow-add, shr-shr}
+use lib.Pow.{pow-pos, shr-shr}
 use Rattle.ac.specs.Keys.{bit}
-use Rattle.table.proofs.Bits.{bit-of-low, no-bit-from}
+use Rattle.table.proofs.Bits.{bit-of-low, no-bit-from, bit-and, no-bit-zero}
 use Rattle.keys.specs.Reach.{takesAny, NoRowBelow}
 use Rattle.keys.proofs.Any.{any-some, any-none}
 
@@ -37,37 +37,6 @@ something-beyond key width n h = go (decLt (key % 2 ^ width) (2 ^ n))
         let small : bitAnd key (2 ^ width - 1) < 1 * 2 ^ n = omega (arith, and-mask key width) in
         absurd (omega (arith, div-lt-iff-lt-mul (pow-pos n) .1 small))
     go (no high) = omega arith
-
--- two masks have a bit in common where both have it
-digit-and : (r s : ℕ) → r < 2 → s < 2 → eqb (bitAnd r s) 1 ≡ (eqb r 1 && eqb s 1)
-digit-and zero s hr hs = refl
-digit-and (suc zero) zero hr hs = refl
-digit-and (suc zero) (suc zero) hr hs = refl
-digit-and (suc zero) (suc (suc s)) hr hs = absurd (omega arith)
-digit-and (suc (suc r)) s hr hs = absurd (omega arith)
-
-pub bit-and : (a b i : ℕ) → bit (bitAnd a b) i ≡ (bit a i && bit b i)
-bit-and a b i =
-    ap (λ k. eqb k 1) (ap (λ k. k % 2) (and-shr a b i) ∙ and-mod (a / 2 ^ i) (b / 2 ^ i) 1)
-    ∙ digit-and (a / 2 ^ i % 2) (b / 2 ^ i % 2) (omega arith) (omega arith)
-
--- a number none of whose bits is set is 0
-no-bit-zero : (n x : ℕ) → x < 2 ^ n → ((i : ℕ) → i < n → bit x i ≡ false) → x ≡ 0
-no-bit-zero zero x small none = omega arith
-no-bit-zero (suc n) x small none = no-bit-zero n x below (λ i h. none i (omega arith))
-  where
-    below : x < 2 ^ n
-    below =
-        let less : x < 2 * 2 ^ n = omega (arith, small, pow-add 2 1 n) in
-        let few : x / 2 ^ n < 2 = div-lt-iff-lt-mul (pow-pos n) .1 less in
-        let even : x / 2 ^ n % 2 ≡ 1 → ⊥ = eqb-false (x / 2 ^ n % 2) 1 (none n (omega arith)) in
-        go (decLt 0 (x / 2 ^ n)) few even
-      where
-        go : Dec (0 < x / 2 ^ n) → x / 2 ^ n < 2 → (x / 2 ^ n % 2 ≡ 1 → ⊥) → x < 2 ^ n
-        go (yes some) few even = absurd (even (omega arith))
-        go (no none) few even =
-            let z : x / 2 ^ n < 1 = omega arith in
-            omega (arith, div-lt-iff-lt-mul (pow-pos n) .0 z)
 
 -- that a mask and the low 16 bits have a bit in common tells whether the key takes one of its rows
 pub takes-common : (rows key : ℕ) → ltb 0 (bitAnd rows (bitAnd key 65535)) ≡ takesAny rows key

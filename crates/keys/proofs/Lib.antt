@@ -5,6 +5,7 @@ pub mod Reach
 pub mod Candidates
 pub mod Table
 pub mod Weighing
+pub mod Leaving
 pub mod Tuples
 pub mod Walk
 pub mod Given

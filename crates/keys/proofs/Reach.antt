@@ -2,14 +2,14 @@
 use Prim.Native.Nat.{ℕ, zero, suc, _+_, _-_, _*_, _<_, _≤_}
 use native.Mathlib.Omega.{arith}
 use native.Mathlib.Numerals.{add-one}
-use mathlib.Core.Path.{_≡_, refl, sym, _∙_, ap, ap₂, subst}
+use mathlib.Core.Path.{_≡_, refl, sym, _∙_, ap, ap₂}
 use mathlib.Core.Bool.{Bool, true, false, _||_, _&&_, or-assoc, and-false}
 use mathlib.Core.List.{List, [], _∷_, _++_, map}
 use lib.Dec.{ltb}
 use lib.ListN.{length, getD, List·getD-eq-default}
 use Rattle.ac.specs.Lists.{from}
 use Rattle.ac.specs.Rows.{Group, Groups, rowsAt}
-use Rattle.ac.specs.Selection.{Taken, takenRows, takenBalanced, taken, reached, allReached}
+use Rattle.ac.specs.Selection.{Taken, takenRows, takenBalanced, taken, reached}
 use Rattle.ac.specs.Keys.{layout, bit, fieldAt, selectionAt, Fits}
 use Rattle.ac.proofs.Fields.{length-fieldsOf, index-at}
 use Rattle.table.specs.Masks.{Marked}

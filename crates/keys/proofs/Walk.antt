@@ -10,22 +10,23 @@ use lib.Pow.{pow-pos}
 use Rattle.ac.specs.Pair.{Mode}
 use Rattle.ac.specs.Rows.{Groups}
 use Rattle.ac.specs.Selection.{Within as IndexesWithin, allReached, taken, admissible}
-use Rattle.ac.specs.Keys.{layout, keys, fieldsOf, selectionAt, Candidate, Fits}
+use Rattle.ac.specs.Keys.{layout, bit, keys, fieldsOf, selectionAt, Candidate, Fits}
 use Rattle.ac.specs.Pages.{LeastFrom, NoneFrom}
 use Rattle.ac.proofs.Taken.{admissible-reaches}
 use Rattle.ac.proofs.Listed.{listed-candidates, keys-below}
 use Rattle.table.specs.Table.{groupsIn, Within, TableOf}
-use Rattle.table.specs.Masks.{Marked, MasksOf}
+use Rattle.table.specs.Masks.{Sized, Marked, MasksOf, Coherent}
 use Rattle.table.specs.declared.Table.{Table}
 use Rattle.table.specs.declared.masks.Masks.{Masks}
 use Rattle.keys.specs.declared.Standing.{Standing}
 use Rattle.keys.specs.declared.Standing.the-variants.{Candidate as IsCandidate, NoneBefore}
 use Rattle.keys.specs.declared.Next.{Next}
 use Rattle.keys.specs.declared.Next.the-variants.{Key, None}
-use Rattle.keys.specs.Candidates.{Stands, on-candidate, between, fills, LeastWithin}
+use Rattle.keys.specs.Candidates.{Stands, on-candidate, between, fills, NoneInBlock, LeastWithin}
 use Rattle.keys.specs.Candidates as within
 use Rattle.keys.specs.List.{OfTheirList, NextFrom, found, nothing}
 use Rattle.keys.proofs.Candidates.{blockEnd, below-block-end, same-block}
+use Rattle.keys.proofs.Leaving.{missing-all, left-none}
 use Rattle.keys.proofs.Tuples.{mask-fits}
 use Rattle.keys.proofs.Table.{table-fits}
 
@@ -166,19 +167,29 @@ module _ {m : Masks} {start at : ℕ} (walked : Walked m start at) {standing : S
         (tried (groupsIn t) (its .marked) (table-fits within)))
 
     -- Its masks all miss a place: the walk goes on with the next tuple, since a larger mask has a bit beyond
-    -- the balanced rows.
-    pub step-over : next ≡ None → Walked m start (blockEnd at 16)
-    step-over none =
+    -- the balanced rows; or after a wider block that has none either.
+    pub step-over : {bits : ℕ} → next ≡ None → 16 ≤ bits
+        → ((G : Groups) → Sized (m .sizes) (m .unbalanced) G → Marked (m .reaching) (m .unbalanced) (m .places) G
+        → Fits layout G → 16 < bits → NoneInBlock G (m .places) at bits)
+        → Walked m start (blockEnd at bits)
+    step-over {bits} none whole left =
         record {
-          above = omega (arith, walked .above, below-block-end at 16);
-          passed = passed-over (walked .passed) missed;
+          above = omega (arith, walked .above, below-block-end at bits);
+          passed = passed-over (walked .passed)
+              (λ t its within other low high candidate. missed t its within other low high candidate (decLt 16 bits));
         }
       where
-        missed : OfTheirGroups m (λ G. (other : ℕ) → at ≤ other → other < blockEnd at 16 → Candidate layout G other
-            → fills G (m .places) other ≡ false)
-        missed t its within other low high candidate =
-            none-within (least t its within) none other low
-            (omega (arith, same-block {key = at} {other = other} 16 low high, candidate .no-bit-beyond))
+        missed : (t : Table) → MasksOf (groupsIn t) (t .places) m → Within t → (other : ℕ) → at ≤ other
+            → other < blockEnd at bits → Candidate layout (groupsIn t) other → Dec (16 < bits)
+            → fills (groupsIn t) (m .places) other ≡ false
+        missed t its within other low high candidate (yes wide) =
+            left (groupsIn t) (its .sized) (its .marked) (table-fits within) wide other (same-block bits low high)
+            candidate
+        missed t its within other low high candidate (no narrow) =
+            let tuple-only : bits ≡ 16 = omega arith in
+            let same = same-block {key = at} {other = other} 16 low
+            (subst (λ (n : ℕ). other < blockEnd at n) tuple-only high) in
+            none-within (least t its within) none other low (omega (arith, same, candidate .no-bit-beyond))
 
     -- The first that reaches every place is the least listed key.
     pub step-found : {key : ℕ} → next ≡ Key key → OfTheirList m (λ keys. NextFrom keys start (Key key))
@@ -214,6 +225,17 @@ module _ {m : Masks} {start at : ℕ} (walked : Walked m start at) {standing : S
 pub step-end : {m : Masks} {start at : ℕ} → Walked m start at → 2 ^ 32 ≤ at
     → OfTheirList m (λ keys. NextFrom keys start None)
 step-end walked end t its M L R full of = nothing (passed-all (walked .passed) end t its M L R full of)
+
+-- Where rows of all constants cannot reach together what balanced rows do not, nothing is listed.
+pub step-nothing : {m : Masks} {start : ℕ} → Coherent m → bit (getD (m .choices) 0 0) (m .unreached) ≡ false
+    → OfTheirList m (λ keys. NextFrom keys start None)
+step-nothing {m} coherent cannot t its M L R full of = nothing (λ other mem.
+    let listed = listed-reached its full of mem in
+    absurd (false≢true (sym (left-none m 0 coherent (omega arith) (missing-all m 0) cannot (its .sized) (its .marked)
+    (table-fits (of .within)) other (no-block (listed .0 .no-bit-above)) (listed .0)) ∙ listed .1)))
+  where
+    no-block : {other : ℕ} → other < 2 ^ 32 → other / 2 ^ 32 ≡ 0 / 2 ^ 32
+    no-block small = omega arith
 
 -- What a next key tells.
 pub next-key : {keys : List ℕ} {bound key : ℕ} {next : Next} → NextFrom keys bound next → next ≡ Key key

@@ -1,10 +1,10 @@
--- Weighing a key on the masks. Where it misses a place, so does every number before the next multiple of the bit of
--- the lowest row that is above 0 there.
-use Prim.Native.Nat.{ℕ, _+_, _-_, _*_, _/_, _%_, _^_, _<_, _≤_}
+-- Weighing a key on the masks. Where it misses a place, so does every number before the next multiple of the bit
+-- of the lowest row that is above 0 there.
+use Prim.Native.Nat.{ℕ, _+_, _*_, _/_, _%_, _^_, _<_, _≤_}
 use native.Mathlib.Omega.{arith}
 use native.Mathlib.Numerals.{add-one}
 use native.Mathlib.Decide.{decLt}
-use mathlib.Core.Path.{_≡_, refl, sym, _∙_, ap, ap₂, subst}
+use mathlib.Core.Path.{_≡_, sym, _∙_, ap, ap₂, subst}
 use mathlib.Core.Bool.{Bool, true, false, _||_, _&&_, and-false}
 use mathlib.Core.List.{List}
 use lib.Dec.{eqb}
@@ -13,7 +13,7 @@ use Rattle.ac.specs.Rows.{Groups}
 use Rattle.ac.specs.Keys.{layout, bit, fieldAt, Fits}
 use Rattle.table.specs.Masks.{Marked}
 use Rattle.table.proofs.Bits.{high-part}
-use Rattle.keys.specs.Reach.{any, all, takesAny, reaches, NoRowBelow, InTuple, Weighs}
+use Rattle.keys.specs.Reach.{all, takesAny, reaches, NoRowBelow, InTuple, Weighs}
 use Rattle.keys.specs.Candidates.{fills}
 use Rattle.keys.proofs.Any.{and-left-false, and-right-false, any-same}
 use Rattle.keys.proofs.Reach.{fills-reaches}

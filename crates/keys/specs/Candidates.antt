@@ -1,10 +1,10 @@
 -- Where a number stands among the candidates of the groups.
-use Prim.Native.Nat.{ℕ, _+_, _*_, _^_, _<_, _≤_}
+use Prim.Native.Nat.{ℕ, _+_, _/_, _^_, _<_, _≤_}
 use mathlib.Core.Path.{_≡_}
 use mathlib.Core.Bool.{Bool, true, false, cond}
 use mathlib.Core.List.{List}
 use lib.Dec.{ltb}
-use lib.ListN.{length, getD}
+use lib.ListN.{getD}
 use Rattle.ac.specs.Rows.{Groups}
 use Rattle.ac.specs.Selection.{taken, allReached}
 use Rattle.ac.specs.Keys.{layout, selectionAt, Fits, Candidate as IsCandidate}
@@ -30,6 +30,11 @@ pub data Stands (sizes : List ℕ) (unbalanced key : ℕ) : Standing → Type 0 
 -- the rows that the key takes reach every place: of a candidate, that its selection is admissible
 abbrev pub fills : Groups → ℕ → ℕ → Bool
 fills G places key = allReached (taken (layout .new) G (selectionAt layout G key)) places
+
+-- no candidate of the block of 2 ^ bits numbers in which the key stands reaches every place
+abbrev pub NoneInBlock : Groups → ℕ → ℕ → ℕ → Type 0
+NoneInBlock G places key bits =
+    (other : ℕ) → other / 2 ^ bits ≡ key / 2 ^ bits → IsCandidate layout G other → fills G places other ≡ false
 
 -- the least number from one to before another that passes a test, or that there is none
 pub data LeastWithin (passes : ℕ → Bool) (from end : ℕ) : Next → Type 0 where

@@ -32,7 +32,7 @@ pub record Holds (rows : List ℕ) (places : ℕ) (s : Selection) (G : Groups) :
 unfoldable pub takesAny : ℕ → ℕ → Bool
 takesAny rows key = any (layout .rows) (λ i. bit key i && bit rows i)
 
--- a row that the key takes is above 0 at the place, by the masks: that of one of the constants, or a balanced one
+-- a row that the key takes is above 0 at the place, by the masks: that of a constant, or a balanced one
 abbrev pub reaches : List ℕ → ℕ → ℕ → ℕ → Bool
 reaches reaching unbalanced place key =
     any unbalanced (λ g. bit (getD reaching (6 * (g + 1) + place) 0) (fieldAt layout key g))
@@ -46,7 +46,8 @@ NoRowBelow rows lowest = (i : ℕ) → i < lowest → bit rows i ≡ false
 abbrev pub InTuple : ℕ → ℕ → Type 0
 InTuple key first = (key ≤ first) × (first ≤ (key / 2 ^ layout .rows + 1) * 2 ^ layout .rows)
 
--- the first number from the key on that may pass a test: the key itself only if it passes, and no number before it does
+-- the first number from the key on that may pass a test: the key itself only if it passes, and none before it
+-- does
 pub record Weighs (passes : ℕ → Bool) (key first : ℕ) : Type 0 where
   pub itself : first ≡ key → passes key ≡ true
   pub none-before : (other : ℕ) → key ≤ other → other < first → passes other ≡ false

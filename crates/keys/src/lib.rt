@@ -5,8 +5,8 @@ ghost use Prim.Native.Nat.{_+_, _*_, _/_, _^_, _<_, _≤_};
 ghost use lib.ListN.{getD};
 ghost use Rattle.ac.specs.Rows.{Groups};
 ghost use Rattle.ac.specs.Keys.{layout, bit, fieldAt, Fits};
-ghost use Rattle.table.specs.Masks.{Marked, MasksWithin};
-ghost use Rattle.keys.specs.Candidates.{Stands, fieldLimit, fills, LeastWithin};
+ghost use Rattle.table.specs.Masks.{Sized, Marked, Coherent};
+ghost use Rattle.keys.specs.Candidates.{Stands, fieldLimit, fills, NoneInBlock, LeastWithin};
 ghost use Rattle.keys.specs.List.{OfTheirList, NextFrom, FoundOf};
 ghost use Rattle.keys.specs.Reach.{takesAny, reaches, NoRowBelow, InTuple, Weighs};
 ghost use Rattle.keys.specs.Runs.{selectionIn, Fit, runCount, timesAt};
@@ -16,6 +16,8 @@ use table::GROUP;
 use table::Table;
 use table::VARIABLES;
 use table::masks::Masks;
+use table::masks::has_bit;
+use table::masks::missed_by;
 
 // A key has 16 low bits for the balanced rows, and above them 4 fields of 4 bits; the lowest constant's
 // stands highest.
@@ -105,14 +107,6 @@ pub fn times(rows: &[u8; 480], selection: Selection, place: usize, run: usize) -
     }
 }
 
-// Whether row `i` is one of the mask's.
-fn has_row(rows: u64, i: usize) -> bool
-    requires { ⌜ i < 64 ⌝ }
-    ensures { λ r. ⌜ r ≡ bit rows i ⌝ }
-{
-    rows >> i & 1 == 1
-}
-
 // Whether the key takes a balanced row that is one of the mask's: the low 16 bits and the mask have a bit in
 // common.
 fn takes_any(rows: u64, key: u32) -> bool
@@ -129,7 +123,7 @@ fn reached(reaching: &[u64; 30], unbalanced: usize, place: usize, key: u32) -> b
     let mut g: usize = 0;
     while g < unbalanced {
         let index = index_at(key, g);
-        if has_row(reaching[VARIABLES * (g + 1) + place], index) {
+        if has_bit(reaching[VARIABLES * (g + 1) + place], index) {
             return true;
         }
         g += 1;
@@ -234,7 +228,7 @@ pub enum Next {
 // The least admissible key of a tuple from a mask on: the sets of balanced rows are taken in the order of their
 // masks, and those that miss a place are passed over.
 fn least_of_tuple(masks: Masks, tuple: u32, from: u32) -> Next
-    requires { ⌜ MasksWithin masks × (tuple < 65536) × (from < 2 ^ layout .rows) ⌝ }
+    requires { ⌜ Coherent masks × (tuple < 65536) × (from < 2 ^ layout .rows) ⌝ }
     ensures { λ r. ⌜ ((G : Groups) → Marked (masks .reaching) (masks .unbalanced) (masks .places) G → Fits layout G
         → LeastWithin (fills G (masks .places)) (tuple * 2 ^ layout .rows + from) (tuple * 2 ^ layout .rows + 2 ^ getD (masks .sizes) 0 0) r) ⌝ }
 {
@@ -251,12 +245,39 @@ fn least_of_tuple(masks: Masks, tuple: u32, from: u32) -> Next
     Next::None
 }
 
-// The least key on the list from a number on. The highest key may be listed, so that the number after it
-// needs 64 bits.
+// How many bits the widest block has that is left with the key's tuple. The row indexes are fixed one after the
+// other: once rows of the later constants cannot reach together what is still missing, no key with the indexes so
+// far is admissible.
+fn left_bits(masks: Masks, key: u32) -> usize
+    requires { ⌜ Coherent masks ⌝ }
+    ensures { λ r. ⌜ (layout .rows ≤ r) × (r ≤ 32) ⌝ }
+    ensures { λ r. ⌜ ((G : Groups) → Sized (masks .sizes) (masks .unbalanced) G → Marked (masks .reaching) (masks .unbalanced) (masks .places) G
+        → Fits layout G → layout .rows < r → NoneInBlock G (masks .places) key r) ⌝ }
+{
+    let mut missing = masks.unreached;
+    let mut g: usize = 0;
+    while g < masks.unbalanced {
+        let index = index_at(key, g);
+        missing &= missed_by(&masks.reaching, masks.places, g + 1, 1 << index);
+        g += 1;
+        let sets = masks.choices[g];
+        if !has_bit(sets, missing) {
+            return MASK_BITS + INDEX_BITS * (CONSTANTS - g);
+        }
+    }
+    MASK_BITS
+}
+
+// The least key on the list from a number on. Where rows of all constants cannot reach together what balanced rows
+// do not, nothing is listed. The highest key may be listed, so that the number after it needs 64 bits.
 pub fn least_listed(masks: Masks, from: u64) -> Next
-    requires { ⌜ MasksWithin masks ⌝ }
+    requires { ⌜ Coherent masks ⌝ }
     ensures { λ r. ⌜ OfTheirList masks (λ keys. NextFrom keys from r) ⌝ }
 {
+    let sets = masks.choices[0];
+    if !has_bit(sets, masks.unreached) {
+        return Next::None;
+    }
     let mut at = from;
     while at < KEYS {
         let key = at as u32;
@@ -270,7 +291,7 @@ pub fn least_listed(masks: Masks, from: u64) -> Next
                 if let Next::Key(found) = least {
                     return Next::Key(found);
                 }
-                at = block_end(key, MASK_BITS);
+                at = block_end(key, left_bits(masks, key));
             }
         }
     }
@@ -285,7 +306,7 @@ pub enum Found {
 
 // A key is listed if the least listed key from it on is itself. Else it is 14, or 13 where nothing is listed.
 pub fn find_key(masks: Masks, key: u32) -> Found
-    requires { ⌜ MasksWithin masks ⌝ }
+    requires { ⌜ Coherent masks ⌝ }
     ensures { λ r. ⌜ OfTheirList masks (λ listed. FoundOf listed key r) ⌝ }
 {
     let least = least_listed(masks, key as u64);

@@ -5,7 +5,7 @@ ghost use Prim.Native.Nat.{_<_, _≤_};
 ghost use lib.ListN.{length};
 ghost use Rattle.ac.specs.Keys.{after, remaining};
 ghost use Rattle.table.specs.Table.{Within};
-ghost use Rattle.table.specs.Masks.{MasksWithin};
+ghost use Rattle.table.specs.Masks.{Coherent};
 ghost use Rattle.keys.specs.List.{OfTheirList};
 ghost use Rattle.solver.specs.Request.{wantedCount, beginningOf};
 ghost use Rattle.solver.specs.Page.{told, PagePromise};
@@ -63,7 +63,7 @@ enum Settled {
 
 // After a key: 13 or 14 if it is not listed, else the next one, unless it is the last.
 fn settle_after(masks: Masks, key: u32) -> Settled
-    requires { ⌜ MasksWithin masks ⌝ }
+    requires { ⌜ Coherent masks ⌝ }
     ensures { λ r. ⌜ OfTheirList masks (λ listed. SettledOf listed (after key) r) ⌝ }
 {
     let found = find_key(masks, key);
@@ -81,7 +81,7 @@ fn settle_after(masks: Masks, key: u32) -> Settled
 
 // The first key of the page that begins there, or 13, 14 or 15.
 fn settle(masks: Masks, begin: Begin) -> Settled
-    requires { ⌜ MasksWithin masks ⌝ }
+    requires { ⌜ Coherent masks ⌝ }
     ensures { λ r. ⌜ OfTheirList masks (λ listed. SettledOf listed (beginningOf begin) r) ⌝ }
 {
     match begin {
@@ -98,7 +98,7 @@ fn settle(masks: Masks, begin: Begin) -> Settled
 
 // Write the keys from the first one on, as many as are wanted or, if fewer remain, all that remain.
 fn write_keys(masks: Masks, first: u32, wanted: usize, out: &mut [u32]) -> PageAnswer
-    requires { ⌜ MasksWithin masks × (0 < wanted) × (wanted ≤ length (now out)) ⌝ }
+    requires { ⌜ Coherent masks × (0 < wanted) × (wanted ≤ length (now out)) ⌝ }
     ensures { λ r. ⌜ OfTheirList masks (λ listed. WrittenOf (first ∷ remaining (after first) listed) wanted (now (out .entry)) (told r) (now (out .exit))) ⌝ }
 {
     out[0] = first;

@@ -1,14 +1,14 @@
--- Bits of a number and its parts, and a mask made bit by bit.
-use Prim.Native.Nat.{ℕ, _+_, _-_, _*_, _/_, _%_, _^_, _<_, _≤_}
+-- Bits of a number, of its parts, and of two numbers together; a mask made bit by bit.
+use Prim.Native.Nat.{ℕ, zero, suc, _+_, _-_, _*_, _/_, _%_, _^_, _<_, _≤_}
 use native.Mathlib.Omega.{arith}
 use native.Mathlib.Nat.{div-lt-iff-lt-mul, mod-eq-of-lt}
 use native.Mathlib.Decide.{decLt}
 use mathlib.Core.Path.{_≡_, refl, sym, _∙_, ap, subst}
-use mathlib.Core.Bool.{Bool, true, false, _&&_}
-use borrow.Author.Tests.{lt-ltb, le-ltb}
-use lib.Bits.{bitOr, or-shifted-r}
+use mathlib.Core.Bool.{Bool, true, false, _&&_, _||_}
+use borrow.Author.Tests.{lt-ltb, le-ltb, eqb-false}
+use lib.Bits.{bitAnd, bitOr, and-shr, and-mod, or-shr, or-mod, or-shifted-r}
 use lib.Dec.{ltb, eqb}
-use lib.Pow.{pow-pos, pow-mono, pow-add, field, low, high, shl-exact, shr-shr, mod-mod-pow}
+use lib.Pow.{pow-pos, pow-mono, pow-add, field, low, high, shl-exact, shl-shr, shr-shr, mod-mod-pow}
 use Rattle.ac.specs.Keys.{bit}
 
 -- a bit is told by the low part in which it stands, and a high part by one that begins lower
@@ -33,6 +33,55 @@ no-bit-from {n} {w} {i} small h =
     let less : n < 1 * 2 ^ i = omega (arith, pow-mono h) in
     let none : n / 2 ^ i ≡ 0 = omega (arith, div-lt-iff-lt-mul (pow-pos i) .1 less) in
     ap (λ k. eqb (k % 2) 1) none
+
+-- two masks have a bit in common where both have it
+digit-and : (r s : ℕ) → r < 2 → s < 2 → eqb (bitAnd r s) 1 ≡ (eqb r 1 && eqb s 1)
+digit-and zero s hr hs = refl
+digit-and (suc zero) zero hr hs = refl
+digit-and (suc zero) (suc zero) hr hs = refl
+digit-and (suc zero) (suc (suc s)) hr hs = absurd (omega arith)
+digit-and (suc (suc r)) s hr hs = absurd (omega arith)
+
+pub bit-and : (a b i : ℕ) → bit (bitAnd a b) i ≡ (bit a i && bit b i)
+bit-and a b i =
+    ap (λ k. eqb k 1) (ap (λ k. k % 2) (and-shr a b i) ∙ and-mod (a / 2 ^ i) (b / 2 ^ i) 1)
+    ∙ digit-and (a / 2 ^ i % 2) (b / 2 ^ i % 2) (omega arith) (omega arith)
+
+-- and one of two has a bit where their union has it
+digit-or : (r s : ℕ) → r < 2 → s < 2 → eqb (bitOr r s) 1 ≡ (eqb r 1 || eqb s 1)
+digit-or zero s hr hs = refl
+digit-or (suc zero) zero hr hs = refl
+digit-or (suc zero) (suc zero) hr hs = refl
+digit-or (suc zero) (suc (suc s)) hr hs = absurd (omega arith)
+digit-or (suc (suc r)) s hr hs = absurd (omega arith)
+
+pub bit-or : (a b i : ℕ) → bit (bitOr a b) i ≡ (bit a i || bit b i)
+bit-or a b i =
+    ap (λ k. eqb k 1) (ap (λ k. k % 2) (or-shr a b i) ∙ or-mod (a / 2 ^ i) (b / 2 ^ i) 1)
+    ∙ digit-or (a / 2 ^ i % 2) (b / 2 ^ i % 2) (omega arith) (omega arith)
+
+-- the bit of a power of two
+pub power-bit : (i : ℕ) → i < 64 → bit (1 * 2 ^ i % 2 ^ 64) i ≡ true
+power-bit i few = ap (λ k. eqb (k % 2) 1)
+    (ap (λ (k : ℕ). k / 2 ^ i) (shl-exact {a = 1} 1 i 64 (omega arith) (omega arith)) ∙ shl-shr 1 i)
+
+-- a number none of whose bits is set is 0
+pub no-bit-zero : (n x : ℕ) → x < 2 ^ n → ((i : ℕ) → i < n → bit x i ≡ false) → x ≡ 0
+no-bit-zero zero x small none = omega arith
+no-bit-zero (suc n) x small none = no-bit-zero n x below (λ i h. none i (omega arith))
+  where
+    below : x < 2 ^ n
+    below =
+        let less : x < 2 * 2 ^ n = omega (arith, small, pow-add 2 1 n) in
+        let few : x / 2 ^ n < 2 = div-lt-iff-lt-mul (pow-pos n) .1 less in
+        let even : x / 2 ^ n % 2 ≡ 1 → ⊥ = eqb-false (x / 2 ^ n % 2) 1 (none n (omega arith)) in
+        go (decLt 0 (x / 2 ^ n)) few even
+      where
+        go : Dec (0 < x / 2 ^ n) → x / 2 ^ n < 2 → (x / 2 ^ n % 2 ≡ 1 → ⊥) → x < 2 ^ n
+        go (yes some) few even = absurd (even (omega arith))
+        go (no none) few even =
+            let z : x / 2 ^ n < 1 = omega arith in
+            omega (arith, div-lt-iff-lt-mul (pow-pos n) .0 z)
 
 -- A mask of those of the first numbers that pass a test.
 pub record MarkedTo (test : ℕ → Bool) (i mask : ℕ) : Type 0 where

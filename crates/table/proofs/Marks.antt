@@ -1,8 +1,8 @@
 -- The masks made of a table are those of its groups.
-use Prim.Native.Nat.{ℕ, _+_, _*_, _/_, _%_, _<_, _≤_}
+use Prim.Native.Nat.{ℕ, _+_, _*_, _/_, _%_, _<_}
 use native.Mathlib.Omega.{arith}
 use native.Mathlib.Decide.{decLt}
-use mathlib.Core.Path.{_≡_, refl, sym, _∙_, ap, ap₂, subst}
+use mathlib.Core.Path.{_≡_, refl, sym, _∙_, ap, subst}
 use mathlib.Core.Bool.{_&&_}
 use mathlib.Core.List.{List, []}
 use borrow.Author.Tests.{lt-ltb, le-ltb}
@@ -11,9 +11,8 @@ use lib.Dec.{ltb}
 use lib.ListN.{length, getD, set, List·getD-eq-default}
 use lib.Seq.{getD-set-same, getD-set-other}
 use Rattle.table.specs.Table.{groupAt, groupsIn, Within}
-use Rattle.table.specs.Masks.{group, Marks, MarksIn, Marked, MasksOf, MasksWithin}
+use Rattle.table.specs.Masks.{Marks, MarksIn, MarksAt, Marked, MasksOf}
 use Rattle.table.specs.declared.Table.{Table}
-use Rattle.table.specs.declared.masks.Masks.{Masks}
 use Rattle.table.proofs.Groups.{length-groupAt, how-many-constants, entry-at, group-in, table-sized}
 
 -- what holds of the entries before one that is set, and of what it is set to, holds of the entries up to it
@@ -24,10 +23,6 @@ set-more P l at v inside before here =
     below-more (λ k. P k (getD (set l at v) k 0)) at
     (λ k h. subst (P k) (sym (getD-set-other l at k v 0 (λ e. absurd (omega arith)))) (before k h))
     (subst (P at) (sym (getD-set-same l at v 0 inside)) here)
-
--- the mask that stands at a place of the array, by its group and its place
-abbrev pub MarksAt : Table → ℕ → ℕ → Type 0
-MarksAt t at mask = MarksIn (t .rows) (at / 6) (getD (t .sizes) (at / 6) 0) (at % 6) mask
 
 module _ {t : Table} (within : Within t) where
   -- entry by entry a mask marks the rows of the group
@@ -63,14 +58,13 @@ module _ {t : Table} (within : Within t) where
           (each (6 * g + p) (omega (arith, within .places-fit, within .constants-fit))))));
     }
 
-    pub masks-made : MasksOf (groupsIn t) (t .places)
-        (record { places = t .places; unbalanced = t .unbalanced; sizes = t .sizes; reaching = reaching })
-    masks-made = record { the-places = refl; sized = table-sized within; marked = all-marked }
-
-  pub masks-within : (reaching : List ℕ) → MasksWithin
-      (record { places = t .places; unbalanced = t .unbalanced; sizes = t .sizes; reaching = reaching })
-  masks-within reaching = record {
-    places-fit = within .places-fit;
-    constants-fit = within .constants-fit;
-    sizes-fit = within .sizes-fit;
-  }
+    pub masks-made : (unreached : ℕ) (choices : List ℕ) → MasksOf (groupsIn t) (t .places)
+        (record {
+          places = t .places;
+          unbalanced = t .unbalanced;
+          sizes = t .sizes;
+          reaching = reaching;
+          unreached = unreached;
+          choices = choices;
+        })
+    masks-made unreached choices = record { the-places = refl; sized = table-sized within; marked = all-marked }

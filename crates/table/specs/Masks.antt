@@ -1,12 +1,15 @@
 -- What masks say: which rows of the groups reach which variable (document 02, R-5).
-use Prim.Native.Nat.{ℕ, zero, suc, _+_, _*_, _<_, _≤_}
+use Prim.Native.Nat.{ℕ, zero, suc, _+_, _*_, _/_, _%_, _<_, _≤_}
 use mathlib.Core.Path.{_≡_}
 use mathlib.Core.Bool.{_&&_}
 use mathlib.Core.List.{List, []}
-use lib.Dec.{ltb}
+use lib.Bits.{bitAnd}
+use lib.Dec.{ltb, eqb}
 use lib.ListN.{length, getD}
 use Rattle.ac.specs.Rows.{Groups, rowsAt}
 use Rattle.ac.specs.Keys.{bit}
+use Rattle.table.specs.Choices.{Complete}
+use Rattle.table.specs.declared.Table.{Table}
 use Rattle.table.specs.declared.masks.Masks.{Masks}
 
 -- the balanced rows are group 0, those of the constants the groups after it
@@ -28,6 +31,10 @@ abbrev pub MarksIn : List ℕ → ℕ → ℕ → ℕ → ℕ → Type 0
 MarksIn rows g size place mask =
     (i : ℕ) → bit mask i ≡ (ltb i size && ltb 0 (getD rows (96 * g + 6 * i + place) 0))
 
+-- the mask that stands at a place of the array of masks, by its group and its place
+abbrev pub MarksAt : Table → ℕ → ℕ → Type 0
+MarksAt t at mask = MarksIn (t .rows) (at / 6) (getD (t .sizes) (at / 6) 0) (at % 6) mask
+
 -- there is a mask for each group and each place, that of group g at place p at 6 * g + p
 pub record Marked (reaching : List ℕ) (unbalanced places : ℕ) (G : Groups) : Type 0 where
   pub how-many-constants : length (G .constants) ≡ unbalanced
@@ -39,8 +46,17 @@ pub record MasksOf (G : Groups) (places : ℕ) (m : Masks) : Type 0 where
   pub sized : Sized (m .sizes) (m .unbalanced) G
   pub marked : Marked (m .reaching) (m .unbalanced) (m .places) G
 
--- the numbers in the masks are within their room
-pub record MasksWithin (m : Masks) : Type 0 where
+-- the places at which none of these rows of group g is above 0
+abbrev pub MissedBy : List ℕ → ℕ → ℕ → ℕ → ℕ → Type 0
+MissedBy reaching places g rows set =
+    (p : ℕ) → bit set p ≡ (ltb p places && eqb (bitAnd (getD reaching (6 * g + p) 0) rows) 0)
+
+-- the numbers in the masks are within their room, and the sets of places are as the masks say
+pub record Coherent (m : Masks) : Type 0 where
   pub places-fit : m .places ≤ 6
   pub constants-fit : m .unbalanced ≤ 4
   pub sizes-fit : (g : ℕ) → getD (m .sizes) g 0 ≤ 16
+  pub unreached-fits : m .unreached < 64
+  pub the-unreached : MissedBy (m .reaching) (m .places) 0 65535 (m .unreached)
+  pub the-choices : (g : ℕ) → g ≤ m .unbalanced
+      → Complete (m .reaching) (m .sizes) (m .unbalanced) (m .unreached) g (getD (m .choices) g 0)

@@ -1,4 +1,5 @@
 // A solved pair by value: its variables, its unbalanced constants, and the rows of each group in one flat array.
+pub mod choices;
 pub mod masks;
 
 // How many variables, unbalanced constants and rows of a group there may be.

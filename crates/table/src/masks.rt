@@ -1,13 +1,20 @@
 // Which rows of a solved pair reach which variable, as masks (document 02, R-5).
-ghost use Prim.Native.Nat.{_<_, _≤_};
+ghost use mathlib.Core.Path.{_≡_};
+ghost use Prim.Native.Nat.{ℕ, _<_, _≤_};
+ghost use lib.ListN.{getD};
+ghost use Rattle.ac.specs.Keys.{bit};
 ghost use Rattle.table.specs.Table.{Within, groupsIn};
-ghost use Rattle.table.specs.Masks.{MarksIn, MasksOf, MasksWithin};
+ghost use Rattle.table.specs.Masks.{MarksIn, MarksAt, MissedBy, MasksOf, Coherent};
 use crate::GROUP;
 use crate::Table;
 use crate::VARIABLES;
+use crate::choices::choices_of;
 
 // A mask for each group and each place.
 pub const MASKS: usize = 30;
+
+// All rows that a group may have.
+pub const ALL_ROWS: u64 = 65_535;
 
 pub struct Masks {
     // how many variables there are, and how many unbalanced constants
@@ -17,6 +24,19 @@ pub struct Masks {
     pub sizes: [usize; 5],
     // the mask of group g at place p stands at 6 * g + p: its bit i is set exactly where row i is above 0 there
     pub reaching: [u64; 30],
+    // the places that no balanced row reaches, as a set: bit p is place p
+    pub unreached: usize,
+    // the sets of such places that rows of the constants from number g on, one of each, can reach together: bit
+    // s of number g is the set s
+    pub choices: [u64; 5],
+}
+
+// Whether bit `i` of a mask is set.
+pub fn has_bit(mask: u64, i: usize) -> bool
+    requires { ⌜ i < 64 ⌝ }
+    ensures { λ r. ⌜ r ≡ bit mask i ⌝ }
+{
+    mask >> i & 1 == 1
 }
 
 // The mask of a group at a place, row by row.
@@ -35,11 +55,10 @@ fn mask_at(rows: &[u8; 480], g: usize, size: usize, place: usize) -> u64
     mask
 }
 
-// The masks of a solved pair, group after group, and in each place after place.
-pub fn masks_of(table: Table) -> Masks
+// The masks of all groups, and in each place after place.
+fn reaching_of(table: Table) -> [u64; 30]
     requires { ⌜ Within table ⌝ }
-    ensures { λ r. ⌜ MasksOf (groupsIn table) (table .places) r ⌝ }
-    ensures { λ r. ⌜ MasksWithin r ⌝ }
+    ensures { λ r. ⌜ ((at : ℕ) → at < 30 → MarksAt table at (getD r at 0)) ⌝ }
 {
     let mut reaching = [0u64; 30];
     let mut at: usize = 0;
@@ -49,11 +68,42 @@ pub fn masks_of(table: Table) -> Masks
         reaching[at] = mask_at(&table.rows, g, size, at % VARIABLES);
         at += 1;
     }
+    reaching
+}
+
+// The places at which none of these rows of a group is above 0, as a set.
+pub fn missed_by(reaching: &[u64; 30], places: usize, g: usize, rows: u64) -> usize
+    requires { ⌜ (g < 5) × (places ≤ 6) ⌝ }
+    ensures { λ r. ⌜ MissedBy (now (reaching .entry)) places g rows r ⌝ }
+    ensures { λ r. ⌜ r < 64 ⌝ }
+{
+    let mut missed: usize = 0;
+    let mut place: usize = 0;
+    while place < places {
+        if reaching[VARIABLES * g + place] & rows == 0 {
+            missed |= 1 << place;
+        }
+        place += 1;
+    }
+    missed
+}
+
+// The masks of a solved pair, with what they say of sets of places.
+pub fn masks_of(table: Table) -> Masks
+    requires { ⌜ Within table ⌝ }
+    ensures { λ r. ⌜ MasksOf (groupsIn table) (table .places) r ⌝ }
+    ensures { λ r. ⌜ Coherent r ⌝ }
+{
+    let reaching = reaching_of(table);
+    let unreached = missed_by(&reaching, table.places, 0, ALL_ROWS);
     let sizes = table.sizes;
+    let choices = choices_of(&reaching, &sizes, table.unbalanced, table.places, unreached);
     Masks {
         places: table.places,
         unbalanced: table.unbalanced,
         sizes,
         reaching,
+        unreached,
+        choices,
     }
 }

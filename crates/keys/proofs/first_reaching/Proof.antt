@@ -1,6 +1,5 @@
 -- `keys::first_reaching` meets its contract: the key itself, or the end of the block of the lowest row that is
 -- above 0 at the place.
-use native.Mathlib.Omega.{arith}
 use mathlib.Core.Path.{sym, _∙_}
 use borrow.Author.Needs.{needs}
 use Rattle.keys.proofs.Weighing.{in-tuple-itself, in-tuple-block, weighs-itself, weighs-jump}

@@ -3,19 +3,29 @@
 use Prim.Native.Nat.{_-_, _^_}
 use native.Mathlib.Omega.{arith}
 use native.Mathlib.Nat.{le-refl}
-use mathlib.Core.Path.{refl, sym, subst}
+use mathlib.Core.Path.{refl, sym, subst, _∙_}
 use borrow.Author.Needs.{needs}
+use borrow.Author.Tests.{not-true}
 use lib.Bits.{and-mask, mask-lt}
 use Rattle.keys.proofs.Candidates.{below-block-end}
-use Rattle.keys.proofs.Walk.{Walked, passed-none, step-between, step-over, step-found, step-end}
+use Rattle.keys.proofs.Walk.{Walked, passed-none, step-nothing, step-between, step-over, step-found, step-end}
 use Rattle.keys.proofs.least_listed.Statement.{statement}
 use Rattle.keys.proofs.least_listed.Tie as tie
 
 abbrev Inv-loop : tie.InvT-loop
-Inv-loop from masks at₀ at = Walked masks from at
+Inv-loop from masks sets at₀ at = Walked masks from at
 
 abbrev μ-loop : tie.MeasureT-loop
-μ-loop from masks at₀ at = 2 ^ 32 - at
+μ-loop from masks sets at₀ at = 2 ^ 32 - at
+
+element-copy-out-sets : tie.Need-element-copy-out-sets Inv-loop μ-loop
+element-copy-out-sets c = search needs
+
+has-bit-requires : tie.Need-has-bit-requires Inv-loop μ-loop
+has-bit-requires c κs = c .before .pre .unreached-fits
+
+returns : tie.Need-returns Inv-loop μ-loop
+returns c = step-nothing (c .before .before .before .pre) (sym (c .before .has-bit .ensures) ∙ not-true _ (c .if1 .taken))
 
 loop-holds : tie.Need-loop-holds Inv-loop μ-loop
 loop-holds c = record { above = le-refl _; passed = passed-none _ _ }
@@ -25,7 +35,7 @@ cast-key c = omega arith
 
 stands-requires : tie.Need-stands-requires Inv-loop μ-loop
 stands-requires c κs =
-    let fit = c .before .before .before .before .pre in
+    let fit = c .before .before .before .before .before .before .before .pre in
     (fit .constants-fit, fit .sizes-fit 0)
 
 enum-known-standing : tie.Need-enum-known-standing Inv-loop μ-loop
@@ -61,7 +71,7 @@ shr-least-of-tuple c = search needs
 least-of-tuple-requires : tie.Need-least-of-tuple-requires Inv-loop μ-loop
 least-of-tuple-requires c κs =
     let turn = c .before .before .before .before .before in (
-      c .before .before .before .before .before .before .before .pre,
+      turn .before .before .before .before .before .pre,
       omega (arith, turn .loop-test .taken),
       mask-lt (turn .before .loop .at) 16,
     )
@@ -69,8 +79,8 @@ least-of-tuple-requires c κs =
 enum-known-least : tie.Need-enum-known-least Inv-loop μ-loop
 enum-known-least c = search needs
 
-returns : tie.Need-returns Inv-loop μ-loop
-returns c =
+returns-2 : tie.Need-returns-2 Inv-loop μ-loop
+returns-2 c =
     let candidate = c .before .before .before .before in
     let stood = candidate .before .before in
     let turn = stood .before .before .before in
@@ -82,27 +92,38 @@ returns c =
 enum-told-2 : tie.Need-enum-told-2 Inv-loop μ-loop
 enum-told-2 c = search needs
 
+left-bits-requires : tie.Need-left-bits-requires Inv-loop μ-loop
+left-bits-requires c κs =
+    let turn = c .before .before .before .before .before .before .before .before in
+    turn .before .before .before .before .before .pre
+
 block-end-requires : tie.Need-block-end-requires Inv-loop μ-loop
-block-end-requires c κs = omega arith
+block-end-requires c κs = c .left-bits .ensures .0 .1
 
 loop-less-2 : tie.Need-loop-less-2 Inv-loop μ-loop
 loop-less-2 c =
-    let turn = c .before .before .before .before .before .before .before .before .before in
-    omega (arith, c .block-end .ensures, below-block-end (turn .before .loop .at) 16, turn .loop-test .taken)
+    let turn = c .before .before .before .before .before .before .before .before .before .before in
+    omega (
+      arith,
+      c .block-end .ensures,
+      below-block-end (turn .before .loop .at) (c .before .left-bits .result),
+      turn .loop-test .taken,
+    )
 
 loop-again-2 : tie.Need-loop-again-2 Inv-loop μ-loop
 loop-again-2 c =
-    let candidate = c .before .before .before .before in
+    let left = c .before .left-bits .ensures in
+    let tried = c .before .before in
+    let candidate = tried .before .before .before in
     let stood = candidate .before .before in
     let turn = stood .before .before .before in
     subst (Walked _ _) (sym (c .block-end .ensures))
-    (step-over (turn .before .loop .inv) (stood .stands .ensures)
-    (candidate .enum-told .given .1) refl
-    (and-mask (turn .before .loop .at) 16) (c .before .before .before .least-of-tuple .ensures)
-    (c .before .enum-told2 .given .1))
+    (step-over (turn .before .loop .inv) (stood .stands .ensures) (candidate .enum-told .given .1) refl
+    (and-mask (turn .before .loop .at) 16) (tried .before .before .least-of-tuple .ensures)
+    (tried .enum-told2 .given .1) (left .0 .0) (left .1))
 
-returns-2 : tie.Need-returns-2 Inv-loop μ-loop
-returns-2 c = step-end (c .before .loop .inv) (c .loop-test .left)
+returns-3 : tie.Need-returns-3 Inv-loop μ-loop
+returns-3 c = step-end (c .before .loop .inv) (c .loop-test .left)
 
 pub least-listed-spec : {M : Type 1} → statement M
 least-listed-spec =
@@ -110,6 +131,9 @@ least-listed-spec =
     (tie.spec
     Inv-loop
     μ-loop
+    element-copy-out-sets
+    has-bit-requires
+    returns
     loop-holds
     cast-key
     stands-requires
@@ -121,9 +145,10 @@ least-listed-spec =
     shr-least-of-tuple
     least-of-tuple-requires
     enum-known-least
-    returns
+    returns-2
     enum-told-2
+    left-bits-requires
     block-end-requires
     loop-less-2
     loop-again-2
-    returns-2)
+    returns-3)

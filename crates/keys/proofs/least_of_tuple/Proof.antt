@@ -55,39 +55,35 @@ sub-mask : tie.Need-sub-mask Inv-loop μ-loop
 sub-mask c = omega (arith, c .before .weigh .ensures .0)
 
 cast-mask-2 : tie.Need-cast-mask-2 Inv-loop μ-loop
-cast-mask-2 c =
-    let turn = c .before .before .before .before .before in
-    omega (
-      arith,
-      mask-on (turn .before .before .before .args .tuple) (turn .before .loop .mask)
-          (c .before .before .before .before .pack .ensures) (no-bit-fits (turn .before .loop .mask) (turn .before .before .before .pre .0 .sizes-fit 0) (turn .loop-test .taken)) (c .before .weigh .ensures .0),
-    )
+cast-mask-2 c = omega (arith, c .before .weigh .ensures .0)
 
 add-mask : tie.Need-add-mask Inv-loop μ-loop
 add-mask c =
-    let turn = c .before .before .before .before .before in
-    omega (
-      arith,
-      mask-on (turn .before .before .before .args .tuple) (turn .before .loop .mask)
-          (c .before .before .before .before .pack .ensures) (no-bit-fits (turn .before .loop .mask) (turn .before .before .before .pre .0 .sizes-fit 0) (turn .loop-test .taken)) (c .before .weigh .ensures .0),
-    )
+    omega (arith, c .before .weigh .ensures .0, c .before .before .before .before .before .before .loop .inv .1)
 
 loop-less : tie.Need-loop-less Inv-loop μ-loop
 loop-less c =
     let turn = c .before .before .before .before .before in
-    omega (arith, no-bit-fits (turn .before .loop .mask) (turn .before .before .before .pre .0 .sizes-fit 0) (turn .loop-test .taken), c .before .weigh .ensures .0, c .if1 .left)
+    let few = turn .before .before .before .pre .0 .sizes-fit 0 in
+    omega (
+      arith,
+      no-bit-fits (turn .before .loop .mask) few (turn .loop-test .taken),
+      c .before .weigh .ensures .0,
+      c .if1 .left,
+    )
 
 loop-again : tie.Need-loop-again Inv-loop μ-loop
 loop-again c =
     let turn = c .before .before .before .before .before in
-    let args = turn .before .before .before .args in
-    let at = turn .before .loop in (
+    let entry = turn .before .before .before in
+    let at = turn .before .loop in
+    let packed = c .before .before .before .before .pack .ensures in (
       omega (arith, at .inv .0),
-      mask-on (args .tuple) (at .mask) (c .before .before .before .before .pack .ensures) (no-bit-fits (turn .before .loop .mask) (turn .before .before .before .pre .0 .sizes-fit 0) (turn .loop-test .taken))
+      mask-on (entry .args .tuple) (at .mask) packed
+          (no-bit-fits (at .mask) (entry .pre .0 .sizes-fit 0) (turn .loop-test .taken))
           (c .before .weigh .ensures .0),
-      missed-more (args .t1) (args .tuple) (args .from) (at .mask) (at .inv .2)
-          (c .before .before .before .before .pack .ensures) (c .before .weigh .ensures .1)
-          (c .before .weigh .ensures .0 .0),
+      missed-more (entry .args .t1) (entry .args .tuple) (entry .args .from) (at .mask) (at .inv .2) packed
+          (c .before .weigh .ensures .1) (c .before .weigh .ensures .0 .0),
     )
 
 returns-2 : tie.Need-returns-2 Inv-loop μ-loop

@@ -1,8 +1,8 @@
--- `keys::reached` meets its contract. The invariant: no row taken of the constants before this one reaches the place.
+-- `keys::reached` meets its contract. The invariant: no row taken of the constants before this one reaches the
+-- place.
 use Prim.Native.Nat.{ℕ, _+_, _*_, _≤_, _-_}
 use native.Mathlib.Omega.{arith}
-use native.Mathlib.Nat.{mod-lt}
-use mathlib.Core.Path.{_≡_, refl, sym, ap, ap₂, subst, _∙_}
+use mathlib.Core.Path.{_≡_, refl, sym, ap, subst, _∙_}
 use mathlib.Core.Bool.{Bool, false, _||_}
 use mathlib.Core.List.{List}
 use borrow.Author.Needs.{needs}
@@ -33,23 +33,23 @@ loop-holds c = (omega arith, refl)
 index-at-requires : tie.Need-index-at-requires Inv-loop μ-loop
 index-at-requires c κs = omega arith
 
-add-has-row : tie.Need-add-has-row Inv-loop μ-loop
-add-has-row c = omega arith
+add-has-bit : tie.Need-add-has-bit Inv-loop μ-loop
+add-has-bit c = omega arith
 
-mul-has-row : tie.Need-mul-has-row Inv-loop μ-loop
-mul-has-row c = omega arith
+mul-has-bit : tie.Need-mul-has-bit Inv-loop μ-loop
+mul-has-bit c = omega arith
 
-add-has-row-2 : tie.Need-add-has-row-2 Inv-loop μ-loop
-add-has-row-2 c = omega arith
+add-has-bit-2 : tie.Need-add-has-bit-2 Inv-loop μ-loop
+add-has-bit-2 c = omega arith
 
-mul-has-row-2 : tie.Need-mul-has-row-2 Inv-loop μ-loop
-mul-has-row-2 c = omega arith
+mul-has-bit-2 : tie.Need-mul-has-bit-2 Inv-loop μ-loop
+mul-has-bit-2 c = omega arith
 
-element-copy-out-has-row : tie.Need-element-copy-out-has-row Inv-loop μ-loop
-element-copy-out-has-row c = omega arith
+element-copy-out-has-bit : tie.Need-element-copy-out-has-bit Inv-loop μ-loop
+element-copy-out-has-bit c = omega arith
 
-has-row-requires : tie.Need-has-row-requires Inv-loop μ-loop
-has-row-requires c κs = omega (arith, c .before .index-at .ensures)
+has-bit-requires : tie.Need-has-bit-requires Inv-loop μ-loop
+has-bit-requires c κs = omega (arith, c .before .index-at .ensures)
 
 returns : tie.Need-returns Inv-loop μ-loop
 returns c =
@@ -58,7 +58,7 @@ returns c =
     sym (ap (λ b. b || takesAny (getD (a .reaching .now) (a .place) 0) (a .key))
     (any-found (a .unbalanced) g (by-constant (a .reaching .now) (a .place) (a .key)) (omega arith)
     (told (getD (a .reaching .now) (6 * (g + 1) + a .place) 0) (c .before .before .before .index-at .ensures)
-    (c .before .has-row .ensures) ∙ c .if1 .taken)))
+    (c .before .has-bit .ensures) ∙ c .if1 .taken)))
 
 add-g : tie.Need-add-g Inv-loop μ-loop
 add-g c = omega arith
@@ -73,7 +73,7 @@ loop-again c =
       omega arith,
       any-more (at .g) (by-constant (a .reaching .now) (a .place) (a .key)) (at .inv .1)
           (told (getD (a .reaching .now) (6 * (at .g + 1) + a .place) 0)
-          (c .before .before .before .index-at .ensures) (c .before .has-row .ensures) ∙ c .if1 .left),
+          (c .before .before .before .index-at .ensures) (c .before .has-bit .ensures) ∙ c .if1 .left),
     )
 
 mul-takes-any : tie.Need-mul-takes-any Inv-loop μ-loop
@@ -102,12 +102,12 @@ reached-spec =
     μ-loop
     loop-holds
     index-at-requires
-    add-has-row
-    mul-has-row
-    add-has-row-2
-    mul-has-row-2
-    element-copy-out-has-row
-    has-row-requires
+    add-has-bit
+    mul-has-bit
+    add-has-bit-2
+    mul-has-bit-2
+    element-copy-out-has-bit
+    has-bit-requires
     returns
     add-g
     loop-less

@@ -1,4 +1,5 @@
--- `keys::weigh` meets its contract. The invariant: the number is the farthest that the places before this one send to.
+-- `keys::weigh` meets its contract. The invariant: the number is the farthest that the places before this one
+-- send to.
 use Prim.Native.Nat.{ℕ, _+_, _≤_, _-_}
 use native.Mathlib.Omega.{arith}
 use mathlib.Core.Path.{refl, sym, subst}
@@ -40,9 +41,11 @@ loop-again c =
       omega arith,
       ⊎-elim
           (λ w. subst (To (a .reaching .now) (a .unbalanced) (a .key) (at .place + 1)) (sym (w .1))
-          (next .0, places-farther (a .reaching .now) (a .unbalanced) _ (at .place) (at .inv .1 .1) (next .1) (at .inv .1 .0 .0) (w .0 .taken)))
+          (next .0, places-farther (a .reaching .now) (a .unbalanced) _ (at .place) (at .inv .1 .1) (next .1)
+          (at .inv .1 .0 .0) (w .0 .taken)))
           (λ w. subst (To (a .reaching .now) (a .unbalanced) (a .key) (at .place + 1)) (sym (w .1))
-          (at .inv .1 .0, places-kept (a .reaching .now) (a .unbalanced) _ (at .place) (at .inv .1 .1) (next .1) (next .0 .0) (w .0 .left)))
+          (at .inv .1 .0, places-kept (a .reaching .now) (a .unbalanced) _ (at .place) (at .inv .1 .1) (next .1)
+          (next .0 .0) (w .0 .left)))
           (c .if1 .came),
     )
 

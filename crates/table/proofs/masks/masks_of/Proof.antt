@@ -1,76 +1,35 @@
--- `table::masks::masks_of` meets its contract. The invariant: the masks before this one are made.
-use Prim.Native.Nat.{ℕ, _≤_, _<_, _-_}
-use native.Mathlib.Omega.{arith}
-use mathlib.Core.Path.{_≡_, _∙_}
+-- `table::masks::masks_of` meets its contract: the masks as they were made, and the sets of places as they were
+-- found.
 use borrow.Author.Needs.{needs}
-use lib.ListN.{length, getD, length-set}
-use Rattle.table.proofs.Marks.{MarksAt, set-more, masks-made, masks-within}
+use Rattle.table.proofs.Marks.{masks-made}
 use Rattle.table.proofs.masks.masks_of.Statement.{statement}
 use Rattle.table.proofs.masks.masks_of.Tie as tie
 
-abbrev Inv-loop : tie.InvT-loop
-Inv-loop table reaching₀ at₀ reaching at =
-    (at ≤ 30) × (length reaching ≡ 30) × ((k : ℕ) → k < at → MarksAt table k (getD reaching k 0))
+reaching-of-requires : tie.Need-reaching-of-requires
+reaching-of-requires c κs = search needs
 
-abbrev μ-loop : tie.MeasureT-loop
-μ-loop table reaching₀ at₀ reaching at = 30 - at
+missed-by-requires : tie.Need-missed-by-requires
+missed-by-requires c κs = search needs
 
-loop-holds : tie.Need-loop-holds Inv-loop μ-loop
-loop-holds c = (omega arith, search needs, λ k h. absurd (omega arith))
+choices-of-requires : tie.Need-choices-of-requires
+choices-of-requires c κs = search needs
 
-mul-size : tie.Need-mul-size Inv-loop μ-loop
-mul-size c = omega arith
-
-element-copy-out-size : tie.Need-element-copy-out-size Inv-loop μ-loop
-element-copy-out-size c = search needs
-
-mask-at-requires : tie.Need-mask-at-requires Inv-loop μ-loop
-mask-at-requires c κs =
-    let turn = c .before .before .before in
-    (omega arith, turn .before .before .pre .sizes-fit _, omega arith)
-
-mul-reaching : tie.Need-mul-reaching Inv-loop μ-loop
-mul-reaching c = omega arith
-
-array-write-reaching : tie.Need-array-write-reaching Inv-loop μ-loop
-array-write-reaching c = omega arith
-
-add-at : tie.Need-add-at Inv-loop μ-loop
-add-at c = omega arith
-
-loop-less : tie.Need-loop-less Inv-loop μ-loop
-loop-less c = omega arith
-
-loop-again : tie.Need-loop-again Inv-loop μ-loop
-loop-again c =
-    let turn = c .before .before .before .before in
-    let at = turn .before .loop in
-    let table = turn .before .before .args .t1 in (
-      omega arith,
-      length-set (at .reaching) (at .at) (c .mask-at .result) ∙ at .inv .1,
-      set-more (MarksAt table) (at .reaching) (at .at) (c .mask-at .result) (omega arith) (at .inv .2)
-          (c .mask-at .ensures),
-    )
-
-returns : tie.Need-returns Inv-loop μ-loop
+returns : tie.Need-returns
 returns c =
-    let entry = c .before .before .before in
-    let made = c .before .before .loop in
-    (masks-made (entry .pre) (λ k h. made .inv .2 k (omega arith)), masks-within (entry .pre) (made .reaching))
+    let missed = c .before .before .before .before in
+    let made = missed .before .before in
+    let within = made .before .pre in (
+      masks-made within (made .reaching-of .ensures) (missed .missed-by .result) (c .choices-of .result),
+      record {
+        places-fit = within .places-fit;
+        constants-fit = within .constants-fit;
+        sizes-fit = within .sizes-fit;
+        unreached-fits = missed .missed-by .ensures .1;
+        the-unreached = missed .missed-by .ensures .0;
+        the-choices = c .choices-of .ensures;
+      },
+    )
 
 pub masks-of-spec : {M : Type 1} → statement M
 masks-of-spec =
-    tie.close
-    (tie.spec
-    Inv-loop
-    μ-loop
-    loop-holds
-    mul-size
-    element-copy-out-size
-    mask-at-requires
-    mul-reaching
-    array-write-reaching
-    add-at
-    loop-less
-    loop-again
-    returns)
+    tie.close (tie.spec reaching-of-requires missed-by-requires choices-of-requires returns)

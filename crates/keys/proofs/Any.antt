@@ -7,6 +7,7 @@ use mathlib.Core.Path.{_≡_, refl, sym, _∙_, ap, ap₂, subst}
 use mathlib.Core.Bool.{Bool, true, false, _||_, _&&_, false≢true, or-false, or-assoc}
 use borrow.Author.Tests.{lt-ltb, le-ltb}
 use lib.Dec.{ltb}
+use Rattle.table.proofs.Bits.{not-so}
 use Rattle.keys.specs.Reach.{any, all}
 
 -- whatever stands before it, a truth makes the disjunction true
@@ -69,11 +70,7 @@ any-some (suc n) test e = go (any n test) refl (test n) refl (any-some n test)
 
 -- where none passes, each fails
 pub any-none : {n i : ℕ} (test : ℕ → Bool) → any n test ≡ false → i < n → test i ≡ false
-any-none {n} {i} test none h = go (test i) refl
-  where
-    go : (b : Bool) → test i ≡ b → test i ≡ false
-    go true e = absurd (false≢true (sym none ∙ any-found n i test h e))
-    go false e = e
+any-none {n} {i} test none h = not-so (test i) (λ e. false≢true (sym none ∙ any-found n i test h e))
 
 pub any-fails : (n : ℕ) (test : ℕ → Bool) → ((i : ℕ) → i < n → test i ≡ false) → any n test ≡ false
 any-fails zero test fail = refl

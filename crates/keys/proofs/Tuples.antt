@@ -6,12 +6,11 @@ use native.Mathlib.Nat.{div-lt-iff-lt-mul}
 use native.Mathlib.Decide.{decLt}
 use mathlib.Core.Path.{_≡_, ap}
 use mathlib.Core.Bool.{false}
+use mathlib.Core.List.{List}
 use lib.Pow.{pow-pos, pow-mono}
-use lib.ListN.{getD}
 use Rattle.ac.specs.Rows.{Groups}
 use Rattle.ac.specs.Keys.{layout, Fits}
 use Rattle.table.specs.Masks.{Marked}
-use Rattle.table.specs.declared.masks.Masks.{Masks}
 use Rattle.keys.specs.Reach.{InTuple, Weighs}
 use Rattle.keys.specs.Candidates.{fills, LeastWithin, found, nothing}
 use Rattle.keys.specs.declared.Next.{Next}
@@ -47,39 +46,39 @@ mask-on tuple mask {key} packed small within =
     let same : key / 65536 ≡ tuple = omega arith in
     omega (arith, within .0, within .1, same, ap (λ (n : ℕ). n * 65536) same)
 
-module _ (m : Masks) (tuple from : ℕ) where
+module _ (reaching : List ℕ) (unbalanced places balanced tuple from : ℕ) where
   -- it is so of all groups that the masks are of
   abbrev OfTheirGroups : (Groups → Type 0) → Type 0
   OfTheirGroups So =
-      (G : Groups) → Marked (m .reaching) (m .unbalanced) (m .places) G → Fits layout G → So G
+      (G : Groups) → Marked reaching unbalanced places G → Fits layout G → So G
 
   -- the masks from the first on to before this one miss a place
   abbrev pub Missed : ℕ → Type 0
   Missed mask = OfTheirGroups (λ G. (other : ℕ) → tuple * 65536 + from ≤ other → other < tuple * 65536 + mask
-      → fills G (m .places) other ≡ false)
+      → fills G places other ≡ false)
 
   -- what was tried of a tuple
   abbrev Tried : Next → Type 0
-  Tried next = OfTheirGroups (λ G. LeastWithin (fills G (m .places)) (tuple * 65536 + from)
-      (tuple * 65536 + 2 ^ getD (m .sizes) 0 0) next)
+  Tried next = OfTheirGroups (λ G. LeastWithin (fills G places) (tuple * 65536 + from)
+      (tuple * 65536 + 2 ^ balanced) next)
 
   pub missed-none : Missed from
   missed-none G marked fits other above below = absurd (omega arith)
 
   module _ (mask : ℕ) {key first : ℕ} (missed : Missed mask) (packed : key ≡ tuple * 65536 + mask)
-      (weighed : OfTheirGroups (λ G. Weighs (fills G (m .places)) key first)) where
+      (weighed : OfTheirGroups (λ G. Weighs (fills G places) key first)) where
     -- those that a missed place passes over miss it too
     pub missed-more : key ≤ first → Missed (mask + (first - key))
     missed-more from-on G marked fits other above below = go (decLt other (tuple * 65536 + mask))
       where
-        go : Dec (other < tuple * 65536 + mask) → fills G (m .places) other ≡ false
+        go : Dec (other < tuple * 65536 + mask) → fills G places other ≡ false
         go (yes before) = missed G marked fits other above before
         go (no beyond) = weighed G marked fits .none-before other (omega arith) (omega arith)
 
-    pub missed-found : first ≡ key → mask < 2 ^ getD (m .sizes) 0 0 → from ≤ mask → Tried (Key key)
+    pub missed-found : first ≡ key → mask < 2 ^ balanced → from ≤ mask → Tried (Key key)
     missed-found itself low above G marked fits =
         found {key = key} (omega arith) (omega arith) (weighed G marked fits .itself itself)
         (λ other from-on before. missed G marked fits other from-on (omega (arith, before)))
 
-  pub missed-all : {mask : ℕ} → Missed mask → 2 ^ getD (m .sizes) 0 0 ≤ mask → Tried None
+  pub missed-all : {mask : ℕ} → Missed mask → 2 ^ balanced ≤ mask → Tried None
   missed-all missed end G marked fits = nothing (λ other above below. missed G marked fits other above (omega arith))

@@ -231,7 +231,8 @@ pub step-nothing : {m : Masks} {start : ℕ} → Coherent m → bit (getD (m .ch
     → OfTheirList m (λ keys. NextFrom keys start None)
 step-nothing {m} coherent cannot t its M L R full of = nothing (λ other mem.
     let listed = listed-reached its full of mem in
-    absurd (false≢true (sym (left-none m 0 coherent (omega arith) (missing-all m 0) cannot (its .sized) (its .marked)
+    absurd (false≢true (sym (left-none (m .reaching) (m .places) (m .unreached) 0 (coherent .constants-fit)
+    (coherent .sets) (omega arith) (missing-all (m .reaching) (m .places) (m .unreached) 0) cannot (its .sized) (its .marked)
     (table-fits (of .within)) other (no-block (listed .0 .no-bit-above)) (listed .0)) ∙ listed .1)))
   where
     no-block : {other : ℕ} → other < 2 ^ 32 → other / 2 ^ 32 ≡ 0 / 2 ^ 32

@@ -1,11 +1,12 @@
 // Keys of a solved pair: packed and taken apart by shifts and masks, weighed, and found on the list (document
 // 01, "From sides to equations").
 ghost use mathlib.Core.Path.{_≡_};
-ghost use Prim.Native.Nat.{_+_, _*_, _/_, _^_, _<_, _≤_};
+ghost use mathlib.Core.List.{List};
+ghost use Prim.Native.Nat.{ℕ, _+_, _*_, _/_, _^_, _<_, _≤_};
 ghost use lib.ListN.{getD};
 ghost use Rattle.ac.specs.Rows.{Groups};
 ghost use Rattle.ac.specs.Keys.{layout, bit, fieldAt, Fits};
-ghost use Rattle.table.specs.Masks.{Sized, Marked, Coherent};
+ghost use Rattle.table.specs.Masks.{Sized, Marked, SetsOf, Coherent};
 ghost use Rattle.keys.specs.Candidates.{Stands, fieldLimit, fills, NoneInBlock, LeastWithin};
 ghost use Rattle.keys.specs.List.{OfTheirList, NextFrom, FoundOf};
 ghost use Rattle.keys.specs.Reach.{takesAny, reaches, NoRowBelow, InTuple, Weighs};
@@ -227,16 +228,23 @@ pub enum Next {
 
 // The least admissible key of a tuple from a mask on: the sets of balanced rows are taken in the order of their
 // masks, and those that miss a place are passed over.
-fn least_of_tuple(masks: Masks, tuple: u32, from: u32) -> Next
-    requires { ⌜ Coherent masks × (tuple < 65536) × (from < 2 ^ layout .rows) ⌝ }
-    ensures { λ r. ⌜ ((G : Groups) → Marked (masks .reaching) (masks .unbalanced) (masks .places) G → Fits layout G
-        → LeastWithin (fills G (masks .places)) (tuple * 2 ^ layout .rows + from) (tuple * 2 ^ layout .rows + 2 ^ getD (masks .sizes) 0 0) r) ⌝ }
+fn least_of_tuple(
+    reaching: &[u64; 30],
+    unbalanced: usize,
+    places: usize,
+    balanced: usize,
+    tuple: u32,
+    from: u32,
+) -> Next
+    requires { ⌜ (unbalanced ≤ 4) × (places ≤ 6) × (balanced ≤ layout .rows) ⌝ }
+    requires { ⌜ (tuple < 65536) × (from < 2 ^ layout .rows) ⌝ }
+    ensures { λ r. ⌜ ((G : Groups) → Marked (now (reaching .entry)) unbalanced places G → Fits layout G
+        → LeastWithin (fills G places) (tuple * 2 ^ layout .rows + from) (tuple * 2 ^ layout .rows + 2 ^ balanced) r) ⌝ }
 {
-    let balanced = masks.sizes[0];
     let mut mask = from;
     while mask >> balanced == 0 {
         let key = pack(tuple, mask);
-        let first = weigh(&masks.reaching, masks.unbalanced, masks.places, key);
+        let first = weigh(reaching, unbalanced, places, key);
         if first == key as u64 {
             return Next::Key(key);
         }
@@ -248,20 +256,27 @@ fn least_of_tuple(masks: Masks, tuple: u32, from: u32) -> Next
 // How many bits the widest block has that is left with the key's tuple. The row indexes are fixed one after the
 // other: once rows of the later constants cannot reach together what is still missing, no key with the indexes so
 // far is admissible.
-fn left_bits(masks: Masks, key: u32) -> usize
-    requires { ⌜ Coherent masks ⌝ }
+fn left_bits<'a>(
+    reaching: &'a [u64; 30],
+    choices: &'a [u64; 5],
+    unbalanced: usize,
+    places: usize,
+    unreached: usize,
+    key: u32,
+) -> usize
+    requires { ⌜ (unbalanced ≤ 4) × (places ≤ 6) × (unreached < 64) ⌝ }
     ensures { λ r. ⌜ (layout .rows ≤ r) × (r ≤ 32) ⌝ }
-    ensures { λ r. ⌜ ((G : Groups) → Sized (masks .sizes) (masks .unbalanced) G → Marked (masks .reaching) (masks .unbalanced) (masks .places) G
-        → Fits layout G → layout .rows < r → NoneInBlock G (masks .places) key r) ⌝ }
+    ensures { λ r. ⌜ ((sizes : List ℕ) → SetsOf (now (reaching .entry)) sizes unbalanced places unreached (now (choices .entry))
+        → (G : Groups) → Sized sizes unbalanced G → Marked (now (reaching .entry)) unbalanced places G → Fits layout G
+        → layout .rows < r → NoneInBlock G places key r) ⌝ }
 {
-    let mut missing = masks.unreached;
+    let mut missing = unreached;
     let mut g: usize = 0;
-    while g < masks.unbalanced {
+    while g < unbalanced {
         let index = index_at(key, g);
-        missing &= missed_by(&masks.reaching, masks.places, g + 1, 1 << index);
+        missing &= missed_by(reaching, places, g + 1, 1 << index);
         g += 1;
-        let sets = masks.choices[g];
-        if !has_bit(sets, missing) {
+        if !has_bit(choices[g], missing) {
             return MASK_BITS + INDEX_BITS * (CONSTANTS - g);
         }
     }
@@ -275,23 +290,44 @@ pub fn least_listed(masks: Masks, from: u64) -> Next
     ensures { λ r. ⌜ OfTheirList masks (λ keys. NextFrom keys from r) ⌝ }
 {
     let sets = masks.choices[0];
-    if !has_bit(sets, masks.unreached) {
+    let unreached = masks.unreached;
+    if !has_bit(sets, unreached) {
         return Next::None;
     }
+    let places = masks.places;
+    let unbalanced = masks.unbalanced;
+    let balanced = masks.sizes[0];
     let mut at = from;
     while at < KEYS {
         let key = at as u32;
-        let standing = stands(&masks.sizes, masks.unbalanced, key);
+        let standing = stands(&masks.sizes, unbalanced, key);
         match standing {
             Standing::NoneBefore(later) => {
                 at = later;
             }
             Standing::Candidate => {
-                let least = least_of_tuple(masks, key >> MASK_BITS, key & LOW_MASK);
+                let tuple = key >> MASK_BITS;
+                let mask = key & LOW_MASK;
+                let least = least_of_tuple(
+                    &masks.reaching,
+                    unbalanced,
+                    places,
+                    balanced,
+                    tuple,
+                    mask,
+                );
                 if let Next::Key(found) = least {
                     return Next::Key(found);
                 }
-                at = block_end(key, left_bits(masks, key));
+                let bits = left_bits(
+                    &masks.reaching,
+                    &masks.choices,
+                    unbalanced,
+                    places,
+                    unreached,
+                    key,
+                );
+                at = block_end(key, bits);
             }
         }
     }

@@ -11,6 +11,11 @@ use lib.Dec.{ltb, eqb}
 use lib.Pow.{pow-pos, pow-mono, pow-add, field, low, high, shl-exact, shl-shr, shr-shr, mod-mod-pow}
 use Rattle.ac.specs.Keys.{bit}
 
+-- what is not true is false
+pub not-so : (b : Bool) → (b ≡ true → ⊥) → b ≡ false
+not-so true never = absurd (never refl)
+not-so false never = refl
+
 -- a bit is told by the low part in which it stands, and a high part by one that begins lower
 pub bit-of-low : (n : ℕ) {w i : ℕ} → i < w → bit n i ≡ bit (n % 2 ^ w) i
 bit-of-low n {w} {i} h = ap (λ k. eqb k 1) (sym (field n 1 i) ∙ ap (λ k. k / 2 ^ i) lower ∙ field (n % 2 ^ w) 1 i)

@@ -2,8 +2,8 @@
 use Prim.Native.Nat.{ℕ, _+_, _-_, _*_, _%_, _^_, _<_, _≤_}
 use native.Mathlib.Omega.{arith}
 use native.Mathlib.Decide.{decLt}
-use mathlib.Core.Path.{_≡_, refl, sym, _∙_, ap, subst}
-use mathlib.Core.Bool.{Bool, true, false, _&&_, _||_, false≢true, or-true, and-eq-true-iff}
+use mathlib.Core.Path.{_≡_, sym, _∙_, ap, subst}
+use mathlib.Core.Bool.{true, false, _&&_, _||_, false≢true, or-true, and-eq-true-iff}
 use mathlib.Core.List.{List}
 use borrow.Author.Tests.{eqb-true}
 use lib.Bits.{bitAnd, bitOr, and-le-l}
@@ -13,7 +13,7 @@ use lib.Seq.{getD-set-same, getD-set-other}
 use Rattle.ac.specs.Keys.{bit}
 use Rattle.table.specs.Choices.{ReachedFrom, Indexes, Complete, WithRow}
 use Rattle.table.specs.Masks.{MissedBy}
-use Rattle.table.proofs.Bits.{bit-and, bit-or, power-bit, no-bit-zero, no-bit-from}
+use Rattle.table.proofs.Bits.{not-so, bit-and, bit-or, power-bit, no-bit-zero, no-bit-from}
 
 -- a number has a bit that both have
 pub both-bits : (a b i : ℕ) → bit (bitAnd a b) i ≡ true → (bit a i ≡ true) × (bit b i ≡ true)
@@ -126,11 +126,8 @@ module _ (reaching : List ℕ) (g largest later : ℕ) where
 pub complete-last : (reaching sizes : List ℕ) (unbalanced : ℕ) {largest : ℕ} → largest < 64
     → Complete reaching sizes unbalanced largest unbalanced 1
 complete-last reaching sizes unbalanced few s small index within reached =
-    ap (bit 1) (no-bit-zero 6 s (omega arith) (λ p h. go p (bit s p) refl))
-  where
-    go : (p : ℕ) (b : Bool) → bit s p ≡ b → bit s p ≡ false
-    go p false e = e
-    go p true e = let r = reached p e in absurd (omega (arith, r .from-on, r .unbalanced-one))
+    ap (bit 1) (no-bit-zero 6 s (omega arith) (λ p h. not-so (bit s p) (λ e.
+    let r = reached p e in absurd (omega (arith, r .from-on, r .unbalanced-one)))))
 
 -- the last number alone, and one number further down
 pub complete-start : (So : ℕ → ℕ → Type 0) (l : List ℕ) (top v : ℕ) → top < length l → So top v

@@ -51,12 +51,17 @@ abbrev pub MissedBy : List ℕ → ℕ → ℕ → ℕ → ℕ → Type 0
 MissedBy reaching places g rows set =
     (p : ℕ) → bit set p ≡ (ltb p places && eqb (bitAnd (getD reaching (6 * g + p) 0) rows) 0)
 
+-- the places that no balanced row reaches, and for each number sets of them: all that rows of the constants from
+-- that number on reach together are among them
+pub record SetsOf (reaching sizes : List ℕ) (unbalanced places unreached : ℕ) (choices : List ℕ) : Type 0 where
+  pub the-unreached : MissedBy reaching places 0 65535 unreached
+  pub the-choices : (g : ℕ) → g ≤ unbalanced
+      → Complete reaching sizes unbalanced unreached g (getD choices g 0)
+
 -- the numbers in the masks are within their room, and the sets of places are as the masks say
 pub record Coherent (m : Masks) : Type 0 where
   pub places-fit : m .places ≤ 6
   pub constants-fit : m .unbalanced ≤ 4
   pub sizes-fit : (g : ℕ) → getD (m .sizes) g 0 ≤ 16
   pub unreached-fits : m .unreached < 64
-  pub the-unreached : MissedBy (m .reaching) (m .places) 0 65535 (m .unreached)
-  pub the-choices : (g : ℕ) → g ≤ m .unbalanced
-      → Complete (m .reaching) (m .sizes) (m .unbalanced) (m .unreached) g (getD (m .choices) g 0)
+  pub sets : SetsOf (m .reaching) (m .sizes) (m .unbalanced) (m .places) (m .unreached) (m .choices)

@@ -26,8 +26,8 @@ pub struct Masks {
     pub reaching: [u64; 30],
     // the places that no balanced row reaches, as a set: bit p is place p
     pub unreached: usize,
-    // the sets of such places that rows of the constants from number g on, one of each, can reach together: bit
-    // s of number g is the set s
+    // for each number g sets of such places, bit s for the set s: all that rows of the constants from number g
+    // on, one of each, can reach together
     pub choices: [u64; 5],
 }
 

@@ -10,51 +10,45 @@ use Rattle.keys.proofs.left_bits.Statement.{statement}
 use Rattle.keys.proofs.left_bits.Tie as tie
 
 abbrev Inv-loop : tie.InvT-loop
-Inv-loop key masks missing₀ g₀ missing g = (g ≤ masks .unbalanced) × Missing masks key g missing
+Inv-loop reaching choices unbalanced places unreached key missing₀ g₀ missing g =
+    (g ≤ unbalanced) × Missing reaching places unreached key g missing
 
 abbrev μ-loop : tie.MeasureT-loop
-μ-loop key masks missing₀ g₀ missing g = masks .unbalanced - g
+μ-loop reaching choices unbalanced places unreached key missing₀ g₀ missing g = unbalanced - g
 
 loop-holds : tie.Need-loop-holds Inv-loop μ-loop
-loop-holds c = (omega arith, missing-all (c .args .t1) (c .args .key))
+loop-holds c =
+    let a = c .args in
+    (omega arith, missing-all (a .reaching .now) (a .places) (a .unreached) (a .key))
 
 index-at-requires : tie.Need-index-at-requires Inv-loop μ-loop
-index-at-requires c κs = omega (arith, c .before .before .pre .constants-fit)
+index-at-requires c κs = omega arith
 
 add-missed-by : tie.Need-add-missed-by Inv-loop μ-loop
-add-missed-by c = omega (arith, c .before .before .before .before .before .pre .constants-fit)
+add-missed-by c = omega arith
 
 shl-missed-by : tie.Need-shl-missed-by Inv-loop μ-loop
-shl-missed-by c = omega (arith, c .before .before .index-at .ensures)
+shl-missed-by c = omega (arith, c .index-at .ensures)
 
 missed-by-requires : tie.Need-missed-by-requires Inv-loop μ-loop
-missed-by-requires c κs =
-    let fit = c .before .before .before .before .before .pre in
-    (omega (arith, fit .constants-fit), fit .places-fit)
+missed-by-requires c κs = omega arith
 
 add-g : tie.Need-add-g Inv-loop μ-loop
-add-g c = omega (arith, c .before .before .before .before .before .before .pre .constants-fit)
+add-g c = omega arith
 
-mul-sets : tie.Need-mul-sets Inv-loop μ-loop
-mul-sets c = omega (arith, c .before .before .before .before .before .before .pre .constants-fit)
+mul-has-bit : tie.Need-mul-has-bit Inv-loop μ-loop
+mul-has-bit c = omega arith
 
-element-copy-out-sets : tie.Need-element-copy-out-sets Inv-loop μ-loop
-element-copy-out-sets c = omega (arith, c .before .before .before .before .before .before .pre .constants-fit)
+element-copy-out-has-bit : tie.Need-element-copy-out-has-bit Inv-loop μ-loop
+element-copy-out-has-bit c = omega arith
 
 has-bit-requires : tie.Need-has-bit-requires Inv-loop μ-loop
 has-bit-requires c κs =
-    let at = c .before .before .before .before .before .before in
-    omega (
-      arith,
-      and-le-l (at .loop .missing) (c .before .missed-by .result),
-      at .loop .inv .1 .small,
-      at .before .pre .unreached-fits,
-    )
+    let at = c .before .before .before .before .loop in
+    omega (arith, and-le-l (at .missing) (c .before .missed-by .result), at .inv .1 .small)
 
 sub-result : tie.Need-sub-result Inv-loop μ-loop
-sub-result c =
-    let index = c .before .before .before .before .before .before in
-    omega (arith, index .before .before .before .pre .constants-fit)
+sub-result c = omega arith
 
 mul-result : tie.Need-mul-result Inv-loop μ-loop
 mul-result c = omega arith
@@ -64,15 +58,16 @@ add-result c = omega arith
 
 returns : tie.Need-returns Inv-loop μ-loop
 returns c =
-    let index = c .before .before .before .before .before .before in
-    let at = index .before .before in
-    let row = c .before .before .before .missed-by in
-    let entry = at .before in (
+    let index = c .before .before .before .before in
+    let at = index .before .before .loop in
+    let a = index .before .before .before .args in
+    let row = c .before .before .before .missed-by in (
       (omega arith, omega arith),
-      λ G sized marked fits wide. left-none (entry .args .t1) (entry .args .key) (entry .pre) (omega arith)
-          (missing-more (entry .args .t1) (entry .args .key) (at .loop .g) (at .loop .missing)
+      λ sizes sets G sized marked fits wide.
+          left-none (a .reaching .now) (a .places) (a .unreached) (a .key) (omega arith) sets (omega arith)
+          (missing-more (a .reaching .now) (a .places) (a .unreached) (a .key) (at .g) (at .missing)
           (index .index-at .result) (row .result) (omega (arith, index .index-at .ensures)) (index .index-at .ensures)
-          (at .loop .inv .1) (row .ensures .0))
+          (at .inv .1) (row .ensures .0))
           (sym (c .before .has-bit .ensures) ∙ not-true _ (c .if1 .taken)) sized marked fits,
     )
 
@@ -81,17 +76,18 @@ loop-less c = omega arith
 
 loop-again : tie.Need-loop-again Inv-loop μ-loop
 loop-again c =
-    let index = c .before .before .before .before .before .before in
-    let at = index .before .before in
+    let index = c .before .before .before .before in
+    let at = index .before .before .loop in
+    let a = index .before .before .before .args in
     let row = c .before .before .before .missed-by in (
       omega arith,
-      missing-more (at .before .args .t1) (at .before .args .key) (at .loop .g) (at .loop .missing)
+      missing-more (a .reaching .now) (a .places) (a .unreached) (a .key) (at .g) (at .missing)
           (index .index-at .result) (row .result) (omega (arith, index .index-at .ensures)) (index .index-at .ensures)
-          (at .loop .inv .1) (row .ensures .0),
+          (at .inv .1) (row .ensures .0),
     )
 
 returns-2 : tie.Need-returns-2 Inv-loop μ-loop
-returns-2 c = ((omega arith, omega arith), λ G sized marked fits wide. absurd (omega arith))
+returns-2 c = ((omega arith, omega arith), λ sizes sets G sized marked fits wide. absurd (omega arith))
 
 pub left-bits-spec : {M : Type 1} → statement M
 left-bits-spec =
@@ -105,8 +101,8 @@ left-bits-spec =
     shl-missed-by
     missed-by-requires
     add-g
-    mul-sets
-    element-copy-out-sets
+    mul-has-bit
+    element-copy-out-has-bit
     has-bit-requires
     sub-result
     mul-result

@@ -40,12 +40,16 @@ loop-again c =
     let next = c .before .first-reaching .ensures in (
       omega arith,
       ⊎-elim
-          (λ w. subst (To (a .reaching .now) (a .unbalanced) (a .key) (at .place + 1)) (sym (w .1))
-          (next .0, places-farther (a .reaching .now) (a .unbalanced) _ (at .place) (at .inv .1 .1) (next .1)
-          (at .inv .1 .0 .0) (w .0 .taken)))
-          (λ w. subst (To (a .reaching .now) (a .unbalanced) (a .key) (at .place + 1)) (sym (w .1))
-          (at .inv .1 .0, places-kept (a .reaching .now) (a .unbalanced) _ (at .place) (at .inv .1 .1) (next .1)
-          (next .0 .0) (w .0 .left)))
+          (λ w. subst (To (a .reaching .now) (a .unbalanced) (a .key) (at .place + 1)) (sym (w .1)) (
+            next .0,
+            places-farther (a .reaching .now) (a .unbalanced) _ (at .place) (at .inv .1 .1) (next .1)
+                (at .inv .1 .0 .0) (w .0 .taken),
+          ))
+          (λ w. subst (To (a .reaching .now) (a .unbalanced) (a .key) (at .place + 1)) (sym (w .1)) (
+            at .inv .1 .0,
+            places-kept (a .reaching .now) (a .unbalanced) _ (at .place) (at .inv .1 .1) (next .1)
+                (next .0 .0) (w .0 .left),
+          ))
           (c .if1 .came),
     )
 

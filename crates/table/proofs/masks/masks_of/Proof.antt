@@ -25,8 +25,7 @@ returns c =
         constants-fit = within .constants-fit;
         sizes-fit = within .sizes-fit;
         unreached-fits = missed .missed-by .ensures .1;
-        the-unreached = missed .missed-by .ensures .0;
-        the-choices = c .choices-of .ensures;
+        sets = record { the-unreached = missed .missed-by .ensures .0; the-choices = c .choices-of .ensures };
       },
     )
 

@@ -1,7 +1,7 @@
 -- Candidates place by place, and that between a field that is too large and the end of its block there is none.
 use Prim.Native.Nat.{ℕ, suc, _+_, _-_, _*_, _/_, _%_, _^_, _<_, _≤_}
 use native.Mathlib.Omega.{arith}
-use native.Mathlib.Nat.{div-lt-iff-lt-mul, mul-le-mul-right, mod-lt}
+use native.Mathlib.Nat.{div-lt-iff-lt-mul, mul-le-mul-right, mul-assoc, mod-lt}
 use native.Mathlib.Numerals.{add-one}
 use native.Mathlib.Decide.{decLt}
 use mathlib.Core.Path.{_≡_, sym, _∙_, ap, subst}
@@ -9,11 +9,12 @@ use mathlib.Core.Bool.{cond}
 use mathlib.Core.List.{List}
 use borrow.Author.Tests.{lt-ltb, le-ltb}
 use lib.ListN.{length, getD}
-use lib.Pow.{pow-pos, pow-add, split, shr-shr, shr-mono, shr-lt}
+use lib.Pow.{pow-pos, pow-add, split, shr-shr, shr-mono}
 use Rattle.ac.specs.Rows.{Groups, rowsAt}
 use Rattle.ac.specs.Keys.{layout, fieldAt, Candidate, Fits}
 use Rattle.ac.proofs.Fields.{candidate-places, places-candidate}
-use Rattle.list.specs.Candidates.{Sized, fieldLimit}
+use Rattle.table.specs.Masks.{Sized}
+use Rattle.list.specs.Candidates.{fieldLimit}
 
 -- the end of a block of 2 ^ bits numbers
 abbrev pub blockEnd : ℕ → ℕ → ℕ
@@ -27,15 +28,30 @@ pub same-block : {key other : ℕ} (bits : ℕ) → key ≤ other → other < bl
     → other / 2 ^ bits ≡ key / 2 ^ bits
 same-block {key} {other} bits le lt = omega (arith, shr-mono bits le, div-lt-iff-lt-mul (pow-pos bits) .1 lt)
 
+-- a block ends where a number that is a multiple of its size and above the key does, or before
+block-end-multiple : (key bits n : ℕ) → key < n * 2 ^ bits → blockEnd key bits ≤ n * 2 ^ bits
+block-end-multiple key bits n less =
+    let next : key / 2 ^ bits + 1 ≤ n = omega (arith, div-lt-iff-lt-mul (pow-pos bits) .1 less) in
+    mul-le-mul-right (2 ^ bits) next
+
+-- a block ends in the larger block in which it lies
+pub block-end-inside : (key : ℕ) {inner outer : ℕ} → inner ≤ outer → blockEnd key inner ≤ blockEnd key outer
+block-end-inside key {inner} {outer} h =
+    subst (λ (n : ℕ). blockEnd key inner ≤ n) (sym whole)
+    (block-end-multiple key inner ((key / 2 ^ outer + 1) * 2 ^ (outer - inner))
+    (subst (λ (n : ℕ). key < n) whole (below-block-end key outer)))
+  where
+    whole : blockEnd key outer ≡ (key / 2 ^ outer + 1) * 2 ^ (outer - inner) * 2 ^ inner
+    whole =
+        ap (λ (n : ℕ). (key / 2 ^ outer + 1) * 2 ^ n) (let e : outer ≡ (outer - inner) + inner = omega arith in e)
+        ∙ ap (λ (n : ℕ). (key / 2 ^ outer + 1) * n) (pow-add 2 (outer - inner) inner)
+        ∙ sym (mul-assoc (key / 2 ^ outer + 1) (2 ^ (outer - inner)) (2 ^ inner))
+
 -- the last block ends with the keys
 pub block-end-within : (key bits : ℕ) → key < 2 ^ 32 → bits ≤ 32 → blockEnd key bits ≤ 2 ^ 32
 block-end-within key bits fits within =
-    let whole : 32 ≡ (32 - bits) + bits = omega arith in
-    let below : key / 2 ^ bits < 2 ^ (32 - bits) =
-    shr-lt (32 - bits) bits (subst (λ (n : ℕ). key < 2 ^ n) whole fits) in
-    let next : key / 2 ^ bits + 1 ≤ 2 ^ (32 - bits) = omega arith in
-    subst (λ (n : ℕ). blockEnd key bits ≤ n) (sym (ap (λ (n : ℕ). 2 ^ n) whole ∙ pow-add 2 (32 - bits) bits))
-    (mul-le-mul-right (2 ^ bits) next)
+    let first : key / 2 ^ 32 ≡ 0 = omega arith in
+    omega (arith, block-end-inside key within)
 
 -- within a block a field that reaches up to the block's width does not fall
 pub field-rises : {key other : ℕ} (at width : ℕ) → key ≤ other → other / 2 ^ (at + width) ≡ key / 2 ^ (at + width)

@@ -4,6 +4,8 @@ pub mod Runs
 pub mod Reach
 pub mod Candidates
 pub mod Table
+pub mod Weighing
+pub mod Leaving
 pub mod Tuples
 pub mod Walk
 pub mod Given

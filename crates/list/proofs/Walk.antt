@@ -9,97 +9,101 @@ use lib.ListN.{length, getD}
 use lib.Pow.{pow-pos}
 use Rattle.ac.specs.Pair.{Mode}
 use Rattle.ac.specs.Rows.{Groups}
-use Rattle.ac.specs.Selection.{Within as IndexesWithin, allReached, taken}
-use Rattle.ac.specs.Keys.{layout, keys, fieldsOf, selectionAt, Candidate, Fits}
+use Rattle.ac.specs.Selection.{Within as IndexesWithin, allReached, taken, admissible}
+use Rattle.ac.specs.Keys.{layout, bit, keys, fieldsOf, selectionAt, Candidate, Fits}
 use Rattle.ac.specs.Pages.{LeastFrom, NoneFrom}
 use Rattle.ac.proofs.Taken.{admissible-reaches}
 use Rattle.ac.proofs.Listed.{listed-candidates, keys-below}
 use Rattle.table.specs.Table.{groupsIn, InRoom, TableOf}
+use Rattle.table.specs.Masks.{Sized, Marked, MasksOf, Coherent}
 use Rattle.table.specs.declared.Table.{Table}
+use Rattle.table.specs.declared.masks.Masks.{Masks}
 use Rattle.list.specs.declared.Standing.{Standing}
 use Rattle.list.specs.declared.Standing.the-variants.{Candidate as IsCandidate, NoneBefore}
 use Rattle.list.specs.declared.Next.{Next}
 use Rattle.list.specs.declared.Next.the-variants.{Key, None}
-use Rattle.list.specs.Candidates.{Sized, Stands, on-candidate, between, fills, HasTuple, LeastWithin}
+use Rattle.list.specs.Candidates.{Stands, on-candidate, between, fills, NoneInBlock, LeastWithin}
 use Rattle.list.specs.Candidates as within
-use Rattle.list.specs.List.{OfItsList, NextFrom, found, nothing}
+use Rattle.list.specs.List.{OfTheirList, NextFrom, found, nothing}
 use Rattle.list.proofs.Candidates.{blockEnd, below-block-end, same-block}
+use Rattle.list.proofs.Leaving.{missing-all, left-none}
 use Rattle.list.proofs.Tuples.{mask-fits}
-use Rattle.list.proofs.Table.{table-sized, table-fits}
+use Rattle.list.proofs.Table.{table-fits}
 
 -- no listed key stands from the one number to before the other
-abbrev pub Passed : Table → ℕ → ℕ → Type 0
-Passed t start at = OfItsList t (λ keys. (other : ℕ) → List·Memᴰ other keys → start ≤ other → at ≤ other)
+abbrev pub Passed : Masks → ℕ → ℕ → Type 0
+Passed m start at = OfTheirList m (λ keys. (other : ℕ) → List·Memᴰ other keys → start ≤ other → at ≤ other)
 
-pub passed-none : (t : Table) (start : ℕ) → Passed t start start
-passed-none t start M L R full of other m h = h
+pub passed-none : (m : Masks) (start : ℕ) → Passed m start start
+passed-none m start t its M L R full of other mem h = h
 
 -- the walk from the one number has come to the other
-pub record Walked (t : Table) (start at : ℕ) : Type 0 where
+pub record Walked (m : Masks) (start at : ℕ) : Type 0 where
   pub above : start ≤ at
-  pub passed : Passed t start at
+  pub passed : Passed m start at
 
-module _ {t : Table} {M : Mode} {L R : List ℕ} (full : M .empties ≡ false) (of : TableOf M L R t) where
+module _ {m : Masks} {t : Table} (its : MasksOf (groupsIn t) (t .places) m) {M : Mode} {L R : List ℕ}
+    (full : M .empties ≡ false) (of : TableOf M L R t) where
+  -- admissible is that the taken rows reach as many places as there are
+  admissible-fills : (key : ℕ) → admissible M (layout .new) L R (groupsIn t) (selectionAt layout (groupsIn t) key)
+      ≡ fills (groupsIn t) (m .places) key
+  admissible-fills key =
+      admissible-reaches M (layout .new) L R (groupsIn t) (selectionAt layout (groupsIn t) key) full
+      ∙ ap (allReached (taken (layout .new) (groupsIn t) (selectionAt layout (groupsIn t) key)))
+      (sym (its .the-places ∙ of .the-places))
+
   -- a listed key is a candidate whose places are all reached, and the other way round
   listed-reached : {key : ℕ} → List·Memᴰ key (keys M layout L R (groupsIn t))
-      → Candidate layout (groupsIn t) key × (fills (groupsIn t) (t .places) key ≡ true)
-  listed-reached {key} m =
-      let h = listed-candidates (table-fits (of .within)) M L R .0 m in (
-        h .0,
-        ap (allReached (taken (layout .new) (groupsIn t) (selectionAt layout (groupsIn t) key))) (of .the-places)
-            ∙ sym (admissible-reaches M (layout .new) L R (groupsIn t) (selectionAt layout (groupsIn t) key)
-            full) ∙ h .1,
-      )
+      → Candidate layout (groupsIn t) key × (fills (groupsIn t) (m .places) key ≡ true)
+  listed-reached {key} mem =
+      let h = listed-candidates (table-fits (of .within)) M L R .0 mem in
+      (h .0, sym (admissible-fills key) ∙ h .1)
 
   reached-listed : {key : ℕ} → Candidate layout (groupsIn t) key
-      → fills (groupsIn t) (t .places) key ≡ true → List·Memᴰ key (keys M layout L R (groupsIn t))
+      → fills (groupsIn t) (m .places) key ≡ true → List·Memᴰ key (keys M layout L R (groupsIn t))
   reached-listed {key} candidate e =
-      listed-candidates (table-fits (of .within)) M L R .1 (
-        candidate,
-        admissible-reaches M (layout .new) L R (groupsIn t) (selectionAt layout (groupsIn t) key) full
-            ∙ sym (ap (allReached (taken (layout .new) (groupsIn t) (selectionAt layout (groupsIn t) key)))
-            (of .the-places)) ∙ e,
-      )
+      listed-candidates (table-fits (of .within)) M L R .1 (candidate, admissible-fills key ∙ e)
 
-module _ {t : Table} {start at : ℕ} (passed : Passed t start at) where
+-- it is so of the groups of every table that the masks are of
+abbrev OfTheirGroups : Masks → (Groups → Type 0) → Type 0
+OfTheirGroups m So = (t : Table) → MasksOf (groupsIn t) (t .places) m → InRoom t → So (groupsIn t)
+
+module _ {m : Masks} {start at : ℕ} (passed : Passed m start at) where
   -- where no candidate before a later number reaches every place, the walk goes on there
-  pub passed-over : {later : ℕ} → ((other : ℕ) → at ≤ other → other < later → Candidate layout (groupsIn t) other
-      → fills (groupsIn t) (t .places) other ≡ false) → Passed t start later
-  passed-over {later} missed M L R full of other m h = go (decLt other later)
+  pub passed-over : {later : ℕ} → OfTheirGroups m (λ G. (other : ℕ) → at ≤ other → other < later
+      → Candidate layout G other → fills G (m .places) other ≡ false) → Passed m start later
+  passed-over {later} missed t its M L R full of other mem h = go (decLt other later)
     where
       go : Dec (other < later) → later ≤ other
       go (yes before) =
-          let reached = listed-reached full of m in
-          absurd (false≢true (sym (missed other (passed M L R full of other m h) before (reached .0)) ∙ reached .1))
+          let reached = listed-reached its full of mem in
+          absurd (false≢true (sym (missed t its (of .within) other (passed t its M L R full of other mem h) before
+          (reached .0)) ∙ reached .1))
       go (no beyond) = omega arith
 
-  -- an admissible candidate is the least listed key from the start on
-  pub passed-found : start ≤ at → Candidate layout (groupsIn t) at
-      → fills (groupsIn t) (t .places) at ≡ true → OfItsList t (λ keys. LeastFrom keys start at)
-  passed-found above candidate e M L R full of =
-      record { on-list = reached-listed full of candidate e; at-or-above = above; least = passed M L R full of }
-
   -- past the highest key there is none
-  pub passed-all : 2 ^ 32 ≤ at → OfItsList t (λ keys. NoneFrom keys start)
-  passed-all end M L R full of other m = go (decLt other start)
+  pub passed-all : 2 ^ 32 ≤ at → OfTheirList m (λ keys. NoneFrom keys start)
+  passed-all end t its M L R full of other mem = go (decLt other start)
     where
       go : Dec (other < start) → other < start
       go (yes before) = before
       go (no above) = absurd (omega (
         arith,
-        passed M L R full of other m (omega arith),
-        keys-below (table-fits (of .within)) M L R m,
+        passed t its M L R full of other mem (omega arith),
+        keys-below (table-fits (of .within)) M L R mem,
       ))
 
-between-none : {G : Groups} {key later : ℕ} → Stands G key (NoneBefore later)
-    → (key < later) × ((other : ℕ) → key ≤ other → other < later → Candidate layout G other → ⊥)
-between-none (between less none) = (less, none)
+between-none : {m : Masks} {key later : ℕ} → Stands (m .sizes) (m .unbalanced) key (NoneBefore later)
+    → (key < later) × OfTheirGroups m (λ G. (other : ℕ) → key ≤ other → other < later → Candidate layout G other → ⊥)
+between-none (between less none) = (less, λ t its within. none (groupsIn t) (its .sized) (table-fits within))
 
-stands-candidate : {G : Groups} {key : ℕ} → Stands G key IsCandidate → Candidate layout G key
-stands-candidate (on-candidate candidate) = candidate
+stands-candidate : {m : Masks} {key : ℕ} → Stands (m .sizes) (m .unbalanced) key IsCandidate
+    → OfTheirGroups m (λ G. Candidate layout G key)
+stands-candidate (on-candidate candidate) t its within = candidate (groupsIn t) (its .sized) (table-fits within)
 
--- a candidate's tuple makes a candidate with every set of balanced rows
-same-tuple : {G : Groups} {key : ℕ} → Fits layout G → Candidate layout G key → HasTuple G (key / 65536)
+-- a candidate's tuple of row indexes makes a candidate with every set of balanced rows
+same-tuple : {G : Groups} {key : ℕ} → Fits layout G → Candidate layout G key → (mask : ℕ)
+    → mask < 2 ^ length (G .balanced) → Candidate layout G (key / 65536 * 65536 + mask)
 same-tuple {G} {key} fits candidate mask low =
     let small : mask < 65536 = mask-fits (fits .few-balanced) low in
     let same : (key / 65536 * 65536 + mask) / 65536 ≡ key / 65536 = omega arith in
@@ -133,94 +137,106 @@ found-within {passes} {from} {end} {key} told e = of-key (subst (LeastWithin pas
     of-key (within.found low high passed before) = (low, high, passed, before)
 
 -- One step of the walk, from what was told of the number that it has come to.
-module _ {t : Table} {start at : ℕ} (within : InRoom t) (walked : Walked t start at) {standing : Standing}
-    (told : (G : Groups) → Sized (t .sizes) (t .unbalanced) G → Fits layout G → Stands G at standing) where
-  here : Stands (groupsIn t) at standing
-  here = told (groupsIn t) (table-sized within) (table-fits within)
-
-  pub step-between : {later : ℕ} → standing ≡ NoneBefore later → (at < later) × Walked t start later
+module _ {m : Masks} {start at : ℕ} (walked : Walked m start at) {standing : Standing}
+    (stood : Stands (m .sizes) (m .unbalanced) at standing) where
+  pub step-between : {later : ℕ} → standing ≡ NoneBefore later → (at < later) × Walked m start later
   step-between {later} e =
-      let h = between-none (subst (Stands (groupsIn t) at) e here) in (
+      let h = between-none {m = m} (subst (Stands (m .sizes) (m .unbalanced) at) e stood) in (
         h .0,
         record {
           above = omega (arith, walked .above, h .0);
-          passed =
-              passed-over (walked .passed) (λ other low high candidate. absurd (h .1 other low high candidate));
+          passed = passed-over (walked .passed)
+              (λ t its within other low high candidate. absurd (h .1 t its within other low high candidate));
         },
       )
 
   -- A candidate's tuple was tried from its mask on.
   module _ (e : standing ≡ IsCandidate) {tuple from : ℕ} (its-tuple : tuple ≡ at / 65536)
       (its-mask : from ≡ at % 65536) {next : Next}
-      (tried : HasTuple (groupsIn t) tuple
-      → LeastWithin (fills (groupsIn t) (t .places)) (tuple * 65536 + from)
-      (tuple * 65536 + 2 ^ getD (t .sizes) 0 0) next) where
-    candidate : Candidate layout (groupsIn t) at
-    candidate = stands-candidate (subst (Stands (groupsIn t) at) e here)
-
-    has-tuple : HasTuple (groupsIn t) tuple
-    has-tuple = subst (HasTuple (groupsIn t)) (sym its-tuple) (same-tuple (table-fits within) candidate)
-
-    least : LeastWithin (fills (groupsIn t) (t .places)) at (tuple * 65536 + 2 ^ getD (t .sizes) 0 0) next
-    least =
+      (tried : (G : Groups) → Marked (m .reaching) (m .unbalanced) (m .places) G → Fits layout G
+      → LeastWithin (fills G (m .places)) (tuple * 65536 + from) (tuple * 65536 + 2 ^ getD (m .sizes) 0 0)
+      next) where
+    least : OfTheirGroups m (λ G. LeastWithin (fills G (m .places)) at (tuple * 65536 + 2 ^ length (G .balanced))
+        next)
+    least t its within =
         let begins : tuple * 65536 + from ≡ at = omega arith in
-        subst (λ (n : ℕ). LeastWithin (fills (groupsIn t) (t .places)) n
-        (tuple * 65536 + 2 ^ getD (t .sizes) 0 0) next) begins
-        (tried has-tuple)
+        subst (λ (n : ℕ). LeastWithin (fills (groupsIn t) (m .places)) at (tuple * 65536 + 2 ^ n) next)
+        (sym (its .sized .a-size-each 0 (omega arith)))
+        (subst (λ (n : ℕ). LeastWithin (fills (groupsIn t) (m .places)) n
+        (tuple * 65536 + 2 ^ getD (m .sizes) 0 0) next) begins
+        (tried (groupsIn t) (its .marked) (table-fits within)))
 
     -- Its masks all miss a place: the walk goes on with the next tuple, since a larger mask has a bit beyond
-    -- the balanced rows.
-    pub step-over : next ≡ None → Walked t start (blockEnd at 16)
-    step-over none =
+    -- the balanced rows; or after a wider block that has none either.
+    pub step-over : {bits : ℕ} → next ≡ None → 16 ≤ bits
+        → ((G : Groups) → Sized (m .sizes) (m .unbalanced) G → Marked (m .reaching) (m .unbalanced) (m .places) G
+        → Fits layout G → 16 < bits → NoneInBlock G (m .places) at bits)
+        → Walked m start (blockEnd at bits)
+    step-over {bits} none whole left =
         record {
-          above = omega (arith, walked .above, below-block-end at 16);
-          passed = passed-over (walked .passed) missed;
+          above = omega (arith, walked .above, below-block-end at bits);
+          passed = passed-over (walked .passed)
+              (λ t its within other low high candidate. missed t its within other low high candidate (decLt 16 bits));
         }
       where
-        all-missed : (other : ℕ) → at ≤ other → other < tuple * 65536 + 2 ^ getD (t .sizes) 0 0
-            → fills (groupsIn t) (t .places) other ≡ false
-        all-missed = none-within least none
-
-        missed : (other : ℕ) → at ≤ other → other < blockEnd at 16 → Candidate layout (groupsIn t) other
-            → fills (groupsIn t) (t .places) other ≡ false
-        missed other low high other-candidate =
-            let sized = table-sized within .a-size-each 0 (omega arith) in
-            all-missed other low
-            (omega (
-              arith,
-              same-block {key = at} {other = other} 16 low high,
-              other-candidate .no-bit-beyond,
-              ap (λ (n : ℕ). 2 ^ n) sized,
-            ))
+        missed : (t : Table) → MasksOf (groupsIn t) (t .places) m → InRoom t → (other : ℕ) → at ≤ other
+            → other < blockEnd at bits → Candidate layout (groupsIn t) other → Dec (16 < bits)
+            → fills (groupsIn t) (m .places) other ≡ false
+        missed t its within other low high candidate (yes wide) =
+            left (groupsIn t) (its .sized) (its .marked) (table-fits within) wide other (same-block bits low high)
+            candidate
+        missed t its within other low high candidate (no narrow) =
+            let tuple-only : bits ≡ 16 = omega arith in
+            let same = same-block {key = at} {other = other} 16 low
+            (subst (λ (n : ℕ). other < blockEnd at n) tuple-only high) in
+            none-within (least t its within) none other low (omega (arith, same, candidate .no-bit-beyond))
 
     -- The first that reaches every place is the least listed key.
-    pub step-found : {key : ℕ} → next ≡ Key key → OfItsList t (λ keys. NextFrom keys start (Key key))
-    step-found {key} e M L R full of =
-        let h = found-within least e in
-        found (passed-found (passed-over (walked .passed)
-        (λ other low high other-candidate. h .3 other low high)) (omega (arith, h .0, walked .above))
-        (subst (Candidate layout (groupsIn t)) (its-place h) (has-tuple (key - tuple * 65536) (few h))) (h .2)
-        M L R full of)
+    pub step-found : {key : ℕ} → next ≡ Key key → OfTheirList m (λ keys. NextFrom keys start (Key key))
+    step-found {key} is-key t its M L R full of =
+        let h = found-within (least t its (of .within)) is-key in
+        found (record {
+          on-list = reached-listed its full of (candidate (h .0) (h .1)) (h .2);
+          at-or-above = omega (arith, walked .above, h .0);
+          least = λ other mem above. before h other mem (walked .passed t its M L R full of other mem above);
+        })
       where
+        candidate : at ≤ key → key < tuple * 65536 + 2 ^ length (groupsIn t .balanced)
+            → Candidate layout (groupsIn t) key
+        candidate low high =
+            let place : at / 65536 * 65536 + (key - tuple * 65536) ≡ key = omega arith in
+            subst (Candidate layout (groupsIn t)) place
+            (same-tuple (table-fits (of .within))
+            (stands-candidate {m = m} (subst (Stands (m .sizes) (m .unbalanced) at) e stood) t its (of .within))
+            (key - tuple * 65536) (omega (arith, pow-pos (length (groupsIn t .balanced)))))
+
         Found : Type 0
-        Found = (at ≤ key) × (key < tuple * 65536 + 2 ^ getD (t .sizes) 0 0)
-            × (fills (groupsIn t) (t .places) key ≡ true)
-            × ((other : ℕ) → at ≤ other → other < key → fills (groupsIn t) (t .places) other ≡ false)
+        Found = (at ≤ key) × (key < tuple * 65536 + 2 ^ length (groupsIn t .balanced))
+            × (fills (groupsIn t) (m .places) key ≡ true)
+            × ((other : ℕ) → at ≤ other → other < key → fills (groupsIn t) (m .places) other ≡ false)
 
-        its-place : Found → tuple * 65536 + (key - tuple * 65536) ≡ key
-        its-place h = omega (arith, h .0)
+        before : Found → (other : ℕ) → List·Memᴰ other (keys M layout L R (groupsIn t)) → at ≤ other → key ≤ other
+        before h other mem low = go (decLt other key)
+          where
+            go : Dec (other < key) → key ≤ other
+            go (yes less) = absurd (false≢true (sym (h .3 other low less) ∙ listed-reached its full of mem .1))
+            go (no more) = omega arith
 
-        few : Found → key - tuple * 65536 < 2 ^ length (groupsIn t .balanced)
-        few h = omega (
-          arith,
-          h .1,
-          ap (λ (n : ℕ). 2 ^ n) (table-sized within .a-size-each 0 (omega arith)),
-          pow-pos (getD (t .sizes) 0 0),
-        )
+pub step-end : {m : Masks} {start at : ℕ} → Walked m start at → 2 ^ 32 ≤ at
+    → OfTheirList m (λ keys. NextFrom keys start None)
+step-end walked end t its M L R full of = nothing (passed-all (walked .passed) end t its M L R full of)
 
-pub step-end : {t : Table} {start at : ℕ} → Walked t start at → 2 ^ 32 ≤ at
-    → OfItsList t (λ keys. NextFrom keys start None)
-step-end walked end M L R full of = nothing (passed-all (walked .passed) end M L R full of)
+-- Where rows of all constants cannot reach together what balanced rows do not, nothing is listed.
+pub step-nothing : {m : Masks} {start : ℕ} → Coherent m → bit (getD (m .choices) 0 0) (m .unreached) ≡ false
+    → OfTheirList m (λ keys. NextFrom keys start None)
+step-nothing {m} coherent cannot t its M L R full of = nothing (λ other mem.
+    let listed = listed-reached its full of mem in
+    absurd (false≢true (sym (left-none (m .reaching) (m .places) (m .unreached) 0 (coherent .constants-fit)
+    (coherent .sets) (omega arith) (missing-all (m .reaching) (m .places) (m .unreached) 0) cannot (its .sized) (its .marked)
+    (table-fits (of .within)) other (no-block (listed .0 .no-bit-above)) (listed .0)) ∙ listed .1)))
+  where
+    no-block : {other : ℕ} → other < 2 ^ 32 → other / 2 ^ 32 ≡ 0 / 2 ^ 32
+    no-block small = omega arith
 
 -- What a next key tells.
 pub next-key : {keys : List ℕ} {bound key : ℕ} {next : Next} → NextFrom keys bound next → next ≡ Key key

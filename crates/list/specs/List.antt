@@ -1,4 +1,4 @@
--- The list of the pair that a table is of, the next key on it, and whether a key is on it.
+-- The list of the pair that a table, or masks, are of, the next key on it, and whether a key is on it.
 use Prim.Native.Nat.{ℕ}
 use mathlib.Core.Path.{_≡_}
 use mathlib.Core.Bool.{false}
@@ -11,7 +11,9 @@ use Rattle.numbers.specs.Order.{keyNumbers}
 use Rattle.numbers.specs.First.{First}
 use Rattle.numbers.specs.declared.Refusal.{Refusal}
 use Rattle.table.specs.Table.{TableOf, groupsIn}
+use Rattle.table.specs.Masks.{MasksOf}
 use Rattle.table.specs.declared.Table.{Table}
+use Rattle.table.specs.declared.masks.Masks.{Masks}
 use Rattle.list.specs.Given.{ListGiven}
 use Rattle.list.specs.declared.Next.{Next}
 use Rattle.list.specs.declared.Next.the-variants.{Key, None}
@@ -25,6 +27,10 @@ OfItsPair table So = (M : Mode) (L R : List ℕ) → M .empties ≡ false → Ta
 
 abbrev pub OfItsList : Table → (List ℕ → Type 0) → Type 0
 OfItsList table So = OfItsPair table (λ M L R. So (keys M layout L R (groupsIn table)))
+
+-- it is so of the list of every pair of every table that the masks are of
+abbrev pub OfTheirList : Masks → (List ℕ → Type 0) → Type 0
+OfTheirList masks So = (table : Table) → MasksOf (groupsIn table) (table .places) masks → OfItsList table So
 
 -- the least key of the list from a number on, or that the list has none
 pub data NextFrom (keys : List ℕ) (from : ℕ) : Next → Type 0 where

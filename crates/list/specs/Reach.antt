@@ -1,13 +1,13 @@
--- Which places a key reaches, entry by entry.
-use Prim.Native.Nat.{ℕ, zero, suc, _+_, _<_}
+-- Which places a key reaches.
+use Prim.Native.Nat.{ℕ, zero, suc, _+_, _*_, _/_, _^_, _<_, _≤_}
 use mathlib.Core.Path.{_≡_}
 use mathlib.Core.Bool.{Bool, true, false, _||_, _&&_}
 use mathlib.Core.List.{List, [], map}
-use lib.Dec.{ltb}
 use lib.ListN.{length, getD, take}
-use Rattle.ac.specs.Rows.{Group, Groups, rowsAt}
+use Rattle.ac.specs.Rows.{Group, Groups}
+use Rattle.ac.specs.Keys.{layout, bit, fieldAt}
+use Rattle.table.specs.Masks.{group}
 use Rattle.table.specs.Table.{rowStart}
-use Rattle.list.specs.Runs.{runCount, timesAt}
 use Rattle.list.specs.declared.Selection.{Selection}
 
 -- some number below n passes the test
@@ -20,11 +20,6 @@ abbrev pub all : ℕ → (ℕ → Bool) → Bool
 all zero test = true
 all (suc n) test = all n test && test n
 
--- the balanced rows are group 0, those of the constants the groups after it
-abbrev pub group : Groups → ℕ → List (List ℕ)
-group G zero = G .balanced
-group G (suc g) = rowsAt (G .constants) g
-
 -- The selection is one of the groups, and the array holds them, each row with an entry for each place.
 pub record Holds (rows : List ℕ) (places : ℕ) (s : Selection) (G : Groups) : Type 0 where
   pub how-many-constants : length (G .constants) ≡ s .unbalanced
@@ -33,6 +28,26 @@ pub record Holds (rows : List ℕ) (places : ℕ) (s : Selection) (G : Groups) :
   pub entries : (g i p : ℕ) → i < length (group G g) → p < places
       → getD (getD (group G g) i []) p 0 ≡ getD rows (rowStart g i + p) 0
 
--- a taken row is above 0 at the place: one of the runs names its atom there
-abbrev pub reaches : List ℕ → Selection → ℕ → Bool
-reaches rows s place = any (runCount s) (λ run. ltb 0 (timesAt rows s place run))
+-- the key takes a balanced row that is one of the mask's
+unfoldable pub takesAny : ℕ → ℕ → Bool
+takesAny rows key = any (layout .rows) (λ i. bit key i && bit rows i)
+
+-- a row that the key takes is above 0 at the place, by the masks: that of a constant, or a balanced one
+abbrev pub reaches : List ℕ → ℕ → ℕ → ℕ → Bool
+reaches reaching unbalanced place key =
+    any unbalanced (λ g. bit (getD reaching (6 * (g + 1) + place) 0) (fieldAt layout key g))
+    || takesAny (getD reaching place 0) key
+
+-- no row below this one is one of the mask's
+abbrev pub NoRowBelow : ℕ → ℕ → Type 0
+NoRowBelow rows lowest = (i : ℕ) → i < lowest → bit rows i ≡ false
+
+-- from the key on, up to the end of the keys that have its row indexes
+abbrev pub InTuple : ℕ → ℕ → Type 0
+InTuple key first = (key ≤ first) × (first ≤ (key / 2 ^ layout .rows + 1) * 2 ^ layout .rows)
+
+-- the first number from the key on that may pass a test: the key itself only if it passes, and none before it
+-- does
+pub record Weighs (passes : ℕ → Bool) (key first : ℕ) : Type 0 where
+  pub itself : first ≡ key → passes key ≡ true
+  pub none-before : (other : ℕ) → key ≤ other → other < first → passes other ≡ false

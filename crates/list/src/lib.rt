@@ -1,22 +1,28 @@
 // Keys of a solved pair: packed and taken apart by shifts and masks, weighed, and found on the list (document
 // 01, "From sides to equations").
 ghost use mathlib.Core.Path.{_≡_};
-ghost use Prim.Native.Nat.{_+_, _*_, _/_, _^_, _<_, _≤_};
+ghost use mathlib.Core.List.{List};
+ghost use Prim.Native.Nat.{ℕ, _+_, _*_, _/_, _^_, _<_, _≤_};
 ghost use lib.ListN.{getD};
 ghost use Rattle.ac.specs.Limits.{limits};
 ghost use Rattle.ac.specs.Rows.{Groups};
-ghost use Rattle.ac.specs.Keys.{layout, bit, fieldAt, Candidate, Fits};
-ghost use Rattle.table.specs.Table.{InRoom, groupsIn};
-ghost use Rattle.list.specs.Candidates.{Sized, Stands, fieldLimit, fills, HasTuple, LeastWithin};
-ghost use Rattle.list.specs.List.{OfItsList, NextFrom, FoundOf};
-ghost use Rattle.list.specs.Reach.{reaches, Holds};
+ghost use Rattle.ac.specs.Keys.{layout, bit, fieldAt, Fits};
+ghost use Rattle.table.specs.Masks.{Sized, Marked, SetsOf, Coherent};
+ghost use Rattle.list.specs.Candidates.{Stands, fieldLimit, fills, NoneInBlock, LeastWithin};
+ghost use Rattle.list.specs.List.{OfTheirList, NextFrom, FoundOf};
+ghost use Rattle.list.specs.Reach.{takesAny, reaches, NoRowBelow, InTuple, Weighs};
 ghost use Rattle.list.specs.Runs.{selectionIn, Fit, runCount, timesAt};
 use buffer::wide;
 use numbers::Refusal;
 use numbers::limits::CONSTANTS;
+use numbers::limits::VARIABLES;
 use table::GROUPS;
 use table::ROWS;
 use table::Table;
+use table::masks::MASKS;
+use table::masks::Masks;
+use table::masks::has_bit;
+use table::masks::missed_by;
 use table::row_start;
 
 // A key has 16 low bits for the balanced rows, and above them 4 fields of 4 bits; the lowest constant's
@@ -99,36 +105,72 @@ pub fn times(rows: &[u8; ROWS], selection: Selection, place: usize, run: usize) 
     }
 }
 
-// Whether a row that the selection takes is above 0 at the place.
-fn reached(rows: &[u8; ROWS], selection: Selection, place: usize) -> bool
-    requires { ⌜ Fit selection × (place < limits .variables) ⌝ }
-    ensures { λ r. ⌜ r ≡ reaches (now (rows .entry)) selection place ⌝ }
+// Whether the key takes a balanced row that is one of the mask's: the low 16 bits and the mask have a bit in
+// common.
+fn takes_any(rows: u64, key: u32) -> bool
+    ensures { λ r. ⌜ r ≡ takesAny rows key ⌝ }
 {
-    let runs = selection.unbalanced + selection.balanced;
-    let mut run: usize = 0;
-    while run < runs {
-        if times(rows, selection, place, run) > 0 {
-            return true;
-        }
-        run += 1;
-    }
-    false
+    rows & (key & LOW_MASK) as u64 > 0
 }
 
-// Whether the selection is admissible, of a candidate: each place is above 0 in at least one taken row.
-fn weigh(rows: &[u8; ROWS], places: usize, selection: Selection) -> bool
-    requires { ⌜ Fit selection × (places ≤ limits .variables) ⌝ }
-    ensures { λ r. ⌜ ((G : Groups) → Holds (now (rows .entry)) places selection G → Fits layout G → Candidate layout G (selection .key)
-        → r ≡ fills G places (selection .key)) ⌝ }
+// Whether a row that the key takes is above 0 at the place: that of one of the constants, or a balanced one.
+fn reached(reaching: &[u64; MASKS], unbalanced: usize, place: usize, key: u32) -> bool
+    requires { ⌜ (unbalanced ≤ limits .constants) × (place < limits .variables) ⌝ }
+    ensures { λ r. ⌜ r ≡ reaches (now (reaching .entry)) unbalanced place key ⌝ }
 {
+    let mut g: usize = 0;
+    while g < unbalanced {
+        let index = index_at(key, g);
+        if has_bit(reaching[VARIABLES * (g + 1) + place], index) {
+            return true;
+        }
+        g += 1;
+    }
+    takes_any(reaching[place], key)
+}
+
+// The lowest row of a mask of balanced rows, or 16 if it has none.
+fn lowest_row(rows: u64) -> usize
+    ensures { λ r. ⌜ (r ≤ layout .rows) × NoRowBelow rows r ⌝ }
+{
+    let lowest = u64::trailing_zeros(rows) as usize;
+    if lowest < MASK_BITS {
+        lowest
+    } else {
+        MASK_BITS
+    }
+}
+
+// The first number from the key on that may reach the place. Where the key does not, no number before the next
+// multiple of the bit of the lowest balanced row above 0 there does: the bits of all such rows stay as they are.
+fn first_reaching(reaching: &[u64; MASKS], unbalanced: usize, place: usize, key: u32) -> u64
+    requires { ⌜ (unbalanced ≤ limits .constants) × (place < limits .variables) ⌝ }
+    ensures { λ r. ⌜ InTuple key r ⌝ }
+    ensures { λ r. ⌜ Weighs (reaches (now (reaching .entry)) unbalanced place) key r ⌝ }
+{
+    if reached(reaching, unbalanced, place, key) {
+        return key as u64;
+    }
+    block_end(key, lowest_row(reaching[place]))
+}
+
+// The first number from the key on that may be admissible, of candidates: the key itself if it is, for each
+// place is above 0 in at least one taken row. Else it is the farthest that a missed place sends to.
+fn weigh(reaching: &[u64; MASKS], unbalanced: usize, places: usize, key: u32) -> u64
+    requires { ⌜ (unbalanced ≤ limits .constants) × (places ≤ limits .variables) ⌝ }
+    ensures { λ r. ⌜ InTuple key r ⌝ }
+    ensures { λ r. ⌜ ((G : Groups) → Marked (now (reaching .entry)) unbalanced places G → Fits layout G → Weighs (fills G places) key r) ⌝ }
+{
+    let mut first = key as u64;
     let mut place: usize = 0;
     while place < places {
-        if !reached(rows, selection, place) {
-            return false;
+        let next = first_reaching(reaching, unbalanced, place, key);
+        if first < next {
+            first = next;
         }
         place += 1;
     }
-    true
+    first
 }
 
 // How many values the field of constant number `g` may have: one for each of its rows; where there is no such
@@ -158,7 +200,7 @@ enum Standing {
 // so, and the block is left.
 fn stands(sizes: &[usize; GROUPS], unbalanced: usize, key: u32) -> Standing
     requires { ⌜ (unbalanced ≤ layout .constants) × (getD (now sizes) 0 0 ≤ layout .rows) ⌝ }
-    ensures { λ r. ⌜ ((G : Groups) → Sized (now (sizes .entry)) unbalanced G → Fits layout G → Stands G key r) ⌝ }
+    ensures { λ r. ⌜ Stands (now (sizes .entry)) unbalanced key r ⌝ }
 {
     let mut g: usize = 0;
     while g < CONSTANTS {
@@ -181,46 +223,108 @@ pub enum Next {
     None,
 }
 
-// The least admissible key of a tuple from a mask on: the sets of balanced rows are taken one after the
-// other, in the order of their masks.
-fn least_of_tuple(table: Table, tuple: u32, from: u32) -> Next
-    requires { ⌜ InRoom table × (tuple < 65536) × (from < 2 ^ layout .rows) ⌝ }
-    ensures { λ r. ⌜ (HasTuple (groupsIn table) tuple → LeastWithin (fills (groupsIn table) (table .places)) (tuple * 2 ^ layout .rows + from)
-        (tuple * 2 ^ layout .rows + 2 ^ getD (table .sizes) 0 0) r) ⌝ }
+// The least admissible key of a tuple from a mask on: the sets of balanced rows are taken in the order of their
+// masks, and those that miss a place are passed over.
+fn least_of_tuple(
+    reaching: &[u64; MASKS],
+    unbalanced: usize,
+    places: usize,
+    balanced: usize,
+    tuple: u32,
+    from: u32,
+) -> Next
+    requires { ⌜ (unbalanced ≤ limits .constants) × (places ≤ limits .variables) × (balanced ≤ layout .rows) ⌝ }
+    requires { ⌜ (tuple < 65536) × (from < 2 ^ layout .rows) ⌝ }
+    ensures { λ r. ⌜ ((G : Groups) → Marked (now (reaching .entry)) unbalanced places G → Fits layout G
+        → LeastWithin (fills G places) (tuple * 2 ^ layout .rows + from) (tuple * 2 ^ layout .rows + 2 ^ balanced) r) ⌝ }
 {
-    let balanced = table.sizes[0];
     let mut mask = from;
     while mask >> balanced == 0 {
         let key = pack(tuple, mask);
-        let selection = selection_of(table, key);
-        if weigh(&table.rows, table.places, selection) {
+        let first = weigh(reaching, unbalanced, places, key);
+        if first == key as u64 {
             return Next::Key(key);
         }
-        mask += 1;
+        mask += (first - key as u64) as u32;
     }
     Next::None
 }
 
-// The least key on the list from a number on. The highest key may be listed, so that the number after it
-// needs 64 bits.
-pub fn least_listed(table: Table, from: u64) -> Next
-    requires { ⌜ InRoom table ⌝ }
-    ensures { λ r. ⌜ OfItsList table (λ keys. NextFrom keys from r) ⌝ }
+// How many bits the widest block has that is left with the key's tuple. The row indexes are fixed one after the
+// other: once rows of the later constants cannot reach together what is still missing, no key with the indexes so
+// far is admissible.
+fn left_bits<'a>(
+    reaching: &'a [u64; MASKS],
+    choices: &'a [u64; GROUPS],
+    unbalanced: usize,
+    places: usize,
+    unreached: usize,
+    key: u32,
+) -> usize
+    requires { ⌜ (unbalanced ≤ limits .constants) × (places ≤ limits .variables) × (unreached < 64) ⌝ }
+    ensures { λ r. ⌜ (layout .rows ≤ r) × (r ≤ 32) ⌝ }
+    ensures { λ r. ⌜ ((sizes : List ℕ) → SetsOf (now (reaching .entry)) sizes unbalanced places unreached (now (choices .entry))
+        → (G : Groups) → Sized sizes unbalanced G → Marked (now (reaching .entry)) unbalanced places G → Fits layout G
+        → layout .rows < r → NoneInBlock G places key r) ⌝ }
 {
+    let mut missing = unreached;
+    let mut g: usize = 0;
+    while g < unbalanced {
+        let index = index_at(key, g);
+        missing &= missed_by(reaching, places, g + 1, 1 << index);
+        g += 1;
+        if !has_bit(choices[g], missing) {
+            return MASK_BITS + INDEX_BITS * (CONSTANTS - g);
+        }
+    }
+    MASK_BITS
+}
+
+// The least key on the list from a number on. Where rows of all constants cannot reach together what balanced rows
+// do not, nothing is listed. The highest key may be listed, so that the number after it needs 64 bits.
+pub fn least_listed(masks: Masks, from: u64) -> Next
+    requires { ⌜ Coherent masks ⌝ }
+    ensures { λ r. ⌜ OfTheirList masks (λ keys. NextFrom keys from r) ⌝ }
+{
+    let sets = masks.choices[0];
+    let unreached = masks.unreached;
+    if !has_bit(sets, unreached) {
+        return Next::None;
+    }
+    let places = masks.places;
+    let unbalanced = masks.unbalanced;
+    let balanced = masks.sizes[0];
     let mut at = from;
     while at < KEYS {
         let key = at as u32;
-        let standing = stands(&table.sizes, table.unbalanced, key);
+        let standing = stands(&masks.sizes, unbalanced, key);
         match standing {
             Standing::NoneBefore(later) => {
                 at = later;
             }
             Standing::Candidate => {
-                let least = least_of_tuple(table, key >> MASK_BITS, key & LOW_MASK);
+                let tuple = key >> MASK_BITS;
+                let mask = key & LOW_MASK;
+                let least = least_of_tuple(
+                    &masks.reaching,
+                    unbalanced,
+                    places,
+                    balanced,
+                    tuple,
+                    mask,
+                );
                 if let Next::Key(found) = least {
                     return Next::Key(found);
                 }
-                at = block_end(key, MASK_BITS);
+                let bits = left_bits(
+                    &masks.reaching,
+                    &masks.choices,
+                    unbalanced,
+                    places,
+                    unreached,
+                    key,
+                );
+                at = block_end(key, bits);
             }
         }
     }
@@ -234,11 +338,11 @@ pub enum Found {
 }
 
 // A key is listed if the least listed key from it on is itself. Else it is 14, or 13 where nothing is listed.
-pub fn find_key(table: Table, key: u32) -> Found
-    requires { ⌜ InRoom table ⌝ }
-    ensures { λ r. ⌜ OfItsList table (λ listed. FoundOf listed key r) ⌝ }
+pub fn find_key(masks: Masks, key: u32) -> Found
+    requires { ⌜ Coherent masks ⌝ }
+    ensures { λ r. ⌜ OfTheirList masks (λ listed. FoundOf listed key r) ⌝ }
 {
-    let least = least_listed(table, key as u64);
+    let least = least_listed(masks, key as u64);
     match least {
         Next::Key(found) => {
             if found == key {
@@ -248,7 +352,7 @@ pub fn find_key(table: Table, key: u32) -> Found
             }
         }
         Next::None => {
-            let first = least_listed(table, 0);
+            let first = least_listed(masks, 0);
             match first {
                 Next::Key(_) => Found::Refused(Refusal::NotListed),
                 Next::None => Found::Refused(Refusal::NoUnifier),

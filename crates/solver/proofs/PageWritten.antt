@@ -14,14 +14,14 @@ use Rattle.ac.specs.Keys.{layout, keys, after, remaining}
 use Rattle.ac.specs.Pages.{LeastFrom, NoneFrom}
 use Rattle.ac.proofs.Pages.{least-first, none-remains}
 use Rattle.table.specs.Table.{groupsIn}
-use Rattle.table.specs.declared.Table.{Table}
-use Rattle.list.specs.List.{OfItsList}
+use Rattle.table.specs.declared.masks.Masks.{Masks}
+use Rattle.list.specs.List.{OfTheirList}
 use Rattle.list.proofs.Table.{table-ascending}
 use Rattle.numbers.specs.Outcome.{given}
 use Rattle.solver.specs.Steps.{KeysWritten}
 
 -- so many keys are written, up to the last; `out` is the buffer after the first was written, and `now` as it is
-pub record Writing (t : Table) (first last written wanted : ℕ) (out now : List ℕ) : Type 0 where
+pub record Writing (m : Masks) (first last written wanted : ℕ) (out now : List ℕ) : Type 0 where
   pub done : List ℕ
   pub how-many : length done ≡ written
   pub some : 0 < written
@@ -29,7 +29,7 @@ pub record Writing (t : Table) (first last written wanted : ℕ) (out now : List
   pub enough : wanted ≤ length out
   pub a-key : last < 2 ^ 32
   pub the-buffer : now ≡ done ++ drop written out
-  pub the-rest : OfItsList t (λ listed. done ++ remaining (after last) listed ≡ first
+  pub the-rest : OfTheirList m (λ listed. done ++ remaining (after last) listed ≡ first
       ∷ remaining (after first) listed)
 
 set-first : (out : List ℕ) (key : ℕ) → 0 < length out → set out 0 key ≡ key ∷ drop 1 (set out 0 key)
@@ -41,10 +41,10 @@ length-set-first [] key = refl
 length-set-first (a ∷ out) key = refl
 
 -- the first key is written
-pub writing-first : (t : Table) {first wanted : ℕ} (out : List ℕ) → 0 < wanted → wanted ≤ length out
+pub writing-first : (m : Masks) {first wanted : ℕ} (out : List ℕ) → 0 < wanted → wanted ≤ length out
     → first < 2 ^ 32
-    → Writing t first first 1 wanted (set out 0 first) (set out 0 first)
-writing-first t {first} out some enough fits =
+    → Writing m first first 1 wanted (set out 0 first) (set out 0 first)
+writing-first m {first} out some enough fits =
     record {
       done = first ∷ [];
       how-many = refl;
@@ -53,11 +53,11 @@ writing-first t {first} out some enough fits =
       enough = omega (arith, length-set-first out first);
       a-key = fits;
       the-buffer = set-first out first (omega arith);
-      the-rest = λ M L R full of. refl;
+      the-rest = λ t its M L R full of. refl;
     }
 
-module _ {t : Table} {first last written wanted : ℕ} {out now : List ℕ}
-    (writing : Writing t first last written wanted out now) where
+module _ {m : Masks} {first last written wanted : ℕ} {out now : List ℕ}
+    (writing : Writing m first last written wanted out now) where
   -- the buffer keeps its length
   pub writing-length : length now ≡ length out
   writing-length =
@@ -73,8 +73,8 @@ module _ {t : Table} {first last written wanted : ℕ} {out now : List ℕ}
 
   -- the least key above the last comes next
   pub writing-next : {key : ℕ} → written < wanted → key < 2 ^ 32
-      → OfItsList t (λ listed. LeastFrom listed (last + 1) key)
-      → Writing t first key (written + 1) wanted out (set now written key)
+      → OfTheirList m (λ listed. LeastFrom listed (last + 1) key)
+      → Writing m first key (written + 1) wanted out (set now written key)
   writing-next {key} less fits least =
       record {
         done = writing .done ++ key ∷ [];
@@ -98,16 +98,16 @@ module _ {t : Table} {first last written wanted : ℕ} {out now : List ℕ}
           ∙ sym (append-assoc (writing .done) (key ∷ []) (drop (suc written) out))
           ∙ ap (λ n. (writing .done ++ key ∷ []) ++ drop n out) (sym (add-one written))
 
-      rest : OfItsList t (λ listed. (writing .done ++ key ∷ []) ++ remaining (after key) listed ≡ first
+      rest : OfTheirList m (λ listed. (writing .done ++ key ∷ []) ++ remaining (after key) listed ≡ first
           ∷ remaining (after first) listed)
-      rest M L R full of =
+      rest t its M L R full of =
           append-assoc (writing .done) (key ∷ []) (remaining (after key) (keys M layout L R (groupsIn t)))
           ∙ ap (λ (b : List ℕ). writing .done ++ b)
-          (sym (least-first (table-ascending of) (after last) (least M L R full of)))
-          ∙ writing .the-rest M L R full of
+          (sym (least-first (table-ascending of) (after last) (least t its M L R full of)))
+          ∙ writing .the-rest t its M L R full of
 
-module _ {t : Table} {first last written wanted : ℕ} (out : List ℕ) {now : List ℕ}
-    (writing : Writing t first last written wanted (set out 0 first) now) where
+module _ {m : Masks} {first last written wanted : ℕ} (out : List ℕ) {now : List ℕ}
+    (writing : Writing m first last written wanted (set out 0 first) now) where
   -- what was written stands before what the buffer had
   received : now ≡ receives out (writing .done)
   received =
@@ -125,12 +125,12 @@ module _ {t : Table} {first last written wanted : ℕ} (out : List ℕ) {now : L
         }
 
   -- nothing is left above the last key: all that remained is written
-  pub written-all : OfItsList t (λ listed. NoneFrom listed (last + 1))
-      → OfItsList t (λ listed. KeysWritten (first ∷ remaining (after first) listed) wanted out
+  pub written-all : OfTheirList m (λ listed. NoneFrom listed (last + 1))
+      → OfTheirList m (λ listed. KeysWritten (first ∷ remaining (after first) listed) wanted out
       (given (record { written = written; more = false })) now)
-  written-all nothing M L R full of =
+  written-all nothing t its M L R full of =
       subst (λ left. KeysWritten left wanted out (given (record { written = written; more = false })) now)
-      (sym whole ∙ writing .the-rest M L R full of)
+      (sym whole ∙ writing .the-rest t its M L R full of)
       (written-of (writing .done) false (take-all wanted (writing .done)
       (omega (arith, writing .how-many, writing .not-too-many)))
       (le-ltb wanted (length (writing .done)) (omega (arith, writing .how-many, writing .not-too-many))))
@@ -138,14 +138,14 @@ module _ {t : Table} {first last written wanted : ℕ} (out : List ℕ) {now : L
       whole : writing .done ++ remaining (after last) (keys M layout L R (groupsIn t)) ≡ writing .done
       whole =
           ap (λ (b : List ℕ). writing .done ++ b)
-          (none-remains (table-ascending of) (after last) (nothing M L R full of)) ∙ append-nil (writing .done)
+          (none-remains (table-ascending of) (after last) (nothing t its M L R full of)) ∙ append-nil (writing .done)
 
   -- as many are written as are wanted, and another is left
-  pub written-more : {key : ℕ} → wanted ≤ written → OfItsList t (λ listed. LeastFrom listed (last + 1) key)
-      → OfItsList t (λ listed. KeysWritten (first ∷ remaining (after first) listed) wanted out
+  pub written-more : {key : ℕ} → wanted ≤ written → OfTheirList m (λ listed. LeastFrom listed (last + 1) key)
+      → OfTheirList m (λ listed. KeysWritten (first ∷ remaining (after first) listed) wanted out
       (given (record { written = written; more = true })) now)
-  written-more {key} full-page least M L R full of =
-      subst (λ left. KeysWritten left wanted out (given (record { written = written; more = true })) now) (writing .the-rest M L R full of)
+  written-more {key} full-page least t its M L R full of =
+      subst (λ left. KeysWritten left wanted out (given (record { written = written; more = true })) now) (writing .the-rest t its M L R full of)
       (written-of (writing .done ++ remaining (after last) listed) true
       (take-at (writing .done) (remaining (after last) listed) wanted
       (omega (arith, writing .how-many, writing .not-too-many)))
@@ -159,7 +159,7 @@ module _ {t : Table} {first last written wanted : ℕ} (out : List ℕ) {now : L
           omega (
             arith,
             length-append (writing .done) (remaining (after last) listed),
-            ap length (least-first (table-ascending of) (after last) (least M L R full of)),
+            ap length (least-first (table-ascending of) (after last) (least t its M L R full of)),
             writing .how-many,
             writing .not-too-many,
           )

@@ -6,6 +6,8 @@ use list::least_listed;
 use numbers::Refusal;
 use numbers::Verdict;
 use table::Table;
+use table::masks::Masks;
+use table::masks::masks_of;
 use table::solve;
 ghost use mathlib.Core.Path.{_≡_};
 ghost use mathlib.Core.List.{_∷_};
@@ -14,7 +16,8 @@ ghost use lib.ListN.{length};
 ghost use Rattle.ac.specs.Keys.{after, remaining};
 ghost use Rattle.ac.specs.Pair.{unifying};
 ghost use Rattle.table.specs.Table.{InRoom};
-ghost use Rattle.list.specs.List.{OfItsList};
+ghost use Rattle.table.specs.Masks.{Coherent};
+ghost use Rattle.list.specs.List.{OfTheirList};
 ghost use Rattle.solver.specs.Page.{wantedCount, beginningOf, toldPage, PagePromise};
 ghost use Rattle.solver.specs.Existence.{PageExistence};
 ghost use Rattle.solver.specs.Steps.{SettledOf, KeysWritten, PageOfTable};
@@ -54,15 +57,15 @@ enum Settled {
 }
 
 // After a key: 13 or 14 if it is not listed, else the next one, unless it is the last.
-fn settle_after(table: Table, key: u32) -> Settled
-    requires { ⌜ InRoom table ⌝ }
-    ensures { λ r. ⌜ OfItsList table (λ listed. SettledOf listed (after key) r) ⌝ }
+fn settle_after(masks: Masks, key: u32) -> Settled
+    requires { ⌜ Coherent masks ⌝ }
+    ensures { λ r. ⌜ OfTheirList masks (λ listed. SettledOf listed (after key) r) ⌝ }
 {
-    let found = find_key(table, key);
+    let found = find_key(masks, key);
     match found {
         Found::Refused(refusal) => Settled::Refused(refusal),
         Found::Listed => {
-            let next = least_listed(table, key as u64 + 1);
+            let next = least_listed(masks, key as u64 + 1);
             match next {
                 Next::Key(first) => Settled::FirstKey(first),
                 Next::None => Settled::Refused(Refusal::LastKey),
@@ -72,32 +75,32 @@ fn settle_after(table: Table, key: u32) -> Settled
 }
 
 // The first key of the page that begins there, or 13, 14 or 15.
-fn settle(table: Table, begin: Begin) -> Settled
-    requires { ⌜ InRoom table ⌝ }
-    ensures { λ r. ⌜ OfItsList table (λ listed. SettledOf listed (beginningOf begin) r) ⌝ }
+fn settle(masks: Masks, begin: Begin) -> Settled
+    requires { ⌜ Coherent masks ⌝ }
+    ensures { λ r. ⌜ OfTheirList masks (λ listed. SettledOf listed (beginningOf begin) r) ⌝ }
 {
     match begin {
         Begin::Start => {
-            let first = least_listed(table, 0);
+            let first = least_listed(masks, 0);
             match first {
                 Next::Key(key) => Settled::FirstKey(key),
                 Next::None => Settled::Refused(Refusal::NoUnifier),
             }
         }
-        Begin::After(key) => settle_after(table, key),
+        Begin::After(key) => settle_after(masks, key),
     }
 }
 
 // Write the keys from the first one on, as many as are wanted or, if fewer remain, all that remain.
-fn write_keys(table: Table, first: u32, wanted: usize, out: &mut [u32]) -> PageAnswer
-    requires { ⌜ InRoom table × (0 < wanted) × (wanted ≤ length (now out)) ⌝ }
-    ensures { λ r. ⌜ OfItsList table (λ listed. KeysWritten (first ∷ remaining (after first) listed) wanted (now (out .entry)) (toldPage r) (now (out .exit))) ⌝ }
+fn write_keys(masks: Masks, first: u32, wanted: usize, out: &mut [u32]) -> PageAnswer
+    requires { ⌜ Coherent masks × (0 < wanted) × (wanted ≤ length (now out)) ⌝ }
+    ensures { λ r. ⌜ OfTheirList masks (λ listed. KeysWritten (first ∷ remaining (after first) listed) wanted (now (out .entry)) (toldPage r) (now (out .exit))) ⌝ }
 {
     out[0] = first;
     let mut last = first;
     let mut written: usize = 1;
     while written < wanted {
-        let next = least_listed(table, last as u64 + 1);
+        let next = least_listed(masks, last as u64 + 1);
         let Next::Key(key) = next else {
             return PageAnswer::Page {
                 written,
@@ -108,7 +111,7 @@ fn write_keys(table: Table, first: u32, wanted: usize, out: &mut [u32]) -> PageA
         last = key;
         written += 1;
     }
-    let next = least_listed(table, last as u64 + 1);
+    let next = least_listed(masks, last as u64 + 1);
     match next {
         Next::Key(_) => PageAnswer::Page {
             written,
@@ -121,7 +124,8 @@ fn write_keys(table: Table, first: u32, wanted: usize, out: &mut [u32]) -> PageA
     }
 }
 
-// The question Page on a solved pair: every refusal is settled before the first key is written.
+// The question Page on a solved pair: every refusal is settled before the first key is written. Which rows
+// reach which variable is worked out once.
 pub fn page_of(table: Table, request: PageRequest, out: &mut [u32]) -> PageAnswer
     requires { ⌜ InRoom table ⌝ }
     ensures { λ r. ⌜ PageOfTable table request (now (out .entry)) (toldPage r) (now (out .exit)) ⌝ }
@@ -130,10 +134,11 @@ pub fn page_of(table: Table, request: PageRequest, out: &mut [u32]) -> PageAnswe
     if out.len() < wanted {
         return PageAnswer::Refused(Refusal::ShortBuffer);
     }
+    let masks = masks_of(table);
     let begin = request.begin;
-    let settled = settle(table, begin);
+    let settled = settle(masks, begin);
     match settled {
-        Settled::FirstKey(first) => write_keys(table, first, wanted, out),
+        Settled::FirstKey(first) => write_keys(masks, first, wanted, out),
         Settled::Refused(refusal) => PageAnswer::Refused(refusal),
     }
 }

@@ -10,6 +10,7 @@ use numbers::Verdict;
 use numbers::limits::VARIABLES;
 use table::ROWS;
 use table::Table;
+use table::masks::masks_of;
 use table::solve;
 ghost use mathlib.Core.Path.{_≡_};
 ghost use mathlib.Core.Bool.{false};
@@ -173,7 +174,8 @@ pub fn values_of(table: Table, key: u32, out: &mut [u8]) -> ValuesAnswer
     if out.len() < ROOM {
         return ValuesAnswer::Refused(Refusal::ShortBuffer);
     }
-    let found = find_key(table, key);
+    let masks = masks_of(table);
+    let found = find_key(masks, key);
     match found {
         Found::Refused(refusal) => ValuesAnswer::Refused(refusal),
         Found::Listed => write(table, key, out),

@@ -1,6 +1,9 @@
 pub mod Lists
 pub mod Rows
+pub mod Bits
 pub mod TableGroups
+pub mod Marks
+pub mod Sets
 pub mod Spreading
 pub mod Finding
 pub mod Counting

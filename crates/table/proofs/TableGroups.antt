@@ -1,15 +1,17 @@
--- What a table says of its groups: their sizes, their constants, and where each of the constants' groups stands.
-use Prim.Native.Nat.{ℕ, suc, _+_, _<_, _≤_}
+-- What a table says of its groups: their sizes, their constants, their entries, and where each of the
+-- constants' groups stands.
+use Prim.Native.Nat.{ℕ, zero, suc, _+_, _<_, _≤_}
 use native.Mathlib.Omega.{arith}
 use mathlib.Core.Path.{_≡_, refl, ap, subst, _∙_}
 use mathlib.Core.List.{List, [], _∷_, map, List·Memᴰ, List·Memᴰ·head, List·Memᴰ·tail}
-use lib.ListN.{length, getD, take, length-map}
-use lib.Seq.{length-take-le}
+use lib.ListN.{length, getD, take, drop, length-map}
+use lib.Seq.{length-take-le, getD-take, getD-drop}
 use Rattle.ac.specs.Lists.{from}
 use Rattle.ac.specs.Limits.{limits}
-use Rattle.ac.specs.Rows.{Group}
+use Rattle.ac.specs.Rows.{Group, rowsAt}
 use Rattle.ac.proofs.Keys.{length-from}
-use Rattle.table.specs.Table.{rowAt, groupAt, groupsFrom, groupsIn, InRoom}
+use Rattle.table.specs.Table.{rowStart, rowAt, groupAt, groupsFrom, groupsIn, InRoom}
+use Rattle.table.specs.Masks.{group, Sized}
 use Rattle.table.specs.declared.Table.{Table}
 
 module _ (t : Table) where
@@ -70,3 +72,48 @@ few-rows {t} within m =
     subst (λ k. getD (t .sizes) k 0 ≤ limits .constant-rows)
     (let e : suc (s .place) ≡ 1 + s .place = omega arith in e) (within .sizes-fit (suc (s .place))) in
     omega (arith, ap length (s .its-rows), length-groupAt t (1 + s .place), few)
+
+-- what stands at a place of a list made of the numbers from a on
+getD-map-from {ℓ} : {A : Type ℓ} (f : ℕ → A) (a n i : ℕ) (d : A) → i < n → getD (map f (from a n)) i d ≡ f (a + i)
+getD-map-from f a zero i d h = absurd (omega arith)
+getD-map-from f a (suc n) zero d h = ap f (omega arith)
+getD-map-from f a (suc n) (suc i) d h = getD-map-from f (suc a) n i d (omega arith) ∙ ap f (omega arith)
+
+module _ (t : Table) where
+  -- the group at a place among the constants'
+  pub rowsAt-groupsFrom : (a : ℕ) (cs : List ℕ) (g : ℕ) → g < length cs
+      → rowsAt (groupsFrom t a cs) g ≡ groupAt t (a + g)
+  rowsAt-groupsFrom a [] g h = absurd (omega arith)
+  rowsAt-groupsFrom a (c ∷ cs) zero h = ap (groupAt t) (omega arith)
+  rowsAt-groupsFrom a (c ∷ cs) (suc g) h =
+      rowsAt-groupsFrom (suc a) cs g (omega arith) ∙ ap (groupAt t) (omega arith)
+
+  pub rowsAt-beyond : (a : ℕ) (cs : List ℕ) (g : ℕ) → length cs ≤ g → rowsAt (groupsFrom t a cs) g ≡ []
+  rowsAt-beyond a [] g h = refl
+  rowsAt-beyond a (c ∷ cs) zero h = absurd (omega arith)
+  rowsAt-beyond a (c ∷ cs) (suc g) h = rowsAt-beyond (suc a) cs g (omega arith)
+
+  -- an entry of a row
+  pub entry-at : (g i p : ℕ) → i < getD (t .sizes) g 0 → p < t .places
+      → getD (getD (groupAt t g) i []) p 0 ≡ getD (t .rows) (rowStart g i + p) 0
+  entry-at g i p row place =
+      ap (λ r. getD r p 0) (getD-map-from (rowAt t g) 0 (getD (t .sizes) g 0) i [] row
+      ∙ ap (rowAt t g) (omega arith))
+      ∙ getD-take (t .places) (drop (rowStart g i) (t .rows)) p 0 place ∙ getD-drop (rowStart g i) (t .rows) p 0
+
+module _ {t : Table} (within : InRoom t) where
+  -- how many constants the table's groups are taken of
+  pub how-many : length (take (t .unbalanced) (t .constants)) ≡ t .unbalanced
+  how-many = length-take-le (t .unbalanced) (t .constants) (within .constants-held)
+
+  -- the balanced rows are group 0 of the table, and those of the constants the groups after it
+  pub group-in : (g : ℕ) → g ≤ t .unbalanced → group (groupsIn t) g ≡ groupAt t g
+  group-in zero h = refl
+  group-in (suc g) h = rowsAt-groupsFrom t 1 (take (t .unbalanced) (t .constants)) g (omega (arith, how-many))
+      ∙ ap (groupAt t) (omega arith)
+
+  pub table-sized : Sized (t .sizes) (t .unbalanced) (groupsIn t)
+  table-sized = record {
+    how-many-constants = how-many-constants t within;
+    a-size-each = λ g h. ap length (group-in g h) ∙ length-groupAt t g;
+  }

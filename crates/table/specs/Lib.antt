@@ -1,3 +1,5 @@
 pub mod Table
 pub mod Groups
 pub mod Solved
+pub mod Choices
+pub mod Masks

@@ -3,19 +3,33 @@
 use Prim.Native.Nat.{_-_, _^_}
 use native.Mathlib.Omega.{arith}
 use native.Mathlib.Nat.{le-refl}
-use mathlib.Core.Path.{refl, sym, subst}
+use mathlib.Core.Path.{refl, sym, subst, _∙_}
 use borrow.Author.Needs.{needs}
+use borrow.Author.Tests.{not-true}
 use lib.Bits.{and-mask, mask-lt}
 use Rattle.list.proofs.Candidates.{below-block-end}
-use Rattle.list.proofs.Walk.{Walked, passed-none, step-between, step-over, step-found, step-end}
+use Rattle.list.proofs.Walk.{Walked, passed-none, step-nothing, step-between, step-over, step-found, step-end}
 use Rattle.list.proofs.least_listed.Statement.{statement}
 use Rattle.list.proofs.least_listed.Tie as tie
 
 abbrev Inv-loop : tie.InvT-loop
-Inv-loop from table at₀ at = Walked table from at
+Inv-loop from masks sets unreached places unbalanced balanced at₀ at = Walked masks from at
 
 abbrev μ-loop : tie.MeasureT-loop
-μ-loop from table at₀ at = 2 ^ 32 - at
+μ-loop from masks sets unreached places unbalanced balanced at₀ at = 2 ^ 32 - at
+
+element-copy-out-sets : tie.Need-element-copy-out-sets Inv-loop μ-loop
+element-copy-out-sets c = search needs
+
+has-bit-requires : tie.Need-has-bit-requires Inv-loop μ-loop
+has-bit-requires c κs = c .before .pre .unreached-fits
+
+returns : tie.Need-returns Inv-loop μ-loop
+returns c =
+    step-nothing (c .before .before .before .pre) (sym (c .before .has-bit .ensures) ∙ not-true _ (c .if1 .taken))
+
+element-copy-out-balanced : tie.Need-element-copy-out-balanced Inv-loop μ-loop
+element-copy-out-balanced c = search needs
 
 loop-holds : tie.Need-loop-holds Inv-loop μ-loop
 loop-holds c = record { above = le-refl _; passed = passed-none _ _ }
@@ -25,7 +39,7 @@ cast-key c = omega arith
 
 stands-requires : tie.Need-stands-requires Inv-loop μ-loop
 stands-requires c κs =
-    let fit = c .before .before .before .before .pre in
+    let fit = c .before .before .before .before .before .before .before .before .pre in
     (fit .constants-fit, fit .sizes-fit 0)
 
 enum-known-standing : tie.Need-enum-known-standing Inv-loop μ-loop
@@ -37,8 +51,7 @@ loop-less c =
     let turn = stood .before .before .before in
     omega (
       arith,
-      step-between (turn .before .before .pre) (turn .before .loop .inv) (stood .stands .ensures)
-          (c .before .standing .given .1) .0,
+      step-between (turn .before .loop .inv) (stood .stands .ensures) (c .before .standing .given .1) .0,
       turn .loop-test .taken,
     )
 
@@ -46,63 +59,73 @@ loop-again : tie.Need-loop-again Inv-loop μ-loop
 loop-again c =
     let stood = c .before .before .before in
     let turn = stood .before .before .before in
-    step-between (turn .before .before .pre) (turn .before .loop .inv) (stood .stands .ensures)
-    (c .before .standing .given .1) .1
+    step-between (turn .before .loop .inv) (stood .stands .ensures) (c .before .standing .given .1) .1
 
 enum-told : tie.Need-enum-told Inv-loop μ-loop
 enum-told c = search needs
 
-cast-least-of-tuple : tie.Need-cast-least-of-tuple Inv-loop μ-loop
-cast-least-of-tuple c = search needs
+cast-tuple : tie.Need-cast-tuple Inv-loop μ-loop
+cast-tuple c = search needs
 
-shr-least-of-tuple : tie.Need-shr-least-of-tuple Inv-loop μ-loop
-shr-least-of-tuple c = search needs
+shr-tuple : tie.Need-shr-tuple Inv-loop μ-loop
+shr-tuple c = search needs
 
 least-of-tuple-requires : tie.Need-least-of-tuple-requires Inv-loop μ-loop
 least-of-tuple-requires c κs =
-    let turn = c .before .before .before .before .before in (
-      c .before .before .before .before .before .before .before .pre,
-      omega (arith, turn .loop-test .taken),
-      mask-lt (turn .before .loop .at) 16,
+    let turn = c .before .before .before .before .before .before .before in
+    let fit = turn .before .before .before .before .before .before .pre in (
+      (fit .constants-fit, fit .places-fit, fit .sizes-fit 0),
+      (omega (arith, turn .loop-test .taken), mask-lt (turn .before .loop .at) 16),
     )
 
 enum-known-least : tie.Need-enum-known-least Inv-loop μ-loop
 enum-known-least c = search needs
 
-returns : tie.Need-returns Inv-loop μ-loop
-returns c =
-    let candidate = c .before .before .before .before in
+returns-2 : tie.Need-returns-2 Inv-loop μ-loop
+returns-2 c =
+    let candidate = c .before .before .before .before .before .before in
     let stood = candidate .before .before in
     let turn = stood .before .before .before in
-    step-found (turn .before .before .pre) (turn .before .loop .inv) (stood .stands .ensures)
-    (candidate .enum-told .given .1) refl
+    step-found (turn .before .loop .inv) (stood .stands .ensures) (candidate .enum-told .given .1) refl
     (and-mask (turn .before .loop .at) 16) (c .before .before .before .least-of-tuple .ensures)
     (c .before .least .given .1)
 
 enum-told-2 : tie.Need-enum-told-2 Inv-loop μ-loop
 enum-told-2 c = search needs
 
+left-bits-requires : tie.Need-left-bits-requires Inv-loop μ-loop
+left-bits-requires c κs =
+    let turn = c .before .before .before .before .before .before .before .before .before .before .before .before .before in
+    let fit = turn .before .before .before .before .before .before .pre in
+    (fit .constants-fit, fit .places-fit, fit .unreached-fits)
+
 block-end-requires : tie.Need-block-end-requires Inv-loop μ-loop
-block-end-requires c κs = omega arith
+block-end-requires c κs = c .left-bits .ensures .0 .1
 
 loop-less-2 : tie.Need-loop-less-2 Inv-loop μ-loop
 loop-less-2 c =
-    let turn = c .before .before .before .before .before .before .before .before .before in
-    omega (arith, c .block-end .ensures, below-block-end (turn .before .loop .at) 16, turn .loop-test .taken)
+    let turn = c .before .before .before .before .before .before .before .before .before .before .before .before .before .before .before in
+    omega (
+      arith,
+      c .block-end .ensures,
+      below-block-end (turn .before .loop .at) (c .before .left-bits .result),
+      turn .loop-test .taken,
+    )
 
 loop-again-2 : tie.Need-loop-again-2 Inv-loop μ-loop
 loop-again-2 c =
-    let candidate = c .before .before .before .before in
+    let left = c .before .left-bits .ensures in
+    let tried = c .before .before .before .before .before in
+    let candidate = tried .before .before .before .before .before in
     let stood = candidate .before .before in
     let turn = stood .before .before .before in
     subst (Walked _ _) (sym (c .block-end .ensures))
-    (step-over (turn .before .before .pre) (turn .before .loop .inv) (stood .stands .ensures)
-    (candidate .enum-told .given .1) refl
-    (and-mask (turn .before .loop .at) 16) (c .before .before .before .least-of-tuple .ensures)
-    (c .before .enum-told2 .given .1))
+    (step-over (turn .before .loop .inv) (stood .stands .ensures) (candidate .enum-told .given .1) refl
+    (and-mask (turn .before .loop .at) 16) (tried .before .before .least-of-tuple .ensures)
+    (tried .enum-told2 .given .1) (left .0 .0) (left .1 _ (turn .before .before .before .before .before .before .pre .sets)))
 
-returns-2 : tie.Need-returns-2 Inv-loop μ-loop
-returns-2 c = step-end (c .before .loop .inv) (c .loop-test .left)
+returns-3 : tie.Need-returns-3 Inv-loop μ-loop
+returns-3 c = step-end (c .before .loop .inv) (c .loop-test .left)
 
 pub least-listed-spec : {M : Type 1} → statement M
 least-listed-spec =
@@ -110,6 +133,10 @@ least-listed-spec =
     (tie.spec
     Inv-loop
     μ-loop
+    element-copy-out-sets
+    has-bit-requires
+    returns
+    element-copy-out-balanced
     loop-holds
     cast-key
     stands-requires
@@ -117,13 +144,14 @@ least-listed-spec =
     loop-less
     loop-again
     enum-told
-    cast-least-of-tuple
-    shr-least-of-tuple
+    cast-tuple
+    shr-tuple
     least-of-tuple-requires
     enum-known-least
-    returns
+    returns-2
     enum-told-2
+    left-bits-requires
     block-end-requires
     loop-less-2
     loop-again-2
-    returns-2)
+    returns-3)

@@ -3,89 +3,93 @@
 use Prim.Native.Nat.{_≤_, _-_}
 use native.Mathlib.Omega.{arith}
 use native.Mathlib.Nat.{le-refl}
-use mathlib.Core.Path.{sym, subst}
 use borrow.Author.Needs.{needs}
-use Rattle.list.specs.Runs.{Fit}
-use Rattle.list.proofs.Tuples.{no-bit-left, a-bit-left, mask-fits, Missed, missed-none, missed-more, missed-found, missed-all}
+use Rattle.list.proofs.Tuples.{no-bit-left, a-bit-left, no-bit-fits, mask-on, Missed, missed-none, missed-more, missed-found, missed-all}
 use Rattle.list.proofs.least_of_tuple.Statement.{statement}
 use Rattle.list.proofs.least_of_tuple.Tie as tie
 
 abbrev Inv-loop : tie.InvT-loop
-Inv-loop tuple from table balanced mask₀ mask = (from ≤ mask) × (mask ≤ 65536) × Missed table tuple from mask
+Inv-loop reaching unbalanced places balanced tuple from mask₀ mask =
+    (from ≤ mask) × (mask ≤ 65536) × Missed reaching unbalanced places balanced tuple from mask
 
 abbrev μ-loop : tie.MeasureT-loop
-μ-loop tuple from table balanced mask₀ mask = 65536 - mask
-
-element-copy-out-balanced : tie.Need-element-copy-out-balanced Inv-loop μ-loop
-element-copy-out-balanced c = search needs
+μ-loop reaching unbalanced places balanced tuple from mask₀ mask = 65536 - mask
 
 loop-holds : tie.Need-loop-holds Inv-loop μ-loop
-loop-holds c = (le-refl _, omega arith, missed-none (c .before .args .t1) _ _)
+loop-holds c =
+    let a = c .args in (
+      le-refl _,
+      omega arith,
+      missed-none (a .reaching .now) (a .unbalanced) (a .places) (a .balanced) (a .tuple) (a .from),
+    )
 
 cast-loop : tie.Need-cast-loop Inv-loop μ-loop
-cast-loop c = omega (arith, c .before .before .pre .0 .sizes-fit 0)
+cast-loop c = omega arith
 
 shr-loop : tie.Need-shr-loop Inv-loop μ-loop
-shr-loop c = omega (arith, c .before .before .pre .0 .sizes-fit 0)
+shr-loop c = omega arith
 
 pack-requires : tie.Need-pack-requires Inv-loop μ-loop
 pack-requires c κs = (
-  c .before .before .before .pre .1,
-  mask-fits
-      (c .before .before .before .pre .0 .sizes-fit 0)
-      (no-bit-left (c .before .loop .mask) _ (c .loop-test .taken)),
+  c .before .before .pre .1 .0,
+  no-bit-fits (c .before .loop .mask) (c .before .before .pre .0 .2) (c .loop-test .taken),
 )
 
-selection-of-requires : tie.Need-selection-of-requires Inv-loop μ-loop
-selection-of-requires c κs = search needs
-
 weigh-requires : tie.Need-weigh-requires Inv-loop μ-loop
-weigh-requires c κs =
-    let fit = c .before .before .before .before .before .before .before .pre .0 in (
-      subst Fit (sym (c .before .before .selection-of .ensures)) (fit .constants-fit, fit .sizes-fit 0),
-      fit .places-fit,
-    )
+weigh-requires c κs = omega arith
+
+cast-if1 : tie.Need-cast-if1 Inv-loop μ-loop
+cast-if1 c = search needs
 
 returns : tie.Need-returns Inv-loop μ-loop
 returns c =
-    missed-found _ _ _ (c .before .before .before .before .before .before .before .loop .inv .2)
-    (c .before .before .before .before .before .pack .ensures)
-    (no-bit-left (c .before .before .before .before .before .before .before .loop .mask) _
-    (c .before .before .before .before .before .before .loop-test .taken))
-    (c .before .before .before .before .before .before .before .before .before .pre .0)
-    (c .before .before .before .before .selection-of .ensures) (c .before .weigh .ensures) (c .if1 .taken)
-    (c .before .before .before .before .before .before .before .loop .inv .0)
+    let turn = c .before .before .before in
+    let a = turn .before .before .args in
+    let at = turn .before .loop in
+    missed-found (a .reaching .now) (a .unbalanced) (a .places) (a .balanced) (a .tuple) (a .from) (at .mask)
+    (at .inv .2) (c .before .before .pack .ensures) (c .before .weigh .ensures .1) (c .if1 .taken)
+    (no-bit-left (at .mask) _ (turn .loop-test .taken)) (at .inv .0)
+
+cast-mask : tie.Need-cast-mask Inv-loop μ-loop
+cast-mask c = search needs
+
+sub-mask : tie.Need-sub-mask Inv-loop μ-loop
+sub-mask c = omega (arith, c .before .weigh .ensures .0)
+
+cast-mask-2 : tie.Need-cast-mask-2 Inv-loop μ-loop
+cast-mask-2 c = omega (arith, c .before .weigh .ensures .0)
 
 add-mask : tie.Need-add-mask Inv-loop μ-loop
-add-mask c = omega arith
+add-mask c = omega (arith, c .before .weigh .ensures .0, c .before .before .before .before .loop .inv .1)
 
 loop-less : tie.Need-loop-less Inv-loop μ-loop
-loop-less c = omega (
-  arith,
-  mask-fits (c .before .before .before .before .before .before .before .before .before .pre .0 .sizes-fit 0)
-      (no-bit-left (c .before .before .before .before .before .before .before .loop .mask) _
-      (c .before .before .before .before .before .before .loop-test .taken)),
-)
+loop-less c =
+    let turn = c .before .before .before in
+    omega (
+      arith,
+      no-bit-fits (turn .before .loop .mask) (turn .before .before .pre .0 .2) (turn .loop-test .taken),
+      c .before .weigh .ensures .0,
+      c .if1 .left,
+    )
 
 loop-again : tie.Need-loop-again Inv-loop μ-loop
 loop-again c =
-    let low = no-bit-left (c .before .before .before .before .before .before .before .loop .mask) _
-    (c .before .before .before .before .before .before .loop-test .taken) in (
-      omega arith,
-      omega (
-        arith,
-        mask-fits (c .before .before .before .before .before .before .before .before .before .pre
-            .0 .sizes-fit 0) low,
-      ),
-      missed-more _ _ _ (c .before .before .before .before .before .before .before .loop .inv .2)
-          (c .before .before .before .before .before .pack .ensures) low
-          (c .before .before .before .before .before .before .before .before .before .pre .0)
-          (c .before .before .before .before .selection-of .ensures)
-          (c .before .weigh .ensures) (c .if1 .left),
+    let turn = c .before .before .before in
+    let entry = turn .before .before in
+    let a = entry .args in
+    let at = turn .before .loop in
+    let packed = c .before .before .pack .ensures in (
+      omega (arith, at .inv .0),
+      mask-on (a .tuple) (at .mask) packed (no-bit-fits (at .mask) (entry .pre .0 .2) (turn .loop-test .taken))
+          (c .before .weigh .ensures .0),
+      missed-more (a .reaching .now) (a .unbalanced) (a .places) (a .balanced) (a .tuple) (a .from) (at .mask)
+          (at .inv .2) packed (c .before .weigh .ensures .1) (c .before .weigh .ensures .0 .0),
     )
 
 returns-2 : tie.Need-returns-2 Inv-loop μ-loop
-returns-2 c = missed-all (c .before .before .before .args .t1) _ _ (c .before .loop .inv .2)
+returns-2 c =
+    let a = c .before .before .args in
+    missed-all (a .reaching .now) (a .unbalanced) (a .places) (a .balanced) (a .tuple) (a .from) (c .before .loop .inv .2)
     (a-bit-left (c .before .loop .mask) _ (c .loop-test .left))
 
 pub least-of-tuple-spec : {M : Type 1} → statement M
@@ -94,14 +98,16 @@ least-of-tuple-spec =
     (tie.spec
     Inv-loop
     μ-loop
-    element-copy-out-balanced
     loop-holds
     cast-loop
     shr-loop
     pack-requires
-    selection-of-requires
     weigh-requires
+    cast-if1
     returns
+    cast-mask
+    sub-mask
+    cast-mask-2
     add-mask
     loop-less
     loop-again

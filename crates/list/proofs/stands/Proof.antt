@@ -40,11 +40,12 @@ block-end-requires : tie.Need-block-end-requires Inv-loop μ-loop
 block-end-requires c κs = omega arith
 
 returns : tie.Need-returns Inv-loop μ-loop
-returns c = λ G sized fits.
+returns c =
     let at = c .before .before .before .before .before .before .args in
     let g = c .before .before .before .before .before .loop .g in
     rw (c .block-end .ensures)
-    (between (below-block-end (at .key) (fieldEnd g)) (field-beyond sized fits g (omega arith) (omega arith)))
+    (between (below-block-end (at .key) (fieldEnd g))
+    (λ G sized fits. field-beyond sized fits g (omega arith) (omega arith)))
 
 add-g : tie.Need-add-g Inv-loop μ-loop
 add-g c = omega arith
@@ -68,17 +69,18 @@ block-end-requires-2 : tie.Need-block-end-requires-2 Inv-loop μ-loop
 block-end-requires-2 c κs = search needs
 
 returns-2 : tie.Need-returns-2 Inv-loop μ-loop
-returns-2 c = λ G sized fits.
+returns-2 c =
     let at = c .before .before .before .before .before .args in
     rw (c .block-end2 .ensures)
     (between (below-block-end (at .key) 16)
-    (mask-beyond sized fits (something-beyond (at .key) 16 (getD (at .sizes .now) 0 0) (c .before .if2 .taken))))
+    (λ G sized fits. mask-beyond sized fits
+    (something-beyond (at .key) 16 (getD (at .sizes .now) 0 0) (c .before .if2 .taken))))
 
 returns-3 : tie.Need-returns-3 Inv-loop μ-loop
-returns-3 c = λ G sized fits.
+returns-3 c =
     let at = c .before .before .before .before .args in
     on-candidate
-    (limits-candidate sized fits (λ g h. c .before .before .before .loop .inv .1 g (omega arith))
+    (λ G sized fits. limits-candidate sized fits (λ g h. c .before .before .before .loop .inv .1 g (omega arith))
     (nothing-beyond (at .key) 16 (getD (at .sizes .now) 0 0) (c .if2 .left))
     (c .before .before .before .before .fits .key .fits))
 

@@ -1,36 +1,31 @@
--- `list::weigh` meets its contract. The invariant: every place before this one is reached.
-use Prim.Native.Nat.{_≤_, _-_}
+-- `list::weigh` meets its contract. The invariant: the number is the farthest that the places before this one
+-- send to.
+use Prim.Native.Nat.{ℕ, _+_, _≤_, _-_}
 use native.Mathlib.Omega.{arith}
-use native.Mathlib.Nat.{le-refl}
-use mathlib.Core.Path.{_≡_, refl, sym, subst, _∙_}
-use mathlib.Core.Bool.{true}
-use borrow.Author.Tests.{not-true, not-false}
-use Rattle.list.specs.Reach.{all, reaches}
-use Rattle.list.proofs.Any.{all-more, all-missed}
-use Rattle.list.proofs.Reach.{places-reached}
+use mathlib.Core.Path.{refl, sym, subst}
+use mathlib.Core.List.{List}
+use mathlib.Core.Logic.{⊎-elim}
+use Rattle.list.specs.Reach.{InTuple}
+use Rattle.list.proofs.Weighing.{WeighsTo, in-tuple-itself, weighs-itself, places-farther, places-kept, places-all}
 use Rattle.list.proofs.weigh.Statement.{statement}
 use Rattle.list.proofs.weigh.Tie as tie
 
+-- the number that the first places send to
+abbrev To : List ℕ → ℕ → ℕ → ℕ → ℕ → Type 0
+To reaching unbalanced key n first = InTuple key first × WeighsTo reaching unbalanced key n first
+
 abbrev Inv-loop : tie.InvT-loop
-Inv-loop rows places selection place₀ place = (place ≤ places) × (all place (reaches rows selection) ≡ true)
+Inv-loop reaching unbalanced places key first₀ place₀ first place =
+    (place ≤ places) × To reaching unbalanced key place first
 
 abbrev μ-loop : tie.MeasureT-loop
-μ-loop rows places selection place₀ place = places - place
+μ-loop reaching unbalanced places key first₀ place₀ first place = places - place
 
 loop-holds : tie.Need-loop-holds Inv-loop μ-loop
-loop-holds c = (omega arith, refl)
+loop-holds c = (omega arith, (in-tuple-itself (c .args .key), weighs-itself refl))
 
-reached-requires : tie.Need-reached-requires Inv-loop μ-loop
-reached-requires c κs = omega arith
-
-returns : tie.Need-returns Inv-loop μ-loop
-returns c = λ G holds fits candidate.
-    let at = c .before .before .before .before .args in
-    sym
-    (places-reached holds fits candidate (at .places) (le-refl (at .places))
-    ∙ all-missed (at .places) (c .before .before .before .loop .place)
-    (reaches (at .rows .now) (at .selection)) (omega arith)
-    (sym (c .before .reached .ensures) ∙ not-true _ (c .if1 .taken)))
+first-reaching-requires : tie.Need-first-reaching-requires Inv-loop μ-loop
+first-reaching-requires c κs = omega arith
 
 add-place : tie.Need-add-place Inv-loop μ-loop
 add-place c = omega arith
@@ -40,20 +35,29 @@ loop-less c = omega arith
 
 loop-again : tie.Need-loop-again Inv-loop μ-loop
 loop-again c =
-    let at = c .before .before .before .before .args in (
+    let a = c .before .before .before .before .args in
+    let at = c .before .before .before .loop in
+    let next = c .before .first-reaching .ensures in (
       omega arith,
-      all-more (c .before .before .before .loop .place) (reaches (at .rows .now) (at .selection))
-          (c .before .before .before .loop .inv .1)
-          (sym (c .before .reached .ensures) ∙ not-false _ (c .if1 .left)),
+      ⊎-elim
+          (λ w. subst (To (a .reaching .now) (a .unbalanced) (a .key) (at .place + 1)) (sym (w .1)) (
+            next .0,
+            places-farther (a .reaching .now) (a .unbalanced) _ (at .place) (at .inv .1 .1) (next .1)
+                (at .inv .1 .0 .0) (w .0 .taken),
+          ))
+          (λ w. subst (To (a .reaching .now) (a .unbalanced) (a .key) (at .place + 1)) (sym (w .1)) (
+            at .inv .1 .0,
+            places-kept (a .reaching .now) (a .unbalanced) _ (at .place) (at .inv .1 .1) (next .1)
+                (next .0 .0) (w .0 .left),
+          ))
+          (c .if1 .came),
     )
 
-returns-2 : tie.Need-returns-2 Inv-loop μ-loop
-returns-2 c = λ G holds fits candidate.
-    let at = c .before .before .args in
-    let end : c .before .loop .place ≡ at .places = omega arith in
-    sym
-    (places-reached holds fits candidate (at .places) (le-refl (at .places))
-    ∙ subst (λ n. all n (reaches (at .rows .now) (at .selection)) ≡ true) end (c .before .loop .inv .1))
+returns : tie.Need-returns Inv-loop μ-loop
+returns c =
+    let a = c .before .before .args in
+    let at = c .before .loop in
+    (at .inv .1 .0, places-all (a .reaching .now) (a .unbalanced) _ (at .place) (at .inv .1 .1) (omega arith))
 
 pub weigh-spec : {M : Type 1} → statement M
 weigh-spec =
@@ -62,9 +66,8 @@ weigh-spec =
     Inv-loop
     μ-loop
     loop-holds
-    reached-requires
-    returns
+    first-reaching-requires
     add-place
     loop-less
     loop-again
-    returns-2)
+    returns)

@@ -14,6 +14,9 @@ returns : tie.Need-returns
 returns c = λ M L R of none full.
     short-promised (page-made (of .the-groups)) (rw (c .before .wanted-count .ensures) at (c .if1 .taken))
 
+masks-of-requires : tie.Need-masks-of-requires
+masks-of-requires c κs = search needs
+
 settle-requires : tie.Need-settle-requires
 settle-requires c κs = search needs
 
@@ -22,9 +25,10 @@ enum-known-settled c = search needs
 
 write-keys-requires : tie.Need-write-keys-requires
 write-keys-requires c κs =
-    let long = c .before .before .before .before .before in
+    let masks = c .before .before .before .before .before in
+    let long = masks .before in
     let entry = long .before .before .before in (
-      entry .pre,
+      masks .masks-of .ensures .1,
       rw (long .before .wanted-count .ensures) (wanted-some (entry .args .request .wanted)),
       long .if1 .left,
     )
@@ -38,18 +42,22 @@ same-length c = search needs
 returns-2 : tie.Need-returns-2
 returns-2 c = λ M L R of none full.
     let settled = c .before .before .before .before .before .before .before in
-    let long = settled .before in
+    let masks = settled .before in
+    let long = masks .before in
+    let its = masks .masks-of .ensures .0 in
     page-promised of none (rw (long .before .wanted-count .ensures) at (long .if1 .left))
-    (settled .settle .ensures M L R full of)
+    (settled .settle .ensures _ its M L R full of)
     (c .before .before .before .before .before .settled .given .1)
-    (rw (long .before .wanted-count .ensures) at (c .before .before .write-keys .ensures M L R full of))
+    (rw (long .before .wanted-count .ensures) at (c .before .before .write-keys .ensures _ its M L R full of))
 
 returns-3 : tie.Need-returns-3
 returns-3 c = λ M L R of none full.
     let settled = c .before .before .before in
-    let long = settled .before in
+    let masks = settled .before in
+    let long = masks .before in
+    let its = masks .masks-of .ensures .0 in
     page-refused of none (rw (long .before .wanted-count .ensures) at (long .if1 .left))
-    (settled .settle .ensures M L R full of)
+    (settled .settle .ensures _ its M L R full of)
     (c .before .settled2 .given .1)
 
 pub page-of-spec : {M : Type 1} → statement M
@@ -58,6 +66,7 @@ page-of-spec =
     (tie.spec
     wanted-count-requires
     returns
+    masks-of-requires
     settle-requires
     enum-known-settled
     write-keys-requires

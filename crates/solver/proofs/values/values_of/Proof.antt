@@ -11,6 +11,9 @@ use Rattle.solver.proofs.values.values_of.Tie as tie
 returns : tie.Need-returns
 returns c = λ M L R of none full. short-promised (values-made (of .the-groups)) (c .if1 .taken)
 
+masks-of-requires : tie.Need-masks-of-requires
+masks-of-requires c κs = search needs
+
 find-key-requires : tie.Need-find-key-requires
 find-key-requires c κs = search needs
 
@@ -25,8 +28,9 @@ write-requires c κs = search needs
 
 returns-2 : tie.Need-returns-2
 returns-2 c = λ M L R of none full.
-    values-refused of none (omega arith) (c .before .before .before .find-key .ensures M L R full of)
-    (c .before .found .given .1)
+    let asked = c .before .before .before in
+    values-refused of none (omega arith)
+    (asked .find-key .ensures _ (asked .before .masks-of .ensures .0) M L R full of) (c .before .found .given .1)
 
 same-length : tie.Need-same-length
 same-length c = search needs
@@ -34,7 +38,9 @@ same-length c = search needs
 returns-3 : tie.Need-returns-3
 returns-3 c = λ M L R of none full.
     let found = c .before .before .before .before in
-    values-promised of none (omega arith) (found .before .before .find-key .ensures M L R full of)
+    let asked = found .before .before in
+    values-promised of none (omega arith)
+    (asked .find-key .ensures _ (asked .before .masks-of .ensures .0) M L R full of)
     (found .enum-told .given .1)
     (c .before .before .write .ensures M L R full of)
 
@@ -43,6 +49,7 @@ values-of-spec =
     tie.close
     (tie.spec
     returns
+    masks-of-requires
     find-key-requires
     enum-known-found
     enum-told

@@ -10,7 +10,7 @@ use lib.Dec.{ltb}
 use lib.Seq.{append-snoc}
 use lib.ListN.{drop, take-append-drop}
 use Rattle.ac.specs.Lists.{keep, filter, Ascending, next}
-use Rattle.ac.specs.Keys.{Begin, start, after, remaining}
+use Rattle.ac.specs.Keys.{Beginning, start, after, remaining}
 use Rattle.ac.specs.Pages.{page, more, LeastFrom, NoneFrom, boundOf}
 use Rattle.ac.proofs.Order.{ascending-unique}
 use Rattle.ac.proofs.Order.{filter-member, member-filter, filter-ascending}
@@ -22,30 +22,30 @@ one-way a b less more = omega arith
 
 module _ {keys : List ℕ} where
   -- what remains after the beginning are the keys from its bound on
-  pub remaining-members : (begin : Begin) {key : ℕ} → List·Memᴰ key (remaining begin keys)
+  pub remaining-members : (begin : Beginning) {key : ℕ} → List·Memᴰ key (remaining begin keys)
       → List·Memᴰ key keys × (boundOf begin ≤ key)
   remaining-members start m = (m, omega arith)
   remaining-members (after k) {key} m = let t =
       filter-member (ltb k) keys m in (t .0, omega (arith, ltb-true k key (t .1)))
 
   -- and every such key remains
-  members-remaining : (begin : Begin) {key : ℕ} → List·Memᴰ key keys → boundOf begin ≤ key
+  members-remaining : (begin : Beginning) {key : ℕ} → List·Memᴰ key keys → boundOf begin ≤ key
       → List·Memᴰ key (remaining begin keys)
   members-remaining start m h = m
   members-remaining (after k) {key} m h = member-filter (ltb k) m (lt-ltb k key (omega arith))
 
   -- they ascend
-  remaining-ascending : (begin : Begin) → Ascending _<_ keys → Ascending _<_ (remaining begin keys)
+  remaining-ascending : (begin : Beginning) → Ascending _<_ keys → Ascending _<_ (remaining begin keys)
   remaining-ascending start ascending = ascending
   remaining-ascending (after k) ascending = filter-ascending (ltb k) ascending
 
 -- a key of a page is a key of the list
-pub page-members : (begin : Begin) (wanted : ℕ) {keys : List ℕ} {key : ℕ} → List·Memᴰ key (page begin wanted keys)
+pub page-members : (begin : Beginning) (wanted : ℕ) {keys : List ℕ} {key : ℕ} → List·Memᴰ key (page begin wanted keys)
     → List·Memᴰ key keys
 page-members begin wanted {keys} m = remaining-members begin (taken-member wanted (remaining begin keys) m) .0
 
 -- and the keys of a page ascend
-pub page-ascending : (begin : Begin) (wanted : ℕ) {keys : List ℕ} → Ascending _<_ keys
+pub page-ascending : (begin : Beginning) (wanted : ℕ) {keys : List ℕ} → Ascending _<_ keys
     → Ascending _<_ (page begin wanted keys)
 page-ascending begin wanted ascending = taken-ascending wanted (remaining-ascending begin ascending)
 
@@ -76,13 +76,13 @@ module _ {keys : List ℕ} {bound : ℕ} where
 
 module _ {keys : List ℕ} (ascending : Ascending _<_ keys) where
   -- nothing remains if the list has no key from the bound on
-  pub none-remains : (begin : Begin) → NoneFrom keys (boundOf begin) → remaining begin keys ≡ []
+  pub none-remains : (begin : Beginning) → NoneFrom keys (boundOf begin) → remaining begin keys ≡ []
   none-remains begin nothing =
       empty-without-members (remaining begin keys)
       (λ x m. let t = remaining-members begin m in omega (arith, nothing x (t .0)))
 
   -- the least key from the bound on is the first that remains, and after it come those that remain after it
-  pub least-first : (begin : Begin) {key : ℕ} → LeastFrom keys (boundOf begin) key
+  pub least-first : (begin : Beginning) {key : ℕ} → LeastFrom keys (boundOf begin) key
       → remaining begin keys ≡ key ∷ remaining (after key) keys
   least-first begin {key} found =
       ascending-unique one-way (remaining-ascending begin ascending)
@@ -103,7 +103,7 @@ module _ {keys : List ℕ} (ascending : Ascending _<_ keys) where
           members-remaining begin (t .0) (omega (arith, found .at-or-above))
 
   -- What remains after a later key remains of what remains after a beginning.
-  remaining-later : (begin : Begin) {key : ℕ} → boundOf begin ≤ key
+  remaining-later : (begin : Beginning) {key : ℕ} → boundOf begin ≤ key
       → remaining (after key) (remaining begin keys) ≡ remaining (after key) keys
   remaining-later begin {key} bound =
       ascending-unique one-way (remaining-ascending (after key) (remaining-ascending begin ascending))
@@ -117,7 +117,7 @@ module _ {keys : List ℕ} (ascending : Ascending _<_ keys) where
       ))
 
   -- What remains after a page's last key is what the page left.
-  pub remaining-after-page : (begin : Begin) (wanted : ℕ) (before : List ℕ) (last : ℕ)
+  pub remaining-after-page : (begin : Beginning) (wanted : ℕ) (before : List ℕ) (last : ℕ)
       → page begin wanted keys ≡ before ++ last ∷ []
       → remaining (after last) keys ≡ drop wanted (remaining begin keys)
   remaining-after-page begin wanted before last e =

@@ -14,7 +14,7 @@ use Rattle.ac.specs.Lists.{below, sum, Ascending}
 use Rattle.ac.specs.Rows.{Exactly, _≼_, _≺_, _≺_.here, _≺_.later}
 use Rattle.ac.specs.Equation.{dot, Equation, Solves, Minimal}
 use Rattle.ac.specs.Budgets.{Enough}
-use Rattle.ac.specs.Search.{lower, leastAmong, box, solves, largest, bound, candidates, minimalSolutions}
+use Rattle.ac.specs.Search.{lower, leastAmong, box, solves, largest, searchBound, candidates, minimalSolutions}
 use Rattle.ac.proofs.Vectors.{same-length, sum-mono, ≼-refl, ≼-equal, ≼-entry}
 use Rattle.ac.proofs.Order.{ascending-single, filter-member, member-filter, filter-ascending}
 use Rattle.ac.proofs.Places.{from-ascending}
@@ -132,7 +132,7 @@ within-largest [] i = omega arith
 within-largest (n ∷ ns) zero = omega arith
 within-largest (n ∷ ns) (suc i) = omega (arith, within-largest ns i)
 
-bound-enough : (E : Equation) → Enough E (bound E) (bound E)
+bound-enough : (E : Equation) → Enough E (searchBound E) (searchBound E)
 bound-enough E =
     record {
       some = omega arith;
@@ -143,24 +143,24 @@ bound-enough E =
 module _ (E : Equation) where
   -- the candidates are exactly the solutions up to the bound
   candidate-solves : {v : List ℕ} → List·Memᴰ v (candidates E) → Solves E v
-  candidate-solves {v} m = solves-true E v .0 (filter-member (solves E) (box (length (E .left)) (bound E)) m .1)
+  candidate-solves {v} m = solves-true E v .0 (filter-member (solves E) (box (length (E .left)) (searchBound E)) m .1)
 
   candidate-entries : {v : List ℕ} → List·Memᴰ v (candidates E)
-      → (length v ≡ length (E .left)) × ((i : ℕ) → getD v i 0 ≤ bound E)
-  candidate-entries m = box-entries (length (E .left)) (bound E)
-      (filter-member (solves E) (box (length (E .left)) (bound E)) m .0)
+      → (length v ≡ length (E .left)) × ((i : ℕ) → getD v i 0 ≤ searchBound E)
+  candidate-entries m = box-entries (length (E .left)) (searchBound E)
+      (filter-member (solves E) (box (length (E .left)) (searchBound E)) m .0)
 
-  is-candidate : {v : List ℕ} → length v ≡ length (E .left) → ((i : ℕ) → getD v i 0 ≤ bound E) → Solves E v
+  is-candidate : {v : List ℕ} → length v ≡ length (E .left) → ((i : ℕ) → getD v i 0 ≤ searchBound E) → Solves E v
       → List·Memᴰ v (candidates E)
   is-candidate {v} vector small s =
-      member-filter (solves E) (box-member (length (E .left)) (bound E) v vector small) (solves-true E v .1 s)
+      member-filter (solves E) (box-member (length (E .left)) (searchBound E) v vector small) (solves-true E v .1 s)
 
   -- The search finds exactly the minimal solutions, in ascending order.
   pub minimal-solutions-exact : Exactly (Minimal E) (minimalSolutions E)
   minimal-solutions-exact =
       record {
         ascending = filter-ascending (leastAmong (candidates E))
-            (filter-ascending (solves E) (box-ascending (length (E .left)) (bound E)));
+            (filter-ascending (solves E) (box-ascending (length (E .left)) (searchBound E)));
         only = λ v m. let both =
             filter-member (leastAmong (candidates E)) (candidates E) m in only v (both .0) (both .1);
         all = λ v m.

@@ -101,12 +101,12 @@ pub record Listed (M : Mode) (lay : Layout) (L R : List ℕ) (G : Groups) (key :
   pub its-key : key ≡ keyOf lay selection
 
 -- where to begin: the start, or after a key
-pub data Begin : Type 0 where
-  start : Begin
-  after : ℕ → Begin
+pub data Beginning : Type 0 where
+  start : Beginning
+  after : ℕ → Beginning
 
 -- the keys of the list that come after the beginning
-abbrev pub remaining : Begin → List ℕ → List ℕ
+abbrev pub remaining : Beginning → List ℕ → List ℕ
 remaining start ks = ks
 remaining (after k) ks = filter (ltb k) ks
 

@@ -6,14 +6,14 @@ use mathlib.Core.List.{List, List·Memᴰ}
 use lib.ListN.{length, take}
 use lib.Dec.{ltb}
 use Rattle.ac.specs.Lists.{flatMap, Ascending}
-use Rattle.ac.specs.Keys.{Begin, start, after, remaining}
+use Rattle.ac.specs.Keys.{Beginning, start, after, remaining}
 
 -- the next keys, as many as are wanted or, if fewer remain, all that remain
-abbrev pub page : Begin → ℕ → List ℕ → List ℕ
+abbrev pub page : Beginning → ℕ → List ℕ → List ℕ
 page begin wanted keys = take wanted (remaining begin keys)
 
 -- whether more follow
-abbrev pub more : Begin → ℕ → List ℕ → Bool
+abbrev pub more : Beginning → ℕ → List ℕ → Bool
 more begin wanted keys = ltb wanted (length (remaining begin keys))
 
 -- the pages one after the other
@@ -36,6 +36,6 @@ abbrev pub NoneFrom : List ℕ → ℕ → Type 0
 NoneFrom keys bound = (other : ℕ) → List·Memᴰ other keys → other < bound
 
 -- the least number that may come after the beginning
-abbrev pub boundOf : Begin → ℕ
+abbrev pub boundOf : Beginning → ℕ
 boundOf start = 0
 boundOf (after key) = key + 1

@@ -30,8 +30,8 @@ leastOf vectors = filter (leastAmong vectors) vectors
 
 -- all vectors of so many places with entries up to a bound, ascending
 abbrev pub box : ℕ → ℕ → List (List ℕ)
-box zero bound = [] ∷ []
-box (suc places) bound = flatMap (λ x. map (λ v. x ∷ v) (box places bound)) (below (suc bound))
+box zero searchBound = [] ∷ []
+box (suc places) searchBound = flatMap (λ x. map (λ v. x ∷ v) (box places searchBound)) (below (suc searchBound))
 
 -- whether a vector solves the equation
 abbrev pub solves : Equation → List ℕ → Bool
@@ -44,12 +44,12 @@ largest [] = 0
 largest (n ∷ ns) = max n (largest ns)
 
 -- how far the search goes: to the largest coefficient, the offsets among them, and at least to 1
-abbrev pub bound : Equation → ℕ
-bound E = max 1 (max (largest (E .left-offset ∷ E .left)) (largest (E .right-offset ∷ E .right)))
+abbrev pub searchBound : Equation → ℕ
+searchBound E = max 1 (max (largest (E .left-offset ∷ E .left)) (largest (E .right-offset ∷ E .right)))
 
 -- the solutions up to the bound, ascending
 abbrev pub candidates : Equation → List (List ℕ)
-candidates E = filter (solves E) (box (length (E .left)) (bound E))
+candidates E = filter (solves E) (box (length (E .left)) (searchBound E))
 
 -- what the search finds
 abbrev pub minimalSolutions : Equation → List (List ℕ)

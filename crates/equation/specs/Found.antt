@@ -14,8 +14,8 @@ abbrev pub equationWith : List ℕ → List ℕ → Offsets → Equation
 equationWith left right offsets = equation left right (offsets .left) (offsets .right) (offsets .homogeneous)
 
 -- the equation that a struct holds
-abbrev pub equationOf : NetEquation → Equation
-equationOf e = equationWith (take (e .places) (e .left)) (take (e .places) (e .right)) (e .offsets)
+abbrev pub equationBy : NetEquation → Equation
+equationBy e = equationWith (take (e .places) (e .left)) (take (e .places) (e .right)) (e .offsets)
 
 -- If the rows are at most `limit`, their number, and exactly they in ascending order; else the number after
 -- `limit`, which says that there are more.

@@ -8,7 +8,7 @@ use numbers::limits::VARIABLES;
 use walk::search;
 ghost use Prim.Native.Nat.{_≤_};
 ghost use Rattle.ac.specs.Limits.{limits};
-ghost use Rattle.equation.specs.Found.{equationOf, Finds};
+ghost use Rattle.equation.specs.Found.{equationBy, Finds};
 
 // What is added to the two sums, and whether all-zero vectors are left out.
 pub struct Offsets {
@@ -38,7 +38,7 @@ pub struct FoundRows {
 // The rows of an equation, if they are at most as many as the limit says.
 pub fn find_rows(equation: NetEquation, limit: usize) -> FoundRows
     requires { ⌜ (equation .places ≤ limits .variables) × (limit ≤ limits .balanced-rows) ⌝ }
-    ensures { λ r. ⌜ Finds limit (equationOf equation) (r .rows) (r .number) ⌝ }
+    ensures { λ r. ⌜ Finds limit (equationBy equation) (r .rows) (r .number) ⌝ }
 {
     let places = equation.places;
     let left = equation.left;

@@ -5,7 +5,7 @@ use mathlib.Core.Path.{_≡_, refl, ap, ap₂, sym, _∙_}
 use mathlib.Core.List.{List, [], _∷_, _++_, append-assoc}
 use lib.ListN.{length, take, drop, length-drop, take-append-drop}
 use lib.Seq.{drop-nil, drop-drop, take-append-le, drop-append-le}
-use Rattle.library.specs.Library.{blocksOf, joined}
+use Rattle.library.specs.Library.{blocksOf, allBytes}
 
 -- bytes without their first 512 and those of some blocks more
 drop-blocks : (n : ℕ) (bytes : List ℕ) → drop (512 * n) (drop 512 bytes) ≡ drop (512 * suc n) bytes
@@ -53,12 +53,12 @@ blocks-all (suc n) (suc m) (byte ∷ bytes) h within =
 
 -- The blocks one after the other, and behind them the rest, are all bytes: none is lost and none is there
 -- twice.
-pub blocks-joined : (n : ℕ) (bytes : List ℕ) → joined (blocksOf n bytes) ++ drop (512 * n) bytes ≡ bytes
+pub blocks-joined : (n : ℕ) (bytes : List ℕ) → allBytes (blocksOf n bytes) ++ drop (512 * n) bytes ≡ bytes
 blocks-joined zero bytes = refl
 blocks-joined (suc n) [] = drop-nil (512 * suc n)
 blocks-joined (suc n) (byte ∷ bytes) =
     let all = byte ∷ bytes in
-    let later = joined (blocksOf n (drop 512 all)) in
+    let later = allBytes (blocksOf n (drop 512 all)) in
     append-assoc (take 512 all) later (drop (512 * suc n) all)
     ∙ ap (λ (l : List ℕ). take 512 all ++ l)
     (ap (λ (l : List ℕ). later ++ l) (sym (drop-blocks n all)) ∙ blocks-joined n (drop 512 all))

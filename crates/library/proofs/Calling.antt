@@ -8,7 +8,7 @@ use lib.ListN.{length, take, drop, length-append, length-drop, take-append-drop}
 use lib.Seq.{take-at, take-all, take-append-add, length-take-le}
 use lib.IntN.{ℤ}
 use borrow.Rule.Slice.PartMut.{putMid, take-put}
-use Rattle.library.specs.Reading.{waits, waiting, roomMade, moved, more, Fits, Comes, Misses, Takes}
+use Rattle.library.specs.Reading.{waits, waiting, roomMade, moved, more, ReaderFits, Comes, Misses, Takes}
 use Rattle.library.specs.Library.{Call, brought, Reads, ReadsOnce, Calls}
 use Rattle.library.specs.declared.Reader.{Reader}
 use Rattle.library.specs.declared.Input.{Input}
@@ -17,18 +17,18 @@ use Rattle.library.specs.declared.Next.the-variants as next
 use Rattle.library.proofs.Coming.{wanted-most}
 
 -- as many bytes wait as stand between the reader's places
-pub waiting-length : {buffer : List ℕ} {r : Reader} → Fits buffer r → length (waiting buffer r) ≡ waits r
+pub waiting-length : {buffer : List ℕ} {r : Reader} → ReaderFits buffer r → length (waiting buffer r) ≡ waits r
 waiting-length {buffer} {r} fits =
     length-take-le (waits r) (drop (r .at) buffer)
     (omega (arith, length-drop (r .at) buffer, fits .ordered, fits .within))
 
 -- the reader's place in the buffer in which room was made
-pub room-within : {buffer : List ℕ} {r ready : Reader} {size : ℕ} → Fits buffer r → ready ≡ roomMade r →
+pub room-within : {buffer : List ℕ} {r ready : Reader} {size : ℕ} → ReaderFits buffer r → ready ≡ roomMade r →
     size ≡ length buffer → ready .filled ≤ size
 room-within fits made same = omega (arith, ap (λ (z : Reader). z .filled) made, fits .ordered, fits .within)
 
 -- A call into the room that was made: `last` is what stands there then.
-module _ {buffer mid : List ℕ} {r ready : Reader} (last : List ℕ) (fits : Fits buffer r)
+module _ {buffer mid : List ℕ} {r ready : Reader} (last : List ℕ) (fits : ReaderFits buffer r)
     (made : ready ≡ roomMade r) (as-moved : mid ≡ moved r buffer) (same : length mid ≡ length buffer) where
   abbrev read-into : List ℕ
   read-into = putMid (ready .filled) (length mid - ready .filled) mid last
@@ -69,7 +69,7 @@ take-min n l = go (decLe n (length l))
         ∙ sym (take-all n l (omega arith))
 
 -- What waits after a call: what waited before, and behind that what the call brought.
-module _ {buffer : List ℕ} {r : Reader} (room : List ℕ) (fits : Fits buffer r) where
+module _ {buffer : List ℕ} {r : Reader} (room : List ℕ) (fits : ReaderFits buffer r) where
   -- some bytes of the room
   waits-more : (k : ℕ) → k ≤ length room →
       take (waits (more k (roomMade r))) (waiting buffer r ++ room) ≡ waiting buffer r ++ take k room
@@ -100,7 +100,7 @@ module _ {buffer : List ℕ} {r : Reader} (room : List ℕ) (fits : Fits buffer 
   takes-on (Takes.missed e m) = misses-on m ∙ ap (λ z. waiting buffer r ++ brought z room) (sym e)
 
 -- the same of the buffer as it is then
-pub read-waiting : {buffer after : List ℕ} {r r′ : Reader} {c : Call} → Fits buffer r →
+pub read-waiting : {buffer after : List ℕ} {r r′ : Reader} {c : Call} → ReaderFits buffer r →
     Reads buffer r c r′ after → waiting after r′ ≡ waiting buffer r ++ brought (c .answer) (c .room)
 read-waiting {r′ = r′} {c = c} fits a =
     ap (λ (l : List ℕ). waiting l r′) (a .behind) ∙ takes-on (c .room) fits (a .takes)
@@ -117,7 +117,7 @@ to-ask r = r .retries + (512 - waits r) + open-still (r .input)
 
 -- What a call leaves: the reader's places in the buffer, the blocks that may be read, and less to ask for.
 pub record Left (r r′ : Reader) (after : List ℕ) : Type 0 where
-  pub fits : Fits after r′
+  pub fits : ReaderFits after r′
   pub same-left : r′ .left ≡ r .left
   pub falls : waits r < 512 → r .input ≡ input.More → to-ask r′ < to-ask r
 
@@ -146,7 +146,7 @@ module _ {after : List ℕ} {r : Reader} (size : ℕ) (large : 512 ≤ length af
   left-takes (Takes.missed e m) = left-missed m
 
 -- a call leaves this
-pub read-left : {buffer after : List ℕ} {r r′ : Reader} {c : Call} → Fits buffer r → Reads buffer r c r′ after →
+pub read-left : {buffer after : List ℕ} {r r′ : Reader} {c : Call} → ReaderFits buffer r → Reads buffer r c r′ after →
     Left r r′ after
 read-left {buffer} {r = r} {c = c} fits a =
     left-takes (length (c .room)) (omega (arith, a .same-length, fits .room))
@@ -157,11 +157,11 @@ read-left {buffer} {r = r} {c = c} fits a =
 pub record Reached (buffer : List ℕ) (r r′ : Reader) (after : List ℕ) : Type 0 where
   pub calls : List Call
   pub reads : Calls buffer r calls r′ after
-  pub fits : Fits after r′
+  pub fits : ReaderFits after r′
   pub same-length : length after ≡ length buffer
 
 -- none
-pub reached-none : {buffer : List ℕ} {r : Reader} → Fits buffer r → Reached buffer r r buffer
+pub reached-none : {buffer : List ℕ} {r : Reader} → ReaderFits buffer r → Reached buffer r r buffer
 reached-none fits = record { calls = []; reads = Calls.none; fits = fits; same-length = refl }
 
 -- one more, where a read is wanted
@@ -176,7 +176,7 @@ reached-more far comes a =
     }
 
 -- a read that is wanted leaves less to ask for
-pub wanted-falls : {buffer after : List ℕ} {r r′ : Reader} → Fits buffer r → Comes r next.Wanted r →
+pub wanted-falls : {buffer after : List ℕ} {r r′ : Reader} → ReaderFits buffer r → Comes r next.Wanted r →
     ReadsOnce buffer r r′ after → to-ask r′ < to-ask r
 wanted-falls {r = r} fits (Comes.a-read few still) a =
     read-left fits (a .read) .falls (omega (arith, wanted-most (r .left))) still

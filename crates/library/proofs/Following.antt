@@ -6,7 +6,7 @@ use mathlib.Core.Path.{_≡_, refl, subst, _∙_}
 use mathlib.Core.List.{List, [], _∷_, _++_}
 use lib.ListN.{length}
 use lib.IntN.{ℤ}
-use Rattle.library.specs.Reading.{opened, part, Fits, Comes}
+use Rattle.library.specs.Reading.{opened, part, ReaderFits, Comes}
 use Rattle.library.specs.Library.{Call, Calls, HandsOn, Run, AtEnd, AtLimit, AtFailure}
 use Rattle.library.specs.declared.Reader.{Reader}
 use Rattle.library.specs.declared.Next.{Next}
@@ -15,15 +15,15 @@ use Rattle.library.proofs.Calling.{read-left}
 use Rattle.library.proofs.Handed.{at-end, at-limit, at-failure}
 
 -- a reader of an opened library fits every buffer that has room for a block
-pub opened-fits : (buffer : List ℕ) (most : ℕ) → 512 ≤ length buffer → Fits buffer (opened most)
+pub opened-fits : (buffer : List ℕ) (most : ℕ) → 512 ≤ length buffer → ReaderFits buffer (opened most)
 opened-fits buffer most room = record { ordered = omega arith; within = omega arith; room = room }
 
 -- calls leave the reader's places in the buffer, and as many blocks as before
 record Kept (r r′ : Reader) (after : List ℕ) : Type 0 where
-  pub fits : Fits after r′
+  pub fits : ReaderFits after r′
   pub same-left : r′ .left ≡ r .left
 
-calls-keep : {buffer after : List ℕ} {r r′ : Reader} {calls : List Call} → Fits buffer r →
+calls-keep : {buffer after : List ℕ} {r r′ : Reader} {calls : List Call} → ReaderFits buffer r →
     Calls buffer r calls r′ after → Kept r r′ after
 calls-keep fits Calls.none = record { fits = fits; same-left = refl }
 calls-keep fits (Calls.one-more before comes a) =
@@ -33,7 +33,7 @@ calls-keep fits (Calls.one-more before comes a) =
 
 -- what a block tells
 pub record ABlock (r : Reader) (start size : ℕ) (r′ : Reader) (after : List ℕ) : Type 0 where
-  pub fits : Fits after r′
+  pub fits : ReaderFits after r′
   pub ends : start + size ≡ r′ .at
   pub one-less : r .left ≡ r′ .left + 1
 
@@ -53,7 +53,7 @@ block-tells k (Comes.a-short-block may some few over) =
     }
 
 -- where a block comes next, it tells this
-pub handed-block : {buffer after : List ℕ} {r r′ : Reader} {n : Next} {start size : ℕ} → Fits buffer r →
+pub handed-block : {buffer after : List ℕ} {r r′ : Reader} {n : Next} {start size : ℕ} → ReaderFits buffer r →
     HandsOn buffer r n r′ after → n ≡ next.Block start size → ABlock r start size r′ after
 handed-block {r′ = r′} fits h e =
     block-tells (calls-keep fits (h .reads)) (subst (λ n. Comes (h .full) n r′) e (h .comes))

@@ -9,8 +9,8 @@ use mathlib.Core.List.{List, [], _∷_, _++_}
 use lib.ListN.{length, take, drop, length-append, length-drop, drop-of-length-le}
 use lib.Seq.{take-add, take-take, take-all, drop-at, drop-drop, drop-append-le, length-take-le}
 use lib.IntN.{ℤ}
-use Rattle.library.specs.Reading.{patience, part, waits, waiting, handed, Fits, Comes}
-use Rattle.library.specs.Library.{blocksOf, joined, Call, came, brought, Going, Reads, Run}
+use Rattle.library.specs.Reading.{patience, part, waits, waiting, handed, ReaderFits, Comes}
+use Rattle.library.specs.Library.{blocksOf, allBytes, Call, came, brought, Going, Reads, Run}
 use Rattle.library.specs.Library.{HandedOn, AtEnd, AtLimit, AtFailure}
 use Rattle.library.specs.declared.Reader.{Reader}
 use Rattle.library.specs.declared.Input.{Input}
@@ -24,7 +24,7 @@ use Rattle.library.proofs.Said.{Told, told-takes, goes-on, ended-by, fa
 -- What is kept all along a run: the first fields of `HandedOn`; that no short block was handed on before the
 -- input had ended; and what the calls say of the input.
 record Holds (most : ℕ) (calls : List Call) (blocks : List (List ℕ)) (r : Reader) (buffer : List ℕ) : Type 0 where
-  pub fits : Fits buffer r
+  pub fits : ReaderFits buffer r
   pub counted : length blocks + r .left ≡ most
   pub in-order : blocks ≡ blocksOf (length blocks) (came calls)
   pub rest : waiting buffer r ≡ drop (512 * length blocks) (came calls)
@@ -179,7 +179,7 @@ module _ {most : ℕ} {calls : List Call} {blocks : List (List ℕ)} {r : Reader
         in-order = h .in-order;
         rest = h .rest;
         none-lost =
-            ap₂ {C = List ℕ} (λ l w. joined l ++ w) (h .in-order) (h .rest)
+            ap₂ {C = List ℕ} (λ l w. allBytes l ++ w) (h .in-order) (h .rest)
             ∙ blocks-joined (length blocks) (came calls);
       }
 

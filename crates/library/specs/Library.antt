@@ -5,7 +5,7 @@ use mathlib.Core.Path.{_≡_}
 use mathlib.Core.List.{List, [], _∷_, _++_}
 use lib.ListN.{length, take, drop}
 use lib.IntN.{ℤ, pos, negsuc}
-use Rattle.library.specs.Reading.{patience, opened, part, waiting, roomMade, interrupted, Fits, Comes, Takes}
+use Rattle.library.specs.Reading.{patience, opened, part, waiting, roomMade, interrupted, ReaderFits, Comes, Takes}
 use Rattle.library.specs.declared.Reader.{Reader}
 use Rattle.library.specs.declared.Next.{Next}
 use Rattle.library.specs.declared.Next.the-variants as next
@@ -17,9 +17,9 @@ blocksOf (suc most) [] = []
 blocksOf (suc most) (byte ∷ bytes) = take 512 (byte ∷ bytes) ∷ blocksOf most (drop 512 (byte ∷ bytes))
 
 -- blocks one after the other
-abbrev pub joined : List (List ℕ) → List ℕ
-joined [] = []
-joined (block ∷ blocks) = block ++ joined blocks
+abbrev pub allBytes : List (List ℕ) → List ℕ
+allBytes [] = []
+allBytes (block ∷ blocks) = block ++ allBytes blocks
 
 -- One call of read: what stands then in the room that it was lent, what it answered, and the error's number
 -- then.
@@ -114,11 +114,11 @@ pub data Run (most : ℕ) : List Call → List (List ℕ) → Reader → List �
 -- that came, in order, and what waits is the rest.
 pub record HandedOn (most : ℕ) (calls : List Call) (blocks : List (List ℕ)) (r : Reader) (buffer : List ℕ)
     : Type 0 where
-  pub fits : Fits buffer r
+  pub fits : ReaderFits buffer r
   pub counted : length blocks + r .left ≡ most
   pub in-order : blocks ≡ blocksOf (length blocks) (came calls)
   pub rest : waiting buffer r ≡ drop (512 * length blocks) (came calls)
-  pub none-lost : joined blocks ++ waiting buffer r ≡ came calls
+  pub none-lost : allBytes blocks ++ waiting buffer r ≡ came calls
 
 -- At the end: a call said so, and the blocks handed on are all of the library, which has no more than may be
 -- read.

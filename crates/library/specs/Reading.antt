@@ -32,7 +32,7 @@ abbrev pub waiting : List ℕ → Reader → List ℕ
 waiting buffer r = part (r .at) (waits r) buffer
 
 -- the reader's places lie in the buffer, which has room for a block
-pub record Fits (buffer : List ℕ) (r : Reader) : Type 0 where
+pub record ReaderFits (buffer : List ℕ) (r : Reader) : Type 0 where
   pub ordered : r .at ≤ r .filled
   pub within : r .filled ≤ length buffer
   pub room : 512 ≤ length buffer

@@ -8,7 +8,7 @@ ghost use mathlib.Core.Path.{_≡_};
 ghost use Prim.Native.Nat.{_+_, _-_, _≤_, _<_};
 ghost use lib.ListN.{length};
 ghost use Rattle.library.specs.Reading.{opened, wanted, handed, roomMade, moved, told};
-ghost use Rattle.library.specs.Reading.{Fits, Comes, Misses, Takes};
+ghost use Rattle.library.specs.Reading.{ReaderFits, Comes, Misses, Takes};
 ghost use Rattle.library.specs.Library.{ReadsOnce, HandsOn};
 
 // The bytes of a block.
@@ -68,7 +68,7 @@ pub fn open(most: u64) -> Reader
 
 // The next block, or why there is none: reads as long as a read is wanted.
 pub fn next_block(fd: i32, buffer: &mut [u8], reader: Reader) -> Step
-    requires { ⌜ Fits (now buffer) reader ⌝ }
+    requires { ⌜ ReaderFits (now buffer) reader ⌝ }
     ensures { λ r. ⌜ HandsOn (now (buffer .entry)) reader (r .next) (r .reader) (now (buffer .exit)) ⌝ }
 {
     let mut read = reader;
@@ -149,7 +149,7 @@ fn hand_on(reader: Reader, length: usize) -> Step
 
 // One call of read into the room behind the bytes that wait, which are moved to the buffer's start before it.
 fn read_more(fd: i32, buffer: &mut [u8], reader: Reader) -> Reader
-    requires { ⌜ Fits (now buffer) reader ⌝ }
+    requires { ⌜ ReaderFits (now buffer) reader ⌝ }
     ensures { λ r. ⌜ ReadsOnce (now (buffer .entry)) reader r (now (buffer .exit)) ⌝ }
 {
     let ready = make_room(buffer, reader);
@@ -160,7 +160,7 @@ fn read_more(fd: i32, buffer: &mut [u8], reader: Reader) -> Reader
 
 // Moves the bytes that wait to the buffer's start.
 pub fn make_room(buffer: &mut [u8], reader: Reader) -> Reader
-    requires { ⌜ Fits (now buffer) reader ⌝ }
+    requires { ⌜ ReaderFits (now buffer) reader ⌝ }
     ensures { λ r. ⌜ r ≡ roomMade reader ⌝ }
     ensures { λ r. ⌜ now (buffer .exit) ≡ moved reader (now (buffer .entry)) ⌝ }
 {

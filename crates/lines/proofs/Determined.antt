@@ -15,12 +15,12 @@ use Rattle.block.proofs.Determined.{one-result}
 use Rattle.solver.specs.Rows.{GroupSizes}
 use Rattle.solver.specs.Page.{PageWritten}
 use Rattle.solver.proofs.Determined.{one-rows, one-page}
-use Rattle.output.specs.Step.{together}
+use Rattle.output.specs.Step.{linesJoined}
 use Rattle.tally.specs.Line.{BlockFound, lineOf}
 use Rattle.tally.specs.Counts.{closingOf}
 use Rattle.tally.specs.declared.Line.{Line}
 use Rattle.lines.specs.Lines.{blockLines, closingLines}
-use Rattle.lines.specs.Library.{substitutionOf, foundBy, PairFound, rows-refused, page-refused, a-page, Returns, read-refused, sides, BlocksText, no-more, one-more, countsOf, LibraryText}
+use Rattle.lines.specs.Library.{bindingsOf, foundBy, PairFound, rows-refused, page-refused, a-page, Returns, read-refused, sides, BlocksText, no-more, one-more, countsOf, LibraryText}
 
 -- what two sides come to
 pub record SameFound (r r′ : Outcome BlockFound) (p p′ : List (List Binding)) : Type 0 where
@@ -99,7 +99,7 @@ blocks-determined {place} (one-more {returned = r} {page = p} found rest)
     ap₂ (λ r p. blockLines place (lineOf r) p) (same .same-returned) (same .same-page) in
     record {
       same-lines = ap₂ (λ (r : Outcome BlockFound) (ls : List Line). lineOf r ∷ ls) (same .same-returned) (others .same-lines);
-      same-text = ap₂ (λ (ls : List (List ℕ)) (t : List ℕ). together ls ++ t) first (others .same-text);
+      same-text = ap₂ (λ (ls : List (List ℕ)) (t : List ℕ). linesJoined ls ++ t) first (others .same-text);
     }
 
 -- Two texts of the same blocks are identical.

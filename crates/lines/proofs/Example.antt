@@ -8,7 +8,7 @@ use Rattle.text.specs.Ascii.{ascii}
 use Rattle.text.specs.Decimal.{decimal}
 use Rattle.tally.specs.declared.Line.{Line}
 use Rattle.tally.specs.declared.Line.the-variants.{Listed, NoUnifier}
-use Rattle.tally.specs.declared.Counts.{Counts}
+use Rattle.tally.specs.declared.Totals.{Totals}
 use Rattle.tally.specs.declared.Closing.the-variants.{Counted}
 use Rattle.lines.specs.Lines.{blockLine, substitutionLine, endLine, closingLines}
 
@@ -21,7 +21,7 @@ abbrev listed : Line
 listed = Listed 0 4 2 false
 
 -- two blocks were read, of which one is listed and one has no unifier
-abbrev counts : Counts
+abbrev counts : Totals
 counts = record { blocks = 2; listed = 1; none = 1; refused = 0 }
 
 pub example :

@@ -7,13 +7,13 @@ use mathlib.Core.List.{List, [], _∷_, _++_, append-assoc, append-nil}
 use lib.ListN.{length, length-append}
 use Rattle.ac.specs.Lists.{keep, filter}
 use Rattle.ac.specs.Values.{Binding}
-use Rattle.output.specs.Step.{together}
+use Rattle.output.specs.Step.{linesJoined}
 use Rattle.tally.specs.Line.{BlockFound, lineOf}
 use Rattle.numbers.specs.Outcome.{Outcome}
 use Rattle.tally.specs.Counts.{counted}
 use Rattle.tally.specs.declared.Line.{Line}
 use Rattle.tally.specs.declared.Line.the-variants.{Listed, NoUnifier, Refused}
-use Rattle.tally.specs.declared.Counts.{Counts}
+use Rattle.tally.specs.declared.Totals.{Totals}
 use Rattle.lines.specs.Lines.{blockLines}
 use Rattle.lines.specs.Library.{Returns, BlocksText, no-more, one-more, isListed, isNone, isRefused, howMany, countsOf}
 
@@ -28,22 +28,22 @@ pub blocks-more : {place : ℕ} {blocks : List (List ℕ)} {lines : List Line} {
     {block : List ℕ} {returned : Outcome BlockFound} {page : List (List Binding)}
     → BlocksText place blocks lines text → Returns block ((place + length blocks) % 65536) returned page
     → BlocksText place (blocks ++ (block ∷ [])) (lines ++ (lineOf returned ∷ []))
-    (text ++ together (blockLines (place + length blocks) (lineOf returned) page))
+    (text ++ linesJoined (blockLines (place + length blocks) (lineOf returned) page))
 blocks-more {place} {block = block} {returned = returned} {page = page} no-more found =
     let same : place + 0 ≡ place = omega arith in
     subst (λ (t : List ℕ). BlocksText place (block ∷ []) (lineOf returned ∷ []) t)
-    (append-nil (together (blockLines place (lineOf returned) page))
-    ∙ ap (λ (k : ℕ). together (blockLines k (lineOf returned) page)) (sym same))
+    (append-nil (linesJoined (blockLines place (lineOf returned) page))
+    ∙ ap (λ (k : ℕ). linesJoined (blockLines k (lineOf returned) page)) (sym same))
     (one-more (subst (λ (k : ℕ). Returns block (k % 65536) returned page) same found) no-more)
 blocks-more {place} {blocks = first ∷ blocks} {block = block} {returned = returned} {page = page}
     (one-more {returned = r} {page = p} {lines = lines} {text = text} found-first rest) found =
     let same : place + suc (length blocks) ≡ place + 1 + length blocks = omega arith in
-    let own = together (blockLines place (lineOf r) p) in
+    let own = linesJoined (blockLines place (lineOf r) p) in
     let more = blocks-more rest (subst (λ (k : ℕ). Returns block (k % 65536) returned page) same found) in
     subst
     (λ (t : List ℕ). BlocksText place (first ∷ blocks ++ (block ∷ [])) (lineOf r ∷ lines ++ (lineOf returned ∷ [])) t)
     (sym (append-assoc own text _)
-    ∙ ap (λ (k : ℕ). own ++ text ++ together (blockLines k (lineOf returned) page)) (sym same))
+    ∙ ap (λ (k : ℕ). own ++ text ++ linesJoined (blockLines k (lineOf returned) page)) (sym same))
     (one-more found-first more)
 
 -- the lines of a kind, with one line more
@@ -70,7 +70,7 @@ module _ (kind : Line → Bool) where
       go false rest = omega (arith, rest)
 
 -- counts are the same where each is
-same-counts : {b b′ l l′ n n′ r r′ : ℕ} → b ≡ b′ → l ≡ l′ → n ≡ n′ → r ≡ r′ → _≡_ {A = Counts}
+same-counts : {b b′ l l′ n n′ r r′ : ℕ} → b ≡ b′ → l ≡ l′ → n ≡ n′ → r ≡ r′ → _≡_ {A = Totals}
     (record { blocks = b; listed = l; none = n; refused = r })
     (record { blocks = b′; listed = l′; none = n′; refused = r′ })
 same-counts b l n r = cc (b, l, n, r)

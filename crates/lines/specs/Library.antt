@@ -15,12 +15,12 @@ use Rattle.block.specs.Read.{SideLengths, ReadPromise}
 use Rattle.solver.specs.Rows.{rowsBuffer, GroupSizes, RowsPromise}
 use Rattle.solver.specs.Page.{PageWritten, PagePromise}
 use Rattle.solver.specs.Existence.{replacementOf}
-use Rattle.output.specs.Step.{together}
+use Rattle.output.specs.Step.{linesJoined}
 use Rattle.tally.specs.Line.{BlockFound, constantsRows, lineOf}
 use Rattle.tally.specs.Counts.{closingOf}
 use Rattle.tally.specs.declared.Line.{Line}
 use Rattle.tally.specs.declared.Line.the-variants.{Listed, NoUnifier, Refused}
-use Rattle.tally.specs.declared.Counts.{Counts}
+use Rattle.tally.specs.declared.Totals.{Totals}
 use Rattle.lines.specs.Lines.{blockLines, closingLines}
 
 -- At most 1,048,576 blocks are read.
@@ -32,8 +32,8 @@ abbrev pub lent : ℕ → List ℕ
 lent size = replicate size 0
 
 -- A substitution gives for each variable, ascending, its value: that of the key, of the pair's groups of rows.
-abbrev pub substitutionOf : List ℕ → List ℕ → Groups → ℕ → List Binding
-substitutionOf L R G key = bindings (replacementOf unifying L R G key) (variables unifying L R)
+abbrev pub bindingsOf : List ℕ → List ℕ → Groups → ℕ → List Binding
+bindingsOf L R G key = bindings (replacementOf unifying L R G key) (variables unifying L R)
 
 -- What is found of two sides, from the sizes that Rows returned and what Page did.
 abbrev pub foundBy : GroupSizes → PageWritten → BlockFound
@@ -58,7 +58,7 @@ pub data PairFound (L R : List ℕ) : Outcome BlockFound → List (List Binding)
       → RowsPromise unifying L R (lent rowsBuffer) (given sizes) bytes
       → PagePromise unifying L R start 200 (lent 200) (given page) keys
       → GroupsOf unifying L R G
-      → PairFound L R (given (foundBy sizes page)) (map (substitutionOf L R G) (take (page .written) keys))
+      → PairFound L R (given (foundBy sizes page)) (map (bindingsOf L R G) (take (page .written) keys))
 
 -- What they return for a block that is to have this number: Read's refusal, or what the sides that Read gives
 -- come to.
@@ -79,7 +79,7 @@ pub data BlocksText : ℕ → List (List ℕ) → List Line → List ℕ → Typ
       {lines : List Line} {text : List ℕ}
       → Returns block (place % 65536) returned page → BlocksText (place + 1) blocks lines text
       → BlocksText place (block ∷ blocks) (lineOf returned ∷ lines)
-      (together (blockLines place (lineOf returned) page) ++ text)
+      (linesJoined (blockLines place (lineOf returned) page) ++ text)
 
 -- the kinds of lines
 abbrev pub isListed : Line → Bool
@@ -102,7 +102,7 @@ abbrev pub howMany : (Line → Bool) → List Line → ℕ
 howMany kind lines = length (filter kind lines)
 
 -- `blocks B listed L none U refused F`, each counted by its own kind of line
-abbrev pub countsOf : List Line → Counts
+abbrev pub countsOf : List Line → Totals
 countsOf lines =
     record {
       blocks = length lines;

@@ -9,7 +9,7 @@ use Rattle.text.specs.Decimal.{decimal}
 use Rattle.text.specs.Text.{substitution}
 use Rattle.tally.specs.declared.Line.{Line}
 use Rattle.tally.specs.declared.Line.the-variants.{Listed, NoUnifier, Refused}
-use Rattle.tally.specs.declared.Counts.{Counts}
+use Rattle.tally.specs.declared.Totals.{Totals}
 use Rattle.tally.specs.declared.Closing.{Closing}
 use Rattle.tally.specs.declared.Closing.the-variants.{NothingRead, Counted, TooLong}
 
@@ -54,7 +54,7 @@ abbrev pub blockLines : ℕ → Line → List (List Binding) → List (List ℕ)
 blockLines P line page = blockLine P line ∷ map substitutionLine page ++ (endLine line ∷ [])
 
 -- `blocks B listed L none U refused F`
-abbrev pub countsLine : Counts → List ℕ
+abbrev pub countsLine : Totals → List ℕ
 countsLine c =
     labelled (ascii "blocks ") (c .blocks)
     ++ labelled (ascii " listed ") (c .listed)

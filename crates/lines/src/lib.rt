@@ -12,8 +12,8 @@ ghost use Rattle.lines.specs.Putting.{PutWithin};
 ghost use Rattle.lines.specs.Lines.{labelled, rowsLine, noneLine, refusedLine, blockLine, pageEnd, endLine, substitutionLine, countsLine, closingLines};
 use buffer::put_bytes;
 use tally::Closing;
-use tally::Counts;
 use tally::Line;
+use tally::Totals;
 use text::put_number;
 use text::put_substitution;
 
@@ -104,7 +104,7 @@ pub fn put_end_line(out: &mut [u8], at: usize, line: Line) -> usize
 }
 
 // `blocks B listed L none U refused F`.
-fn put_counts(out: &mut [u8], at: usize, counts: Counts) -> usize
+fn put_counts(out: &mut [u8], at: usize, counts: Totals) -> usize
     requires { ⌜ at + 112 ≤ length (now out) ⌝ }
     ensures { λ r. ⌜ PutWithin 112 (now (out .entry)) at (countsLine counts) r (now (out .exit)) ⌝ }
 {

@@ -12,31 +12,31 @@ use Rattle.numbers.specs.First.{First, NoneOf, here, later, end, also}
 use Rattle.numbers.specs.declared.Refusal.{Refusal}
 use Rattle.numbers.specs.declared.Refusal.the-variants.{NoUnifier, NotListed}
 use Rattle.list.specs.Given.{ListGiven, none-admissible, not-listed}
-use Rattle.list.specs.List.{FoundOf, is-listed, is-refused}
-use Rattle.list.specs.declared.Found.{Found}
-use Rattle.list.specs.declared.Found.the-variants.{Listed, Refused}
+use Rattle.list.specs.List.{LookedUp, is-listed, is-refused}
+use Rattle.list.specs.declared.Lookup.{Lookup}
+use Rattle.list.specs.declared.Lookup.the-variants.{Listed, Refused}
 use Rattle.list.proofs.Given.{listed-after, not-13, not-14}
 
 module _ {listed : List ℕ} {key : ℕ} where
   -- a key that is not listed is 14 where another is
   unlisted : {other : ℕ} → List·Memᴰ other listed → (List·Memᴰ key listed → ⊥)
-      → FoundOf listed key (Refused NotListed)
+      → LookedUp listed key (Refused NotListed)
   unlisted some not-there = is-refused (later (not-13 some) (here (not-listed refl not-there)))
 
   -- the least listed key from it on is the key itself, or another
-  pub found-itself : {least : ℕ} → LeastFrom listed key least → least ≡ key → FoundOf listed key Listed
+  pub found-itself : {least : ℕ} → LeastFrom listed key least → least ≡ key → LookedUp listed key Listed
   found-itself least same = is-listed (subst (λ k. List·Memᴰ k listed) same (least .on-list))
 
   pub found-other : {least : ℕ} → LeastFrom listed key least → (least ≡ key → ⊥)
-      → FoundOf listed key (Refused NotListed)
+      → LookedUp listed key (Refused NotListed)
   found-other least differs = unlisted (least .on-list) (passed-over least differs)
 
   -- there is none from it on, but a first, or nothing is listed
   pub found-above : {first : ℕ} → NoneFrom listed key → LeastFrom listed 0 first
-      → FoundOf listed key (Refused NotListed)
+      → LookedUp listed key (Refused NotListed)
   found-above nothing first = unlisted (first .on-list) (not-reached nothing)
 
-  pub found-nothing : Ascending _<_ listed → NoneFrom listed 0 → FoundOf listed key (Refused NoUnifier)
+  pub found-nothing : Ascending _<_ listed → NoneFrom listed 0 → LookedUp listed key (Refused NoUnifier)
   found-nothing ascending nothing = is-refused (here (none-admissible (none-remains ascending start nothing)))
 
   -- a listed key gives neither number
@@ -44,16 +44,16 @@ module _ {listed : List ℕ} {key : ℕ} where
   not-refused m = also (not-13 m) (also (not-14 refl (listed-after m)) end)
 
   -- What is told of a key.
-  pub told-listed : {found : Found} → FoundOf listed key found → found ≡ Listed → List·Memᴰ key listed
-  told-listed told e = of-listed (subst (FoundOf listed key) e told)
+  pub told-listed : {found : Lookup} → LookedUp listed key found → found ≡ Listed → List·Memᴰ key listed
+  told-listed told e = of-listed (subst (LookedUp listed key) e told)
     where
-      of-listed : FoundOf listed key Listed → List·Memᴰ key listed
+      of-listed : LookedUp listed key Listed → List·Memᴰ key listed
       of-listed (is-listed m) = m
 
-  pub told-refused : {found : Found} {why : Refusal} → FoundOf listed key found → found ≡ Refused why
+  pub told-refused : {found : Lookup} {why : Refusal} → LookedUp listed key found → found ≡ Refused why
       → First (ListGiven listed (after key)) keyNumbers (numberOf why)
-  told-refused {why = why} told e = of-refused (subst (FoundOf listed key) e told)
+  told-refused {why = why} told e = of-refused (subst (LookedUp listed key) e told)
     where
-      of-refused : FoundOf listed key (Refused why)
+      of-refused : LookedUp listed key (Refused why)
           → First (ListGiven listed (after key)) keyNumbers (numberOf why)
       of-refused (is-refused first) = first

@@ -3,7 +3,7 @@ use Prim.Native.Nat.{ℕ, _≤_}
 use native.Mathlib.Omega.{arith}
 use mathlib.Core.Path.{_≡_, refl, sym, subst, _∙_}
 use mathlib.Core.List.{List, [], List·Memᴰ, List·Memᴰ·not-nil}
-use Rattle.ac.specs.Keys.{Begin, start, after, remaining}
+use Rattle.ac.specs.Keys.{Beginning, start, after, remaining}
 use Rattle.ac.proofs.Pages.{remaining-members}
 use Rattle.numbers.specs.Order.{beginningNumbers}
 use Rattle.numbers.proofs.Carried.{its-member}
@@ -21,7 +21,7 @@ listed-after {listed} {key} m k same = subst (λ k. List·Memᴰ k listed) (let 
 no-member : {key : ℕ} {keys : List ℕ} → keys ≡ [] → List·Memᴰ key keys → ⊥
 no-member {key} e m = List·Memᴰ·not-nil (subst (List·Memᴰ key) e m)
 
-module _ {listed : List ℕ} {begin : Begin} where
+module _ {listed : List ℕ} {begin : Beginning} where
   pub list-number : {n : ℕ} → ListGiven listed begin n → List·Memᴰ n beginningNumbers
   list-number (none-admissible empty) = its-member beginningNumbers refl
   list-number (not-listed same unlisted) = its-member beginningNumbers refl

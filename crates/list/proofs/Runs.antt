@@ -14,8 +14,8 @@ use Rattle.ac.specs.Selection.{Taken, takenRows, takenBalanced, taken, valueAt}
 use Rattle.ac.specs.Keys.{layout, bit, fieldAt, selectionAt, Candidate, Fits}
 use Rattle.ac.proofs.Fields.{length-fieldsOf, index-at, places-candidate}
 use Rattle.list.specs.Runs.{runs, total, inTurn, constantTimes, balancedTimes, timesAt, atomOf, atomsAt}
-use Rattle.list.specs.Reach.{Holds}
-use Rattle.list.specs.declared.Selection.{Selection}
+use Rattle.list.specs.Reach.{HoldsGroups}
+use Rattle.list.specs.declared.KeyedSelection.{KeyedSelection}
 
 -- below n it is the first, from there on the second
 in-turn-first : {n j : ℕ} (first second : ℕ → ℕ) → j < n → inTurn n first second j ≡ first j
@@ -30,7 +30,7 @@ in-turn-after n i first second =
     ∙ ap second (let e : n + i - n ≡ i = omega arith in e)
 
 -- a run of a constant, and one of a balanced row
-module _ (rows : List ℕ) (s : Selection) (place : ℕ) {run : ℕ} where
+module _ (rows : List ℕ) (s : KeyedSelection) (place : ℕ) {run : ℕ} where
   pub times-constant : run < s .unbalanced → timesAt rows s place run ≡ constantTimes rows (s .key) place run
   times-constant h = in-turn-first (constantTimes rows (s .key) place) (balancedTimes rows (s .key) place) h
 
@@ -38,7 +38,7 @@ module _ (rows : List ℕ) (s : Selection) (place : ℕ) {run : ℕ} where
       → timesAt rows s place run ≡ balancedTimes rows (s .key) place (run - s .unbalanced)
   times-balanced h = in-turn-second (constantTimes rows (s .key) place) (balancedTimes rows (s .key) place) h
 
-module _ (s : Selection) {run : ℕ} where
+module _ (s : KeyedSelection) {run : ℕ} where
   pub atom-constant : run < s .unbalanced → atomOf s run ≡ getD (s .constants) run 0
   atom-constant h = in-turn-first (λ g. getD (s .constants) g 0) (λ i. layout .new + i) h
 
@@ -127,7 +127,7 @@ value-balanced new (r ∷ rs) key a p =
     (λ i h. ap (λ (n : ℕ). cond (bit key n) (getD (getD rs i []) p 0) 0) (omega arith)) (λ i h. omega arith))
     ∙ sym (runs-front (length rs) (λ i. cond (bit key (a + i)) (getD (getD (r ∷ rs) i []) p 0) 0) (λ i. new + i))
 
-module _ {rows : List ℕ} {places : ℕ} {s : Selection} {G : Groups} (holds : Holds rows places s G)
+module _ {rows : List ℕ} {places : ℕ} {s : KeyedSelection} {G : Groups} (holds : HoldsGroups rows places s G)
     (fits : Fits layout G)
     (candidate : Candidate layout G (s .key)) where
   constant-runs : (p : ℕ) → p < places

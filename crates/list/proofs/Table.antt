@@ -15,7 +15,7 @@ use Rattle.table.specs.Masks.{group}
 use Rattle.table.specs.declared.Table.{Table}
 use Rattle.table.proofs.TableGroups.{length-groupAt, constants-groupsFrom, how-many-constants, few-rows, rowsAt-beyond, entry-at, how-many, group-in}
 use Rattle.list.specs.Runs.{selectionIn}
-use Rattle.list.specs.Reach.{Holds}
+use Rattle.list.specs.Reach.{HoldsGroups}
 
 module _ {t : Table} (within : InRoom t) where
   -- the groups fit a key
@@ -28,7 +28,7 @@ module _ {t : Table} (within : InRoom t) where
       }
 
   -- a selection of the table is one of its groups, and the array holds them
-  pub table-holds : (key : ℕ) → Holds (t .rows) (t .places) (selectionIn t key) (groupsIn t)
+  pub table-holds : (key : ℕ) → HoldsGroups (t .rows) (t .places) (selectionIn t key) (groupsIn t)
   table-holds key =
       record {
         how-many-constants = how-many-constants t within;

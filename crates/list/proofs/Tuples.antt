@@ -13,8 +13,8 @@ use Rattle.ac.specs.Keys.{layout, Fits}
 use Rattle.table.specs.Masks.{Marked}
 use Rattle.list.specs.Reach.{InTuple, Weighs}
 use Rattle.list.specs.Candidates.{fills, LeastWithin, found, nothing}
-use Rattle.list.specs.declared.Next.{Next}
-use Rattle.list.specs.declared.Next.the-variants.{Key, None}
+use Rattle.list.specs.declared.NextKey.{NextKey}
+use Rattle.list.specs.declared.NextKey.the-variants.{Key, None}
 
 -- what a shift leaves of a mask tells whether it has a bit beyond the balanced rows
 pub no-bit-left : (mask balanced : ℕ) → mask / 2 ^ balanced ≡ 0 → mask < 2 ^ balanced
@@ -58,7 +58,7 @@ module _ (reaching : List ℕ) (unbalanced places balanced tuple from : ℕ) whe
       → fills G places other ≡ false)
 
   -- what was tried of a tuple
-  abbrev Tried : Next → Type 0
+  abbrev Tried : NextKey → Type 0
   Tried next = OfTheirGroups (λ G. LeastWithin (fills G places) (tuple * 65536 + from)
       (tuple * 65536 + 2 ^ balanced) next)
 

@@ -18,11 +18,11 @@ use Rattle.table.specs.Table.{groupsIn, InRoom, TableOf}
 use Rattle.table.specs.Masks.{Sized, Marked, MasksOf, Coherent}
 use Rattle.table.specs.declared.Table.{Table}
 use Rattle.table.specs.declared.masks.Masks.{Masks}
-use Rattle.list.specs.declared.Standing.{Standing}
-use Rattle.list.specs.declared.Standing.the-variants.{Candidate as IsCandidate, NoneBefore}
-use Rattle.list.specs.declared.Next.{Next}
-use Rattle.list.specs.declared.Next.the-variants.{Key, None}
-use Rattle.list.specs.Candidates.{Stands, on-candidate, between, fills, NoneInBlock, LeastWithin}
+use Rattle.list.specs.declared.KeyStanding.{KeyStanding}
+use Rattle.list.specs.declared.KeyStanding.the-variants.{Candidate as IsCandidate, NoneBefore}
+use Rattle.list.specs.declared.NextKey.{NextKey}
+use Rattle.list.specs.declared.NextKey.the-variants.{Key, None}
+use Rattle.list.specs.Candidates.{StandsAmong, on-candidate, between, fills, NoneInBlock, LeastWithin}
 use Rattle.list.specs.Candidates as within
 use Rattle.list.specs.List.{OfTheirList, NextFrom, found, nothing}
 use Rattle.list.proofs.Candidates.{blockEnd, below-block-end, same-block}
@@ -93,11 +93,11 @@ module _ {m : Masks} {start at : ℕ} (passed : Passed m start at) where
         keys-below (table-fits (of .within)) M L R mem,
       ))
 
-between-none : {m : Masks} {key later : ℕ} → Stands (m .sizes) (m .unbalanced) key (NoneBefore later)
+between-none : {m : Masks} {key later : ℕ} → StandsAmong (m .sizes) (m .unbalanced) key (NoneBefore later)
     → (key < later) × OfTheirGroups m (λ G. (other : ℕ) → key ≤ other → other < later → Candidate layout G other → ⊥)
 between-none (between less none) = (less, λ t its within. none (groupsIn t) (its .sized) (table-fits within))
 
-stands-candidate : {m : Masks} {key : ℕ} → Stands (m .sizes) (m .unbalanced) key IsCandidate
+stands-candidate : {m : Masks} {key : ℕ} → StandsAmong (m .sizes) (m .unbalanced) key IsCandidate
     → OfTheirGroups m (λ G. Candidate layout G key)
 stands-candidate (on-candidate candidate) t its within = candidate (groupsIn t) (its .sized) (table-fits within)
 
@@ -118,14 +118,14 @@ same-tuple {G} {key} fits candidate mask low =
           candidate .no-bit-above in let z : key / 65536 * 65536 + mask < 4294967296 = omega arith in z;
     }
 
-none-within : {passes : ℕ → Bool} {from end : ℕ} {next : Next} → LeastWithin passes from end next → next ≡ None
+none-within : {passes : ℕ → Bool} {from end : ℕ} {next : NextKey} → LeastWithin passes from end next → next ≡ None
     → (other : ℕ) → from ≤ other → other < end → passes other ≡ false
 none-within {passes} {from} {end} told e = of-none (subst (LeastWithin passes from end) e told)
   where
     of-none : LeastWithin passes from end None → (other : ℕ) → from ≤ other → other < end → passes other ≡ false
     of-none (within.nothing missed) = missed
 
-found-within : {passes : ℕ → Bool} {from end key : ℕ} {next : Next} → LeastWithin passes from end next
+found-within : {passes : ℕ → Bool} {from end key : ℕ} {next : NextKey} → LeastWithin passes from end next
     → next ≡ Key key
     → (from ≤ key) × (key < end) × (passes key ≡ true)
     × ((other : ℕ) → from ≤ other → other < key → passes other ≡ false)
@@ -137,11 +137,11 @@ found-within {passes} {from} {end} {key} told e = of-key (subst (LeastWithin pas
     of-key (within.found low high passed before) = (low, high, passed, before)
 
 -- One step of the walk, from what was told of the number that it has come to.
-module _ {m : Masks} {start at : ℕ} (walked : Walked m start at) {standing : Standing}
-    (stood : Stands (m .sizes) (m .unbalanced) at standing) where
+module _ {m : Masks} {start at : ℕ} (walked : Walked m start at) {standing : KeyStanding}
+    (stood : StandsAmong (m .sizes) (m .unbalanced) at standing) where
   pub step-between : {later : ℕ} → standing ≡ NoneBefore later → (at < later) × Walked m start later
   step-between {later} e =
-      let h = between-none {m = m} (subst (Stands (m .sizes) (m .unbalanced) at) e stood) in (
+      let h = between-none {m = m} (subst (StandsAmong (m .sizes) (m .unbalanced) at) e stood) in (
         h .0,
         record {
           above = omega (arith, walked .above, h .0);
@@ -152,7 +152,7 @@ module _ {m : Masks} {start at : ℕ} (walked : Walked m start at) {standing : S
 
   -- A candidate's tuple was tried from its mask on.
   module _ (e : standing ≡ IsCandidate) {tuple from : ℕ} (its-tuple : tuple ≡ at / 65536)
-      (its-mask : from ≡ at % 65536) {next : Next}
+      (its-mask : from ≡ at % 65536) {next : NextKey}
       (tried : (G : Groups) → Marked (m .reaching) (m .unbalanced) (m .places) G → Fits layout G
       → LeastWithin (fills G (m .places)) (tuple * 65536 + from) (tuple * 65536 + 2 ^ getD (m .sizes) 0 0)
       next) where
@@ -207,15 +207,15 @@ module _ {m : Masks} {start at : ℕ} (walked : Walked m start at) {standing : S
             let place : at / 65536 * 65536 + (key - tuple * 65536) ≡ key = omega arith in
             subst (Candidate layout (groupsIn t)) place
             (same-tuple (table-fits (of .within))
-            (stands-candidate {m = m} (subst (Stands (m .sizes) (m .unbalanced) at) e stood) t its (of .within))
+            (stands-candidate {m = m} (subst (StandsAmong (m .sizes) (m .unbalanced) at) e stood) t its (of .within))
             (key - tuple * 65536) (omega (arith, pow-pos (length (groupsIn t .balanced)))))
 
-        Found : Type 0
-        Found = (at ≤ key) × (key < tuple * 65536 + 2 ^ length (groupsIn t .balanced))
+        Lookup : Type 0
+        Lookup = (at ≤ key) × (key < tuple * 65536 + 2 ^ length (groupsIn t .balanced))
             × (fills (groupsIn t) (m .places) key ≡ true)
             × ((other : ℕ) → at ≤ other → other < key → fills (groupsIn t) (m .places) other ≡ false)
 
-        before : Found → (other : ℕ) → List·Memᴰ other (keys M layout L R (groupsIn t)) → at ≤ other → key ≤ other
+        before : Lookup → (other : ℕ) → List·Memᴰ other (keys M layout L R (groupsIn t)) → at ≤ other → key ≤ other
         before h other mem low = go (decLt other key)
           where
             go : Dec (other < key) → key ≤ other
@@ -239,14 +239,14 @@ step-nothing {m} coherent cannot t its M L R full of = nothing (λ other mem.
     no-block small = omega arith
 
 -- What a next key tells.
-pub next-key : {keys : List ℕ} {bound key : ℕ} {next : Next} → NextFrom keys bound next → next ≡ Key key
+pub next-key : {keys : List ℕ} {bound key : ℕ} {next : NextKey} → NextFrom keys bound next → next ≡ Key key
     → LeastFrom keys bound key
 next-key {keys} {bound} told e = of-key (subst (NextFrom keys bound) e told)
   where
     of-key : {key : ℕ} → NextFrom keys bound (Key key) → LeastFrom keys bound key
     of-key (found least) = least
 
-pub next-none : {keys : List ℕ} {bound : ℕ} {next : Next} → NextFrom keys bound next → next ≡ None
+pub next-none : {keys : List ℕ} {bound : ℕ} {next : NextKey} → NextFrom keys bound next → next ≡ None
     → NoneFrom keys bound
 next-none {keys} {bound} told e = of-none (subst (NextFrom keys bound) e told)
   where

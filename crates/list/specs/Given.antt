@@ -3,10 +3,10 @@
 use Prim.Native.Nat.{ℕ}
 use mathlib.Core.Path.{_≡_}
 use mathlib.Core.List.{List, [], List·Memᴰ}
-use Rattle.ac.specs.Keys.{Begin, after, remaining}
+use Rattle.ac.specs.Keys.{Beginning, after, remaining}
 
 -- A constructor for each row of the table that speaks of the list. The key is the one after which to begin.
-pub data ListGiven (listed : List ℕ) (begin : Begin) : ℕ → Type 0 where
+pub data ListGiven (listed : List ℕ) (begin : Beginning) : ℕ → Type 0 where
   -- no selection is admissible
   none-admissible : listed ≡ [] → ListGiven listed begin 13
   -- the key isn't on the list

@@ -15,10 +15,10 @@ use Rattle.table.specs.Masks.{MasksOf}
 use Rattle.table.specs.declared.Table.{Table}
 use Rattle.table.specs.declared.masks.Masks.{Masks}
 use Rattle.list.specs.Given.{ListGiven}
-use Rattle.list.specs.declared.Next.{Next}
-use Rattle.list.specs.declared.Next.the-variants.{Key, None}
-use Rattle.list.specs.declared.Found.{Found}
-use Rattle.list.specs.declared.Found.the-variants.{Listed, Refused}
+use Rattle.list.specs.declared.NextKey.{NextKey}
+use Rattle.list.specs.declared.NextKey.the-variants.{Key, None}
+use Rattle.list.specs.declared.Lookup.{Lookup}
+use Rattle.list.specs.declared.Lookup.the-variants.{Listed, Refused}
 
 -- It is so of every pair that the table is of, in a mode in which no variable may be empty; it is so of the
 -- list of every such pair.
@@ -33,12 +33,12 @@ abbrev pub OfTheirList : Masks → (List ℕ → Type 0) → Type 0
 OfTheirList masks So = (table : Table) → MasksOf (groupsIn table) (table .places) masks → OfItsList table So
 
 -- the least key of the list from a number on, or that the list has none
-pub data NextFrom (keys : List ℕ) (from : ℕ) : Next → Type 0 where
+pub data NextFrom (keys : List ℕ) (from : ℕ) : NextKey → Type 0 where
   found : {key : ℕ} → LeastFrom keys from key → NextFrom keys from (Key key)
   nothing : NoneFrom keys from → NextFrom keys from None
 
 -- that the key is on the list, or 13 or 14
-pub data FoundOf (listed : List ℕ) (key : ℕ) : Found → Type 0 where
-  is-listed : List·Memᴰ key listed → FoundOf listed key Listed
+pub data LookedUp (listed : List ℕ) (key : ℕ) : Lookup → Type 0 where
+  is-listed : List·Memᴰ key listed → LookedUp listed key Listed
   is-refused : {why : Refusal} → First (ListGiven listed (after key)) keyNumbers (numberOf why)
-      → FoundOf listed key (Refused why)
+      → LookedUp listed key (Refused why)

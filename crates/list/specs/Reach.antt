@@ -8,7 +8,7 @@ use Rattle.ac.specs.Rows.{Group, Groups}
 use Rattle.ac.specs.Keys.{layout, bit, fieldAt}
 use Rattle.table.specs.Masks.{group}
 use Rattle.table.specs.Table.{rowStart}
-use Rattle.list.specs.declared.Selection.{Selection}
+use Rattle.list.specs.declared.KeyedSelection.{KeyedSelection}
 
 -- some number below n passes the test
 abbrev pub any : ℕ → (ℕ → Bool) → Bool
@@ -21,7 +21,7 @@ all zero test = true
 all (suc n) test = all n test && test n
 
 -- The selection is one of the groups, and the array holds them, each row with an entry for each place.
-pub record Holds (rows : List ℕ) (places : ℕ) (s : Selection) (G : Groups) : Type 0 where
+pub record HoldsGroups (rows : List ℕ) (places : ℕ) (s : KeyedSelection) (G : Groups) : Type 0 where
   pub how-many-constants : length (G .constants) ≡ s .unbalanced
   pub how-many-balanced : length (G .balanced) ≡ s .balanced
   pub the-constants : map (λ (g : Group). g .constant) (G .constants) ≡ take (s .unbalanced) (s .constants)

@@ -8,8 +8,8 @@ ghost use Rattle.ac.specs.Limits.{limits};
 ghost use Rattle.ac.specs.Rows.{Groups};
 ghost use Rattle.ac.specs.Keys.{layout, bit, fieldAt, Fits};
 ghost use Rattle.table.specs.Masks.{Sized, Marked, SetsOf, Coherent};
-ghost use Rattle.list.specs.Candidates.{Stands, fieldLimit, fills, NoneInBlock, LeastWithin};
-ghost use Rattle.list.specs.List.{OfTheirList, NextFrom, FoundOf};
+ghost use Rattle.list.specs.Candidates.{StandsAmong, fieldLimit, fills, NoneInBlock, LeastWithin};
+ghost use Rattle.list.specs.List.{OfTheirList, NextFrom, LookedUp};
 ghost use Rattle.list.specs.Reach.{takesAny, reaches, NoRowBelow, InTuple, Weighs};
 ghost use Rattle.list.specs.Runs.{selectionIn, Fit, runCount, timesAt};
 use buffer::wide;
@@ -64,7 +64,7 @@ fn pack(tuple: u32, mask: u32) -> u32
 }
 
 // A selection by its key, with what it takes rows of.
-pub struct Selection {
+pub struct KeyedSelection {
     pub key: u32,
     // the unbalanced constants, ascending, and how many there are
     pub constants: [u8; CONSTANTS],
@@ -74,11 +74,11 @@ pub struct Selection {
 }
 
 // The selection that a key names of a solved pair.
-pub fn selection_of(table: Table, key: u32) -> Selection
+pub fn selection_of(table: Table, key: u32) -> KeyedSelection
     ensures { λ r. ⌜ r ≡ selectionIn table key ⌝ }
 {
     let constants = table.constants;
-    Selection {
+    KeyedSelection {
         key,
         constants,
         unbalanced: table.unbalanced,
@@ -88,7 +88,7 @@ pub fn selection_of(table: Table, key: u32) -> Selection
 
 // How often a run of the selection names its atom at the place. There is a run for each unbalanced constant,
 // ascending, as its taken row says, and after them one for each balanced row, as that says if it is taken.
-pub fn times(rows: &[u8; ROWS], selection: Selection, place: usize, run: usize) -> usize
+pub fn times(rows: &[u8; ROWS], selection: KeyedSelection, place: usize, run: usize) -> usize
     requires { ⌜ Fit selection × (run < runCount selection) × (place < limits .variables) ⌝ }
     ensures { λ r. ⌜ r ≡ timesAt (now (rows .entry)) selection place run ⌝ }
     ensures { λ r. ⌜ r < 256 ⌝ }
@@ -191,34 +191,37 @@ fn block_end(key: u32, bits: usize) -> u64
 }
 
 // Where a number stands: on a candidate, or where no candidate comes before a later number.
-enum Standing {
+enum KeyStanding {
     Candidate,
     NoneBefore(u64),
 }
 
 // Where the key stands. Up to the end of its block a field only grows, so that one which is too large stays
 // so, and the block is left.
-fn stands(sizes: &[usize; GROUPS], unbalanced: usize, key: u32) -> Standing
+fn stands(sizes: &[usize; GROUPS], unbalanced: usize, key: u32) -> KeyStanding
     requires { ⌜ (unbalanced ≤ layout .constants) × (getD (now sizes) 0 0 ≤ layout .rows) ⌝ }
-    ensures { λ r. ⌜ Stands (now (sizes .entry)) unbalanced key r ⌝ }
+    ensures { λ r. ⌜ StandsAmong (now (sizes .entry)) unbalanced key r ⌝ }
 {
     let mut g: usize = 0;
     while g < CONSTANTS {
         let index = index_at(key, g);
         if index >= field_limit(sizes, unbalanced, g) {
-            return Standing::NoneBefore(block_end(key, MASK_BITS + INDEX_BITS * (CONSTANTS - g)));
+            return KeyStanding::NoneBefore(block_end(
+                key,
+                MASK_BITS + INDEX_BITS * (CONSTANTS - g),
+            ));
         }
         g += 1;
     }
     let mask = key & LOW_MASK;
     if mask >> sizes[0] > 0 {
-        return Standing::NoneBefore(block_end(key, MASK_BITS));
+        return KeyStanding::NoneBefore(block_end(key, MASK_BITS));
     }
-    Standing::Candidate
+    KeyStanding::Candidate
 }
 
 // The next key of the list, if there is one.
-pub enum Next {
+pub enum NextKey {
     Key(u32),
     None,
 }
@@ -232,7 +235,7 @@ fn least_of_tuple(
     balanced: usize,
     tuple: u32,
     from: u32,
-) -> Next
+) -> NextKey
     requires { ⌜ (unbalanced ≤ limits .constants) × (places ≤ limits .variables) × (balanced ≤ layout .rows) ⌝ }
     requires { ⌜ (tuple < 65536) × (from < 2 ^ layout .rows) ⌝ }
     ensures { λ r. ⌜ ((G : Groups) → Marked (now (reaching .entry)) unbalanced places G → Fits layout G
@@ -243,11 +246,11 @@ fn least_of_tuple(
         let key = pack(tuple, mask);
         let first = weigh(reaching, unbalanced, places, key);
         if first == key as u64 {
-            return Next::Key(key);
+            return NextKey::Key(key);
         }
         mask += (first - key as u64) as u32;
     }
-    Next::None
+    NextKey::None
 }
 
 // How many bits the widest block has that is left with the key's tuple. The row indexes are fixed one after the
@@ -282,14 +285,14 @@ fn left_bits<'a>(
 
 // The least key on the list from a number on. Where rows of all constants cannot reach together what balanced rows
 // do not, nothing is listed. The highest key may be listed, so that the number after it needs 64 bits.
-pub fn least_listed(masks: Masks, from: u64) -> Next
+pub fn least_listed(masks: Masks, from: u64) -> NextKey
     requires { ⌜ Coherent masks ⌝ }
     ensures { λ r. ⌜ OfTheirList masks (λ keys. NextFrom keys from r) ⌝ }
 {
     let sets = masks.choices[0];
     let unreached = masks.unreached;
     if !has_bit(sets, unreached) {
-        return Next::None;
+        return NextKey::None;
     }
     let places = masks.places;
     let unbalanced = masks.unbalanced;
@@ -299,10 +302,10 @@ pub fn least_listed(masks: Masks, from: u64) -> Next
         let key = at as u32;
         let standing = stands(&masks.sizes, unbalanced, key);
         match standing {
-            Standing::NoneBefore(later) => {
+            KeyStanding::NoneBefore(later) => {
                 at = later;
             }
-            Standing::Candidate => {
+            KeyStanding::Candidate => {
                 let tuple = key >> MASK_BITS;
                 let mask = key & LOW_MASK;
                 let least = least_of_tuple(
@@ -313,8 +316,8 @@ pub fn least_listed(masks: Masks, from: u64) -> Next
                     tuple,
                     mask,
                 );
-                if let Next::Key(found) = least {
-                    return Next::Key(found);
+                if let NextKey::Key(found) = least {
+                    return NextKey::Key(found);
                 }
                 let bits = left_bits(
                     &masks.reaching,
@@ -328,34 +331,34 @@ pub fn least_listed(masks: Masks, from: u64) -> Next
             }
         }
     }
-    Next::None
+    NextKey::None
 }
 
 // Whether a key is on the list, or why not.
-pub enum Found {
+pub enum Lookup {
     Listed,
     Refused(Refusal),
 }
 
 // A key is listed if the least listed key from it on is itself. Else it is 14, or 13 where nothing is listed.
-pub fn find_key(masks: Masks, key: u32) -> Found
+pub fn find_key(masks: Masks, key: u32) -> Lookup
     requires { ⌜ Coherent masks ⌝ }
-    ensures { λ r. ⌜ OfTheirList masks (λ listed. FoundOf listed key r) ⌝ }
+    ensures { λ r. ⌜ OfTheirList masks (λ listed. LookedUp listed key r) ⌝ }
 {
     let least = least_listed(masks, key as u64);
     match least {
-        Next::Key(found) => {
+        NextKey::Key(found) => {
             if found == key {
-                Found::Listed
+                Lookup::Listed
             } else {
-                Found::Refused(Refusal::NotListed)
+                Lookup::Refused(Refusal::NotListed)
             }
         }
-        Next::None => {
+        NextKey::None => {
             let first = least_listed(masks, 0);
             match first {
-                Next::Key(_) => Found::Refused(Refusal::NotListed),
-                Next::None => Found::Refused(Refusal::NoUnifier),
+                NextKey::Key(_) => Lookup::Refused(Refusal::NotListed),
+                NextKey::None => Lookup::Refused(Refusal::NoUnifier),
             }
         }
     }

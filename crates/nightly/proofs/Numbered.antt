@@ -11,7 +11,7 @@ use Rattle.ac.specs.Values.{Binding}
 use Rattle.ac.proofs.Places.{getD-map, getD-member}
 use Rattle.table.specs.Table.{groupsIn}
 use Rattle.lines.specs.Lines.{substitutionLine, endLine}
-use Rattle.lines.specs.Library.{substitutionOf}
+use Rattle.lines.specs.Library.{bindingsOf}
 use Rattle.lines.proofs.Numbered.{lines-length, substitution-line, last-line}
 use Rattle.nightly.specs.Printed.{keyCount, lineCount, pageOf, linesOf, Prints}
 use Rattle.nightly.specs.declared.print.Listing.{Listing}
@@ -24,7 +24,7 @@ module _ {L R : List ℕ} {l : Listing} (prints : Prints L R l) where
   printed = take count (l .keys)
 
   abbrev substitution : ℕ → List Binding
-  substitution = substitutionOf L R (groupsIn (l .table))
+  substitution = bindingsOf L R (groupsIn (l .table))
 
   -- there is one for each key
   printed-length : length printed ≡ count

@@ -10,7 +10,7 @@ use Rattle.buffer.proofs.Puts.{put-length}
 use Rattle.tally.specs.Line.{lineOf}
 use Rattle.tally.specs.Counts.{counted, closingOf}
 use Rattle.tally.specs.declared.Line.{Line}
-use Rattle.tally.specs.declared.Counts.{Counts}
+use Rattle.tally.specs.declared.Totals.{Totals}
 use denote.Enum.Declared.{tagOf}
 use types.Run.{OneOf, miss}
 use Rattle.library.specs.Reading.{opened, part}
@@ -21,8 +21,8 @@ use Rattle.library.proofs.Following.{run-block, run-end, run-limit, run-failure
 use Rattle.library.specs.declared.Reader.{Reader}
 use Rattle.library.specs.declared.Next.{Next}
 use Rattle.library.specs.declared.Next.the-variants as next
-use Rattle.output.specs.Step.{together}
-use Rattle.output.specs.Room.{HasRoom, Holds}
+use Rattle.output.specs.Step.{linesJoined}
+use Rattle.output.specs.Room.{HasRoom, StillHeld}
 use Rattle.output.specs.declared.Place.{Place}
 use Rattle.output.specs.declared.Place.the-variants.{At, Failed}
 use Rattle.output.proofs.Steps.{stepped-left}
@@ -31,7 +31,7 @@ use Rattle.lines.specs.Lines.{blockLines, closingLines}
 use Rattle.lines.specs.Library.{mostBlocks, Returns, BlocksText, no-more, countsOf, LibraryText}
 use Rattle.lines.specs.Putting.{PutWithin}
 use Rattle.lines.proofs.Library.{line-each, blocks-more, counts-more}
-use Rattle.nightly.specs.Printed.{linesOf, Prints, Starts, BlockPut, lines-put, not-put}
+use Rattle.nightly.specs.Printed.{linesOf, Prints, StartsBlock, BlockPut, lines-put, not-put}
 use Rattle.nightly.specs.Library.{noCounts, Started, PutInSteps, Over, at-end, input-remains, failed, Finishes, PrintedTo, LibraryPrinted, all, too-long, not-read, not-written}
 use Rattle.nightly.specs.declared.print.Listing.{Listing}
 use Rattle.nightly.specs.declared.Printed.{Printed}
@@ -43,33 +43,33 @@ pub writing-failed : {l : Listing} {out out′ : List ℕ} {at : ℕ} {p : Place
 writing-failed {l} {out} {out′} {at} e = subst (λ p. BlockPut l out at p out′) (sym e) not-put
 
 -- what blocks that were started come to
-pub record StartedText (blocks : List (List ℕ)) (text : List ℕ) (c : Counts) : Type 0 where
+pub record StartedText (blocks : List (List ℕ)) (text : List ℕ) (c : Totals) : Type 0 where
   pub lines : List Line
   pub of-blocks : BlocksText 0 blocks lines text
   pub the-counts : c ≡ countsOf lines
 
 -- one block more
-started-more : {blocks : List (List ℕ)} {text : List ℕ} {before after : Counts} {block : List ℕ} {l : Listing}
-    → length blocks < 2 ^ 64 - 1 → StartedText blocks text before → (starts : Starts block before l after)
-    → StartedText (blocks ++ (block ∷ [])) (text ++ together (linesOf (starts .left) (starts .right) l)) after
+started-more : {blocks : List (List ℕ)} {text : List ℕ} {before after : Totals} {block : List ℕ} {l : Listing}
+    → length blocks < 2 ^ 64 - 1 → StartedText blocks text before → (starts : StartsBlock block before l after)
+    → StartedText (blocks ++ (block ∷ [])) (text ++ linesJoined (linesOf (starts .left) (starts .right) l)) after
 started-more {blocks} {text} {before} {after} {block} few so-far starts =
     let lines = so-far .lines in
     let line = lineOf (starts .returned) in
     let each = line-each (so-far .of-blocks) in
-    let place : before .blocks ≡ 0 + length blocks = ap (λ (c : Counts). c .blocks) (so-far .the-counts) ∙ omega (arith, each) in
+    let place : before .blocks ≡ 0 + length blocks = ap (λ (c : Totals). c .blocks) (so-far .the-counts) ∙ omega (arith, each) in
     let found = subst (λ (k : ℕ). Returns block (k % 65536) (starts .returned) (starts .page)) place (starts .found) in
-    let same-text = ap together
+    let same-text = ap linesJoined
     (starts .the-lines ∙ ap (λ (k : ℕ). blockLines k line (starts .page)) place) in
     record {
       lines = lines ++ (line ∷ []);
       of-blocks = subst (λ (t : List ℕ). BlocksText 0 (blocks ++ (block ∷ [])) (lines ++ (line ∷ [])) (text ++ t))
           (sym same-text) (blocks-more (so-far .of-blocks) found);
-      the-counts = starts .the-counts ∙ ap (λ (c : Counts). counted c line) (so-far .the-counts)
+      the-counts = starts .the-counts ∙ ap (λ (c : Totals). counted c line) (so-far .the-counts)
           ∙ counts-more lines line (omega (arith, each));
     }
 
 -- The text of blocks that were started one after the other from counts of 0 is the definition's.
-pub started-text : {blocks : List (List ℕ)} {text : List ℕ} {c : Counts} → Started blocks text c
+pub started-text : {blocks : List (List ℕ)} {text : List ℕ} {c : Totals} → Started blocks text c
     → length blocks ≤ mostBlocks → StartedText blocks text c
 started-text Started.nothing few = record { lines = []; of-blocks = no-more; the-counts = refl }
 started-text (Started.a-block {blocks = blocks} {block = block} so-far starts) few =
@@ -77,14 +77,14 @@ started-text (Started.a-block {blocks = blocks} {block = block} so-far starts) f
     started-more (omega arith) (started-text so-far (omega arith)) starts
 
 -- What is put in steps, joined, is what is left to put when printing begins.
-in-steps : {blocks : List (List ℕ)} {text : List ℕ} {c : Counts} → PutInSteps blocks text c → Started blocks text c
+in-steps : {blocks : List (List ℕ)} {text : List ℕ} {c : Totals} → PutInSteps blocks text c → Started blocks text c
 in-steps PutInSteps.nothing = Started.nothing
 in-steps (PutInSteps.a-block {blocks = blocks} {text = text} {after = after} {block = block} so-far starts steps) =
     subst (λ (t : List ℕ). Started (blocks ++ (block ∷ [])) (text ++ t) after) (stepped-left steps)
     (Started.a-block (in-steps so-far) starts)
 
 -- So it is the definition's text of those blocks.
-pub text-in-steps : {blocks : List (List ℕ)} {text : List ℕ} {c : Counts} → PutInSteps blocks text c
+pub text-in-steps : {blocks : List (List ℕ)} {text : List ℕ} {c : Totals} → PutInSteps blocks text c
     → length blocks ≤ mostBlocks → StartedText blocks text c
 text-in-steps steps few = started-text (in-steps steps) few
 
@@ -103,27 +103,27 @@ not-over next.Remains other input-remains = miss (0 ∷ 4 ∷ []) 2 tt other
 not-over (next.Failed error) other failed = miss (0 ∷ 4 ∷ []) 3 tt other
 
 -- what is put at the end, where it is known what comes next
-pub finish-as : {c : Counts} {out out′ : List ℕ} {at : ℕ} {n n′ : Next} {p : Printed} → n ≡ n′
+pub finish-as : {c : Totals} {out out′ : List ℕ} {at : ℕ} {n n′ : Next} {p : Printed} → n ≡ n′
     → Finishes c out at n′ p out′ → Finishes c out at n p out′
 finish-as {c} {out} {out′} {at} {p = p} e finishes = subst (λ n. Finishes c out at n p out′) (sym e) finishes
 
-pub finish-failed : {c : Counts} {out : List ℕ} {at : ℕ} {n : Next} {error told : ℤ} → n ≡ next.Failed error
+pub finish-failed : {c : Totals} {out : List ℕ} {at : ℕ} {n : Next} {error told : ℤ} → n ≡ next.Failed error
     → error ≡ told → Finishes c out at n (Unread at told) out
 finish-failed {c} {out} {at} {error = error} e same =
     finish-as e (subst (λ t. Finishes c out at (next.Failed error) (Unread at t) out) same Finishes.not-read)
 
 -- What is so as long as the program goes on: the blocks handed on so far were started one after the other, and their
 -- text stands in the buffer before the place, but for what was written out.
-pub record Running (input : List ℕ) (r : Reader) (c : Counts) (out : List ℕ) (at : ℕ) : Type 0 where
+pub record Running (input : List ℕ) (r : Reader) (c : Totals) (out : List ℕ) (at : ℕ) : Type 0 where
   pub calls : List Call
   pub blocks : List (List ℕ)
   pub text : List ℕ
   pub run : Run mostBlocks calls blocks r input
   pub started : Started blocks text c
-  pub holds : Holds text out at []
+  pub holds : StillHeld text out at []
 
 -- before the first block
-pub running-start : {input : List ℕ} (out : List ℕ) {r : Reader} {c : Counts} → 512 ≤ length input
+pub running-start : {input : List ℕ} (out : List ℕ) {r : Reader} {c : Totals} → 512 ≤ length input
     → r ≡ opened mostBlocks → c ≡ noCounts → Running input r c out 0
 running-start {input} out room opened-library nothing-counted =
     subst₂ (λ r c. Running input r c out 0) (sym opened-library) (sym nothing-counted)
@@ -139,7 +139,7 @@ running-start {input} out room opened-library nothing-counted =
 -- what the lines of a block leave
 pub record PutTo (l : Listing) (out : List ℕ) (at next : ℕ) (out′ : List ℕ) : Type 0 where
   pub room : HasRoom (length out) next
-  pub holds : (L R : List ℕ) → Prints L R l → Holds (take at out ++ together (linesOf L R l)) out′ next []
+  pub holds : (L R : List ℕ) → Prints L R l → StillHeld (take at out ++ linesJoined (linesOf L R l)) out′ next []
 
 pub put-to : {l : Listing} {out out′ : List ℕ} {at next : ℕ} {p : Place} → BlockPut l out at p out′ → p ≡ At next
     → PutTo l out at next out′
@@ -147,27 +147,27 @@ put-to {l} {out} {out′} {at} {next} (lines-put {next = n} room holds) e =
     let same : n ≡ next = cc e in
     record {
       room = omega arith;
-      holds = λ L R prints. subst (λ (k : ℕ). Holds (take at out ++ together (linesOf L R l)) out′ k []) same
+      holds = λ L R prints. subst (λ (k : ℕ). StillHeld (take at out ++ linesJoined (linesOf L R l)) out′ k []) same
           (holds L R prints);
     }
 put-to not-put e = absurd (let z : _≡_ {A = ℕ} 0 1 = cc e in omega arith)
 
-module _ {input : List ℕ} {r : Reader} {c : Counts} {out : List ℕ} {at : ℕ} (running : Running input r c out at) where
+module _ {input : List ℕ} {r : Reader} {c : Totals} {out : List ℕ} {at : ℕ} (running : Running input r c out at) where
   -- one block more
-  pub running-block : {input′ out′ : List ℕ} {r′ : Reader} {c′ : Counts} {n : Next} {start size place : ℕ} {l : Listing}
+  pub running-block : {input′ out′ : List ℕ} {r′ : Reader} {c′ : Totals} {n : Next} {start size place : ℕ} {l : Listing}
       → HandsOn input r n r′ input′ → n ≡ next.Block start size
-      → Starts (part start (start + size - start) input′) c l c′ → PutTo l out at place out′
+      → StartsBlock (part start (start + size - start) input′) c l c′ → PutTo l out at place out′
       → Running input′ r′ c′ out′ place
   running-block {input′} {c′ = c′} {start = start} {size = size} {l = l} handed e starts to =
       let same : start + size - start ≡ size = omega arith in
-      let begun = subst (λ (k : ℕ). Starts (part start k input′) c l c′) same starts in
+      let begun = subst (λ (k : ℕ). StartsBlock (part start k input′) c l c′) same starts in
       record {
         calls = handed .calls ++ running .calls;
         blocks = running .blocks ++ (part start size input′ ∷ []);
-        text = running .text ++ together (linesOf (begun .left) (begun .right) l);
+        text = running .text ++ linesJoined (linesOf (begun .left) (begun .right) l);
         run = run-block (running .run) handed e;
         started = Started.a-block (running .started) begun;
-        holds = holds-then (together (linesOf (begun .left) (begun .right) l)) (running .holds)
+        holds = holds-then (linesJoined (linesOf (begun .left) (begun .right) l)) (running .holds)
             (to .holds (begun .left) (begun .right) (begun .prints));
       }
 
@@ -188,7 +188,7 @@ module _ {input : List ℕ} {r : Reader} {c : Counts} {out : List ℕ} {at : ℕ
         lines = done .lines;
         before = running .text;
         of-blocks = done .of-blocks;
-        whole = ap (λ (c : Counts). running .text ++ closingLines (closingOf c remains)) (done .the-counts);
+        whole = ap (λ (c : Totals). running .text ++ closingLines (closingOf c remains)) (done .the-counts);
       }
 
   module _ (room : HasRoom (length out) at) where

@@ -9,19 +9,19 @@ use Rattle.numbers.specs.Outcome.{is-given}
 use Rattle.block.specs.Read.{toldRead, ReadPromise, sides}
 use Rattle.block.specs.declared.ReadAnswer.{ReadAnswer}
 use Rattle.block.specs.declared.ReadAnswer.the-variants.{Sides, Refused}
-use Rattle.nightly.specs.Asked.{leftLength, rightLength, PairAsked, BlockAsked}
+use Rattle.nightly.specs.Asked.{leftGiven, rightGiven, PairAsked, BlockAsked}
 use Rattle.nightly.specs.declared.ask.Asked.{Asked}
 
 -- the left side that Read gave is within its buffer
 pub left-fits : {block : List ℕ} {number : ℕ} {left right left′ right′ : List ℕ} (a : ReadAnswer) →
-    ReadPromise block number left right (toldRead a) left′ right′ → leftLength a ≤ length left′
+    ReadPromise block number left right (toldRead a) left′ right′ → leftGiven a ≤ length left′
 left-fits {left = left} (Sides m n) (is-given none (sides {s = s} {t = t} v w)) =
     omega (arith, length-append (leftSide s) (drop (length (leftSide s)) left))
 left-fits (Refused why) p = omega arith
 
 -- and so is the right side
 pub right-fits : {block : List ℕ} {number : ℕ} {left right left′ right′ : List ℕ} (a : ReadAnswer) →
-    ReadPromise block number left right (toldRead a) left′ right′ → rightLength a ≤ length right′
+    ReadPromise block number left right (toldRead a) left′ right′ → rightGiven a ≤ length right′
 right-fits {right = right} (Sides m n) (is-given none (sides {s = s} {t = t} v w)) =
     omega (arith, length-append (rightSide t) (drop (length (rightSide t)) right))
 right-fits (Refused why) p = omega arith
@@ -30,8 +30,8 @@ right-fits (Refused why) p = omega arith
 pub block-asked : {block : List ℕ} {number : ℕ} {keys keys′ left right : List ℕ} {answer : ReadAnswer}
     {a : Asked} {m n : ℕ} →
     ReadPromise block number (replicate 64 0) (replicate 64 0) (toldRead answer) left right →
-    m ≡ leftLength answer →
-    n ≡ rightLength answer →
+    m ≡ leftGiven answer →
+    n ≡ rightGiven answer →
     PairAsked answer (take m left) (take n right) keys a keys′ →
     BlockAsked block number keys a keys′
 block-asked {block} {number} {keys} {keys′} {left} {right} {answer} {a} promise l r pair =
@@ -41,7 +41,7 @@ block-asked {block} {number} {keys} {keys′} {left} {right} {answer} {a} promis
       read-promise = subst (λ x. ReadPromise block number (replicate 64 0) (replicate 64 0) (toldRead x) left
           right) (sym (pair .same-read)) promise;
       pair =
-          subst (λ x. PairAsked x (take (leftLength x) left) (take (rightLength x) right) keys a keys′)
+          subst (λ x. PairAsked x (take (leftGiven x) left) (take (rightGiven x) right) keys a keys′)
           (sym (pair .same-read))
           (subst₂ (λ i j. PairAsked answer (take i left) (take j right) keys a keys′) l r pair);
     }

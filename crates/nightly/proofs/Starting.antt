@@ -9,7 +9,7 @@ use lib.ListN.{length, take, drop, replicate, length-append, length-take, take-a
 use lib.Seq.{take-append-seam}
 use Rattle.ac.specs.Pair.{Mode, unifying}
 use Rattle.ac.specs.Rows.{Groups, GroupsOf}
-use Rattle.ac.specs.Keys.{Begin, start, layout, keys, remaining}
+use Rattle.ac.specs.Keys.{Beginning, start, layout, keys, remaining}
 use Rattle.ac.specs.Values.{Binding}
 use Rattle.ac.proofs.Groups.{groups-unique}
 use Rattle.block.specs.declared.ReadAnswer.{ReadAnswer}
@@ -30,23 +30,23 @@ use Rattle.tally.specs.Line.{BlockFound, toldBlock, lineOf, lineOfNumber}
 use Rattle.tally.specs.Counts.{Tallies, counted}
 use Rattle.tally.specs.declared.Line.{Line}
 use Rattle.tally.specs.declared.Line.the-variants.{Listed, NoUnifier, Refused}
-use Rattle.tally.specs.declared.Counts.{Counts}
+use Rattle.tally.specs.declared.Totals.{Totals}
 use Rattle.tally.specs.declared.Tallied.{Tallied}
 use Rattle.lines.specs.Lines.{blockLines}
-use Rattle.lines.specs.Library.{substitutionOf, Returns, read-refused, sides, rows-refused, page-refused, a-page}
+use Rattle.lines.specs.Library.{bindingsOf, Returns, read-refused, sides, rows-refused, page-refused, a-page}
 use Rattle.nightly.specs.Asked.{SolvedPair, BlockAsked}
-use Rattle.nightly.specs.Printed.{keyCount, pageOf, linesOf, Ready, Prints, Starts}
+use Rattle.nightly.specs.Printed.{keyCount, pageOf, linesOf, ReadyToPrint, Prints, StartsBlock}
 use Rattle.nightly.specs.declared.ask.Asked.{Asked}
 use Rattle.nightly.specs.declared.print.Listing.{Listing}
 
 -- a page has at most as many keys as are wanted
-page-fits : {M : Mode} {L R : List ℕ} {begin : Begin} {wanted : ℕ} {out out′ : List ℕ} {written : ℕ} {more : Bool} →
+page-fits : {M : Mode} {L R : List ℕ} {begin : Beginning} {wanted : ℕ} {out out′ : List ℕ} {written : ℕ} {more : Bool} →
     PagePromise M L R begin wanted out (given (record { written = written; more = more })) out′ → written ≤ wantedCount wanted
 page-fits {M} {L} {R} {begin} {wanted} (is-given none (keyed.next {G = G} groups)) =
     omega (arith, length-take (wantedCount wanted) (remaining begin (keys M layout L R G)))
 
 -- they stand in its buffer
-page-held : {M : Mode} {L R : List ℕ} {begin : Begin} {wanted : ℕ} {out out′ : List ℕ} {written : ℕ} {more : Bool} →
+page-held : {M : Mode} {L R : List ℕ} {begin : Beginning} {wanted : ℕ} {out out′ : List ℕ} {written : ℕ} {more : Bool} →
     PagePromise M L R begin wanted out (given (record { written = written; more = more })) out′ → written ≤ length out′
 page-held {M} {L} {R} {begin} {wanted} {out} (is-given none (keyed.next {G = G} groups)) =
     let next = nextKeys M L R G begin wanted in
@@ -74,14 +74,14 @@ number-count n = go (eqb n 13)
     go true = refl
     go false = refl
 
-module _ {block : List ℕ} {c : Counts} {l : Listing} {after : Counts} (same-place : l .place ≡ c .blocks) where
+module _ {block : List ℕ} {c : Totals} {l : Listing} {after : Totals} (same-place : l .place ≡ c .blocks) where
   -- a block without a page
   starts-refused : {said : Said} → Returns block (c .blocks % 65536) (refused said) []
       → l .line ≡ lineOfNumber (said .number)
-      → after ≡ counted c (lineOfNumber (said .number)) → Starts block c l after
+      → after ≡ counted c (lineOfNumber (said .number)) → StartsBlock block c l after
   starts-refused {said} found same-line counts =
       let none : keyCount (l .line) ≡ 0 = ap keyCount same-line ∙ number-count (said .number) in
-      let no-page = ap (λ (k : ℕ). map (substitutionOf [] [] (groupsIn (l .table))) (take k (l .keys))) none in
+      let no-page = ap (λ (k : ℕ). map (bindingsOf [] [] (groupsIn (l .table))) (take k (l .keys))) none in
       record {
         left = [];
         right = [];
@@ -105,12 +105,12 @@ module _ {block : List ℕ} {c : Counts} {l : Listing} {after : Counts} (same-pl
       → SolvedPair L R (l .table)
       → PagePromise unifying L R start 200 out (given (record { written = written; more = more })) (l .keys)
       → Returns block (c .blocks % 65536) (given (record { balanced = balanced; constants = constants; written = written; more = more }))
-      (map (substitutionOf L R (groupsIn (l .table))) (take written (l .keys)))
+      (map (bindingsOf L R (groupsIn (l .table))) (take written (l .keys)))
       → l .line ≡ Listed balanced constants written more
-      → after ≡ counted c (Listed balanced constants written more) → Starts block c l after
+      → after ≡ counted c (Listed balanced constants written more) → StartsBlock block c l after
   starts-page {L} {R} {written = written} {more = more} solved promise found same-line counts =
       let count : keyCount (l .line) ≡ written = ap keyCount same-line in
-      let same-page = ap (λ (k : ℕ). map (substitutionOf L R (groupsIn (l .table))) (take k (l .keys))) count in
+      let same-page = ap (λ (k : ℕ). map (bindingsOf L R (groupsIn (l .table))) (take k (l .keys))) count in
       record {
         left = L;
         right = R;
@@ -130,10 +130,10 @@ module _ {block : List ℕ} {c : Counts} {l : Listing} {after : Counts} (same-pl
       }
 
 -- What was asked of a block and tallied is printed.
-module _ {block keys : List ℕ} {number : ℕ} {c : Counts} (same-number : number ≡ c .blocks % 65536) where
+module _ {block keys : List ℕ} {number : ℕ} {c : Totals} (same-number : number ≡ c .blocks % 65536) where
   pub starts : (a : Asked) {t : Tallied} → BlockAsked block number (replicate 200 0) a keys
       → Tallies c (toldBlock (a .read) (a .rows) (a .page)) t
-      → Starts block c (record { place = t .place; line = t .line; table = a .table; keys = keys }) (t .counts)
+      → StartsBlock block c (record { place = t .place; line = t .line; table = a .table; keys = keys }) (t .counts)
   starts a {t} asked tallied = go (a .read) (a .rows) (a .page) (a .table) asked tallied
     where
       numbered : {r : Outcome BlockFound} {p : List (List Binding)} → Returns block number r p → Returns block (c .blocks % 65536) r p
@@ -143,7 +143,7 @@ module _ {block keys : List ℕ} {number : ℕ} {c : Counts} (same-number : numb
           → BlockAsked block number (replicate 200 0)
           (record { read = read; rows = rows; page = page; table = table }) keys
           → Tallies c (toldBlock read rows page) t
-          → Starts block c (record { place = t .place; line = t .line; table = table; keys = keys }) (t .counts)
+          → StartsBlock block c (record { place = t .place; line = t .line; table = table; keys = keys }) (t .counts)
       go (read.Refused why) rows page table asked tallied =
           starts-refused (tallied .the-place) (numbered (read-refused (asked .read-promise)))
           (tallied .the-line) (tallied .the-counts)

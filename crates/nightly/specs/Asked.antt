@@ -23,13 +23,13 @@ use Rattle.table.specs.declared.Table.{Table}
 use Rattle.nightly.specs.declared.ask.Asked.{Asked}
 
 -- the lengths of the sides that Read gave; a refused block has none
-abbrev pub leftLength : ReadAnswer → ℕ
-leftLength (Sides left right) = left
-leftLength (read.Refused refusal) = 0
+abbrev pub leftGiven : ReadAnswer → ℕ
+leftGiven (Sides left right) = left
+leftGiven (read.Refused refusal) = 0
 
-abbrev pub rightLength : ReadAnswer → ℕ
-rightLength (Sides left right) = right
-rightLength (read.Refused refusal) = 0
+abbrev pub rightGiven : ReadAnswer → ℕ
+rightGiven (Sides left right) = right
+rightGiven (read.Refused refusal) = 0
 
 -- the table is that of two sides that give none of 7 to 12
 pub record SolvedPair (L R : List ℕ) (table : Table) : Type 0 where
@@ -50,5 +50,5 @@ pub record BlockAsked (block : List ℕ) (number : ℕ) (keys : List ℕ) (a : A
   pub left : List ℕ
   pub right : List ℕ
   pub read-promise : ReadPromise block number (replicate 64 0) (replicate 64 0) (toldRead (a .read)) left right
-  pub pair : PairAsked (a .read) (take (leftLength (a .read)) left) (take (rightLength (a .read)) right) keys
+  pub pair : PairAsked (a .read) (take (leftGiven (a .read)) left) (take (rightGiven (a .read)) right) keys
       a keys-after

@@ -7,37 +7,37 @@ use lib.ListN.{length}
 use lib.IntN.{ℤ}
 use Rattle.tally.specs.Counts.{closingOf}
 use Rattle.tally.specs.declared.Line.{Line}
-use Rattle.tally.specs.declared.Counts.{Counts}
+use Rattle.tally.specs.declared.Totals.{Totals}
 use Rattle.library.specs.Library.{Call, AtEnd, AtLimit, AtFailure}
 use Rattle.library.specs.declared.Next.{Next}
 use Rattle.library.specs.declared.Next.the-variants as next
-use Rattle.output.specs.Step.{together, Stepped}
-use Rattle.output.specs.Room.{Holds}
+use Rattle.output.specs.Step.{linesJoined, Stepped}
+use Rattle.output.specs.Room.{StillHeld}
 use Rattle.lines.specs.Lines.{closingLines}
 use Rattle.lines.specs.Library.{mostBlocks, BlocksText, LibraryText}
 use Rattle.lines.specs.Putting.{PutWithin}
-use Rattle.nightly.specs.Printed.{linesOf, Starts}
+use Rattle.nightly.specs.Printed.{linesOf, StartsBlock}
 use Rattle.nightly.specs.declared.print.Listing.{Listing}
 use Rattle.nightly.specs.declared.Printed.{Printed}
 use Rattle.nightly.specs.declared.Printed.the-variants.{All, Unread, Unwritten}
 
 -- nothing is counted before the first block
-abbrev pub noCounts : Counts
+abbrev pub noCounts : Totals
 noCounts = record { blocks = 0; listed = 0; none = 0; refused = 0 }
 
 -- Printing of blocks begins one after the other, from the counts so far: the lines of all of them, and the counts
 -- after them.
-pub data Started : List (List ℕ) → List ℕ → Counts → Type 0 where
+pub data Started : List (List ℕ) → List ℕ → Totals → Type 0 where
   nothing : Started [] [] noCounts
-  a-block : {blocks : List (List ℕ)} {text : List ℕ} {before after : Counts} {block : List ℕ} {l : Listing}
-      → Started blocks text before → (starts : Starts block before l after)
-      → Started (blocks ++ (block ∷ [])) (text ++ together (linesOf (starts .left) (starts .right) l)) after
+  a-block : {blocks : List (List ℕ)} {text : List ℕ} {before after : Totals} {block : List ℕ} {l : Listing}
+      → Started blocks text before → (starts : StartsBlock block before l after)
+      → Started (blocks ++ (block ∷ [])) (text ++ linesJoined (linesOf (starts .left) (starts .right) l)) after
 
 -- The same, where the lines of each block are put in steps: all that the steps put, joined.
-pub data PutInSteps : List (List ℕ) → List ℕ → Counts → Type 0 where
+pub data PutInSteps : List (List ℕ) → List ℕ → Totals → Type 0 where
   nothing : PutInSteps [] [] noCounts
-  a-block : {blocks : List (List ℕ)} {text put : List ℕ} {before after : Counts} {block : List ℕ} {l : Listing}
-      → PutInSteps blocks text before → (starts : Starts block before l after)
+  a-block : {blocks : List (List ℕ)} {text put : List ℕ} {before after : Totals} {block : List ℕ} {l : Listing}
+      → PutInSteps blocks text before → (starts : StartsBlock block before l after)
       → Stepped (linesOf (starts .left) (starts .right) l) 0 put
       → PutInSteps (blocks ++ (block ∷ [])) (text ++ put) after
 
@@ -48,7 +48,7 @@ pub data Over : Next → Type 0 where
   failed : {error : ℤ} → Over (next.Failed error)
 
 -- What stands at the end is put: the closing lines, or nothing where a read failed.
-pub data Finishes (c : Counts) (out : List ℕ) (at : ℕ) : Next → Printed → List ℕ → Type 0 where
+pub data Finishes (c : Totals) (out : List ℕ) (at : ℕ) : Next → Printed → List ℕ → Type 0 where
   ended : {end : ℕ} {out′ : List ℕ} → PutWithin 128 out at (closingLines (closingOf c false)) end out′
       → Finishes c out at next.End (All end) out′
   remains : {end : ℕ} {out′ : List ℕ} → PutWithin 128 out at (closingLines (closingOf c true)) end out′
@@ -58,7 +58,7 @@ pub data Finishes (c : Counts) (out : List ℕ) (at : ℕ) : Next → Printed �
 -- a text was printed: what was not written out of it stands in the buffer before the place
 pub record PrintedTo (text out : List ℕ) (at : ℕ) : Type 0 where
   pub inside : at ≤ length out
-  pub holds : Holds text out at []
+  pub holds : StillHeld text out at []
 
 -- Printing a library, of whatever came by the calls that read it: its text is the definition's.
 pub data LibraryPrinted : Printed → List ℕ → Type 0 where

@@ -15,13 +15,13 @@ use Rattle.numbers.specs.Outcome.{Outcome}
 use Rattle.tally.specs.Counts.{counted}
 use Rattle.tally.specs.declared.Line.{Line}
 use Rattle.tally.specs.declared.Line.the-variants.{Listed, NoUnifier, Refused}
-use Rattle.tally.specs.declared.Counts.{Counts}
-use Rattle.output.specs.Step.{together}
-use Rattle.output.specs.Room.{HasRoom, Holds}
+use Rattle.tally.specs.declared.Totals.{Totals}
+use Rattle.output.specs.Step.{linesJoined}
+use Rattle.output.specs.Room.{HasRoom, StillHeld}
 use Rattle.output.specs.declared.Place.{Place}
 use Rattle.output.specs.declared.Place.the-variants.{At, Failed}
 use Rattle.lines.specs.Lines.{substitutionLine, blockLines}
-use Rattle.lines.specs.Library.{substitutionOf, Returns}
+use Rattle.lines.specs.Library.{bindingsOf, Returns}
 use Rattle.nightly.specs.Asked.{SolvedPair}
 use Rattle.nightly.specs.declared.print.Listing.{Listing}
 
@@ -37,14 +37,14 @@ lineCount l = keyCount (l .line) + 2
 
 -- the substitutions of the page, of the sides that the table is of
 abbrev pub pageOf : List ℕ → List ℕ → Listing → List (List Binding)
-pageOf L R l = map (substitutionOf L R (groupsIn (l .table))) (take (keyCount (l .line)) (l .keys))
+pageOf L R l = map (bindingsOf L R (groupsIn (l .table))) (take (keyCount (l .line)) (l .keys))
 
 -- the lines of the block
 abbrev pub linesOf : List ℕ → List ℕ → Listing → List (List ℕ)
 linesOf L R l = blockLines (l .place) (l .line) (pageOf L R l)
 
 -- there are no more keys than there is room for, of a table whose numbers are within its room
-pub record Ready (l : Listing) : Type 0 where
+pub record ReadyToPrint (l : Listing) : Type 0 where
   pub few : keyCount (l .line) ≤ 200
   pub within : 0 < keyCount (l .line) → InRoom (l .table)
 
@@ -59,11 +59,11 @@ pub record Prints (L R : List ℕ) (l : Listing) : Type 0 where
 abbrev pub KeyPut : Table → ℕ → List ℕ → ℕ → ℕ → List ℕ → Type 0
 KeyPut table key out at next after =
     (L R : List ℕ) → SolvedPair L R table → List·Memᴰ key (keys unifying layout L R (groupsIn table))
-    → Put out at (substitutionLine (substitutionOf L R (groupsIn table) key)) next after
+    → Put out at (substitutionLine (bindingsOf L R (groupsIn table) key)) next after
 
 -- Printing a block begins: what is printed of it are the lines of what its questions return, where its number is
 -- its place modulo 65,536; and the counts after it are those of its line.
-pub record Starts (block : List ℕ) (before : Counts) (l : Listing) (after : Counts) : Type 0 where
+pub record StartsBlock (block : List ℕ) (before : Totals) (l : Listing) (after : Totals) : Type 0 where
   pub left : List ℕ
   pub right : List ℕ
   pub returned : Outcome BlockFound
@@ -72,12 +72,12 @@ pub record Starts (block : List ℕ) (before : Counts) (l : Listing) (after : Co
   pub the-lines : linesOf left right l ≡ blockLines (before .blocks) (lineOf returned) page
   pub the-counts : after ≡ counted before (lineOf returned)
   pub prints : Prints left right l
-  pub ready : Ready l
+  pub ready : ReadyToPrint l
 
 -- The block's lines were put behind what stood before the place. Of all that, what was not written out stands
 -- before the place after it, which has room for a line behind it. Or writing out failed.
 pub data BlockPut (l : Listing) (out : List ℕ) (at : ℕ) : Place → List ℕ → Type 0 where
   lines-put : {next : ℕ} {out′ : List ℕ} → HasRoom (length out) next
-      → ((L R : List ℕ) → Prints L R l → Holds (take at out ++ together (linesOf L R l)) out′ next [])
+      → ((L R : List ℕ) → Prints L R l → StillHeld (take at out ++ linesJoined (linesOf L R l)) out′ next [])
       → BlockPut l out at (At next) out′
   not-put : {error : ℤ} {out′ : List ℕ} → BlockPut l out at (Failed error) out′

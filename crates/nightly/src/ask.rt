@@ -10,7 +10,7 @@ use table::Table;
 ghost use mathlib.Core.Path.{_≡_};
 ghost use Prim.Native.Nat.{_≤_};
 ghost use lib.ListN.{length};
-ghost use Rattle.nightly.specs.Asked.{leftLength, rightLength, PairAsked, BlockAsked};
+ghost use Rattle.nightly.specs.Asked.{leftGiven, rightGiven, PairAsked, BlockAsked};
 
 // The first page is of 200.
 pub const PAGE: usize = 200;
@@ -26,7 +26,7 @@ pub struct Asked {
 
 // The length of the left side that Read gave; a refused block has none.
 fn left_length(read: ReadAnswer) -> usize
-    ensures { λ r. ⌜ r ≡ leftLength read ⌝ }
+    ensures { λ r. ⌜ r ≡ leftGiven read ⌝ }
 {
     match read {
         ReadAnswer::Sides { left, right: _ } => left,
@@ -36,7 +36,7 @@ fn left_length(read: ReadAnswer) -> usize
 
 // The length of the right side that Read gave; a refused block has none.
 fn right_length(read: ReadAnswer) -> usize
-    ensures { λ r. ⌜ r ≡ rightLength read ⌝ }
+    ensures { λ r. ⌜ r ≡ rightGiven read ⌝ }
 {
     match read {
         ReadAnswer::Sides { left: _, right } => right,

@@ -16,7 +16,7 @@ use output::write_out;
 use print::Listing;
 use print::line_count;
 use print::put_lines;
-use tally::Counts;
+use tally::Totals;
 use tally::closing_lines;
 use tally::expected_number;
 use tally::tally;
@@ -26,7 +26,7 @@ ghost use lib.ListN.{length};
 ghost use Rattle.library.specs.Reading.{opened};
 ghost use Rattle.lines.specs.Library.{mostBlocks};
 ghost use Rattle.output.specs.Room.{HasRoom};
-ghost use Rattle.nightly.specs.Printed.{Ready, Starts, BlockPut};
+ghost use Rattle.nightly.specs.Printed.{ReadyToPrint, StartsBlock, BlockPut};
 ghost use Rattle.nightly.specs.Library.{noCounts, Over, Finishes, LibraryPrinted};
 
 // At most so many blocks are read.
@@ -105,10 +105,10 @@ fn open_library() -> Reader
 }
 
 // No block has been counted yet.
-fn no_counts() -> Counts
+fn no_counts() -> Totals
     ensures { λ r. ⌜ r ≡ noCounts ⌝ }
 {
-    Counts {
+    Totals {
         blocks: 0,
         listed: 0,
         none: 0,
@@ -157,12 +157,12 @@ fn print_library(input: &mut [u8], output: &mut [u8]) -> Printed
 // What is printed of a block, and the counts after it.
 struct Started {
     listing: Listing,
-    counts: Counts,
+    counts: Totals,
 }
 
 // Asks the questions of a block and tallies what they return.
-fn start_block(block: &[u8], counts: Counts) -> Started
-    ensures { λ r. ⌜ Starts (now (block .entry)) counts (r .listing) (r .counts) ⌝ }
+fn start_block(block: &[u8], counts: Totals) -> Started
+    ensures { λ r. ⌜ StartsBlock (now (block .entry)) counts (r .listing) (r .counts) ⌝ }
 {
     let mut keys = [0u32; 200];
     let asked = ask(block, expected_number(counts.blocks), &mut keys);
@@ -186,7 +186,7 @@ fn start_block(block: &[u8], counts: Counts) -> Started
 
 // Puts the block's lines into the output buffer step by step, and makes room after each.
 fn print_block(listing: Listing, output: &mut [u8], at: usize) -> Place
-    requires { ⌜ Ready listing ⌝ }
+    requires { ⌜ ReadyToPrint listing ⌝ }
     requires { ⌜ HasRoom (length (now output)) at ⌝ }
     ensures { λ r. ⌜ BlockPut listing (now (output .entry)) at r (now (output .exit)) ⌝ }
 {
@@ -206,7 +206,7 @@ fn print_block(listing: Listing, output: &mut [u8], at: usize) -> Place
 }
 
 // The lines at the end; where a read failed there are none.
-fn finish(next: Next, counts: Counts, output: &mut [u8], at: usize) -> Printed
+fn finish(next: Next, counts: Totals, output: &mut [u8], at: usize) -> Printed
     requires { ⌜ Over next ⌝ }
     requires { ⌜ HasRoom (length (now output)) at ⌝ }
     ensures { λ r. ⌜ Finishes counts (now (output .entry)) at next r (now (output .exit)) ⌝ }

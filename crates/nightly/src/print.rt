@@ -19,7 +19,7 @@ ghost use lib.ListN.{length, getD};
 ghost use Rattle.buffer.specs.Put.{Put};
 ghost use Rattle.output.specs.Step.{Goes, Steps};
 ghost use Rattle.table.specs.Table.{InRoom};
-ghost use Rattle.nightly.specs.Printed.{keyCount, lineCount, linesOf, Ready, Prints, KeyPut};
+ghost use Rattle.nightly.specs.Printed.{keyCount, lineCount, linesOf, ReadyToPrint, Prints, KeyPut};
 
 // What is printed of a block: its place in the file, its line, and the keys of its page with the pair's table.
 pub struct Listing {
@@ -63,7 +63,7 @@ fn key_count(line: Line) -> usize
 
 // How many lines the block has: its own, one for each key, and what stands after the page.
 pub fn line_count(listing: Listing) -> usize
-    requires { ⌜ Ready listing ⌝ }
+    requires { ⌜ ReadyToPrint listing ⌝ }
     ensures { λ r. ⌜ r ≡ lineCount listing ⌝ }
 {
     let line = listing.line;
@@ -72,7 +72,7 @@ pub fn line_count(listing: Listing) -> usize
 
 // The line of this number.
 fn put_line(listing: Listing, number: usize, output: &mut [u8], at: usize) -> usize
-    requires { ⌜ Ready listing ⌝ }
+    requires { ⌜ ReadyToPrint listing ⌝ }
     requires { ⌜ number < lineCount listing ⌝ }
     requires { ⌜ at + 8192 ≤ length (now output) ⌝ }
     ensures { λ r. ⌜ r ≤ at + 8192 ⌝ }
@@ -92,7 +92,7 @@ fn put_line(listing: Listing, number: usize, output: &mut [u8], at: usize) -> us
 
 // A step: the lines from this number on, as many as fit behind the place.
 pub fn put_lines(listing: Listing, number: usize, output: &mut [u8], at: usize) -> Progress
-    requires { ⌜ Ready listing ⌝ }
+    requires { ⌜ ReadyToPrint listing ⌝ }
     requires { ⌜ number ≤ lineCount listing ⌝ }
     requires { ⌜ at ≤ length (now output) ⌝ }
     ensures { λ r. ⌜ Goes (lineCount listing) number at (length (now (output .entry))) r ⌝ }

@@ -11,8 +11,8 @@ use mir.Val.{toZ, ofZ, SFits, Fits}
 use mir.ValLaws.{toZ-ofZ}
 use borrow.Author.Tests.{ltb-true, eq-eqb, ne-eqb}
 use Rattle.output.specs.Writing.{afterBytes, tryAgain, afterError, afterWrite}
-use Rattle.output.specs.declared.Next.{Next}
-use Rattle.output.specs.declared.Next.the-variants.{From, Failed}
+use Rattle.output.specs.declared.Onward.{Onward}
+use Rattle.output.specs.declared.Onward.the-variants.{From, Failed}
 
 -- any other error than 4 is told
 pub other-error : (written tries : ℕ) (error : ℤ) → (error ≡ pos 4 → ⊥) → Failed error ≡ afterError written tries error
@@ -117,7 +117,7 @@ module _ {written filled tries place left : ℕ} (before : written < filled) whe
       go false e = absurd (let z : _≡_ {A = ℕ} 0 1 = cc e in omega arith)
 
   -- what follows from an answer, where it is to go on
-  pub onward : (answer error : ℤ) {next : Next} → next ≡ afterWrite written filled tries answer error
+  pub onward : (answer error : ℤ) {next : Onward} → next ≡ afterWrite written filled tries answer error
       → next ≡ From place left → OnwardFrom written filled tries place left
   onward answer error follows e = go answer (sym follows ∙ e)
     where

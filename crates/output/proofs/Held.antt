@@ -6,8 +6,8 @@ use mathlib.Core.List.{List, [], _∷_, _++_, append-assoc, append-nil}
 use lib.ListN.{length, take, drop, length-append}
 use lib.Seq.{sets, sets-eq, take-at, length-take-le}
 use Rattle.buffer.specs.Put.{Put}
-use Rattle.output.specs.Step.{together, leftFrom, Steps}
-use Rattle.output.specs.Room.{HasRoom, MakesRoom, stays, emptied, failed, Holds}
+use Rattle.output.specs.Step.{linesJoined, leftFrom, Steps}
+use Rattle.output.specs.Room.{HasRoom, MakesRoom, stays, emptied, failed, StillHeld}
 use Rattle.output.specs.declared.Progress.{Progress}
 use Rattle.output.specs.declared.Place.{Place}
 use Rattle.output.specs.declared.Place.the-variants.{At}
@@ -34,8 +34,8 @@ regroup a b c d = simp append-assoc
 
 module _ {text out : List ℕ} {at : ℕ} where
   -- of what is left, the first part was put
-  pub holds-put : {put left out′ : List ℕ} {next : ℕ} → Holds text out at (put ++ left) → Put out at put next out′
-      → next ≤ length out → Holds text out′ next left
+  pub holds-put : {put left out′ : List ℕ} {next : ℕ} → StillHeld text out at (put ++ left) → Put out at put next out′
+      → next ≤ length out → StillHeld text out′ next left
   holds-put {put} {left} holds stands room =
       record {
         gone = holds .gone;
@@ -44,24 +44,24 @@ module _ {text out : List ℕ} {at : ℕ} where
       }
 
   -- the same text is left, said in another way
-  pub holds-as : {left left′ : List ℕ} → left ≡ left′ → Holds text out at left → Holds text out at left′
-  holds-as e holds = subst (Holds text out at) e holds
+  pub holds-as : {left left′ : List ℕ} → left ≡ left′ → StillHeld text out at left → StillHeld text out at left′
+  holds-as e holds = subst (StillHeld text out at) e holds
 
   -- a step was made
   pub holds-step : {lines : List (List ℕ)} {number : ℕ} {r : Progress} {out′ : List ℕ}
-      → Holds text out at (leftFrom lines number) → Steps lines number out at r out′ → r .at ≤ length out
-      → Holds text out′ (r .at) (leftFrom lines (r .line))
+      → StillHeld text out at (leftFrom lines number) → Steps lines number out at r out′ → r .at ≤ length out
+      → StillHeld text out′ (r .at) (leftFrom lines (r .line))
   holds-step holds step room = holds-put (holds-as (step .in-order) holds) (step .stands) room
 
   -- room was made
-  pub holds-room : {left : List ℕ} {size next : ℕ} {p : Place} → Holds text out at left → MakesRoom size at p
-      → p ≡ At next → Holds text out next left
+  pub holds-room : {left : List ℕ} {size next : ℕ} {p : Place} → StillHeld text out at left → MakesRoom size at p
+      → p ≡ At next → StillHeld text out next left
   holds-room {left} {next = next} holds (stays room) e =
       let same : at ≡ next = cc e in
-      subst (λ (k : ℕ). Holds text out k left) same holds
+      subst (λ (k : ℕ). StillHeld text out k left) same holds
   holds-room {left} {next = next} holds (emptied full room) e =
       let same : 0 ≡ next = cc e in
-      subst (λ (k : ℕ). Holds text out k left) same
+      subst (λ (k : ℕ). StillHeld text out k left) same
       (record {
         gone = holds .gone ++ take at out;
         whole = holds .whole ∙ ap (λ (l : List ℕ). l ++ left) (sym (append-nil (holds .gone ++ take at out)));
@@ -69,7 +69,7 @@ module _ {text out : List ℕ} {at : ℕ} where
   holds-room holds (failed full) e = absurd (let z : _≡_ {A = ℕ} 0 1 = cc e in omega arith)
 
   -- more text is left
-  pub holds-more : {left : List ℕ} (more : List ℕ) → Holds text out at left → Holds (text ++ more) out at (left ++ more)
+  pub holds-more : {left : List ℕ} (more : List ℕ) → StillHeld text out at left → StillHeld (text ++ more) out at (left ++ more)
   holds-more {left} more holds =
       record {
         gone = holds .gone;
@@ -78,8 +78,8 @@ module _ {text out : List ℕ} {at : ℕ} where
       }
 
 -- a text was printed, and then another behind what stood before the place
-pub holds-then : {text out out′ : List ℕ} {at next : ℕ} (more : List ℕ) → Holds text out at []
-    → Holds (take at out ++ more) out′ next [] → Holds (text ++ more) out′ next []
+pub holds-then : {text out out′ : List ℕ} {at next : ℕ} (more : List ℕ) → StillHeld text out at []
+    → StillHeld (take at out ++ more) out′ next [] → StillHeld (text ++ more) out′ next []
 holds-then {out = out} {out′ = out′} {at = at} {next = next} more first second =
     record {
       gone = first .gone ++ second .gone;
@@ -94,9 +94,9 @@ holds-then {out = out} {out′ = out′} {at = at} {next = next} more first seco
 
 -- lines are to be put behind what stands before the place
 pub holds-start : (lines : List (List ℕ)) (out : List ℕ) (at : ℕ)
-    → Holds (take at out ++ together lines) out at (leftFrom lines 0)
+    → StillHeld (take at out ++ linesJoined lines) out at (leftFrom lines 0)
 holds-start lines out at = record { gone = []; whole = refl }
 
 -- nothing was printed yet
-pub holds-nothing : (out : List ℕ) → Holds [] out 0 []
+pub holds-nothing : (out : List ℕ) → StillHeld [] out 0 []
 holds-nothing out = record { gone = []; whole = refl }

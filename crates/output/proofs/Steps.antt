@@ -10,18 +10,18 @@ use lib.ListN.{length, drop, getD}
 use lib.Seq.{drop-cons, drop-length}
 use Rattle.buffer.specs.Put.{Put}
 use Rattle.buffer.proofs.Puts.{put-nothing, put-then}
-use Rattle.output.specs.Step.{together, leftFrom, Steps, Stepped, done, step, Goes}
+use Rattle.output.specs.Step.{linesJoined, leftFrom, Steps, Stepped, done, step, Goes}
 use Rattle.output.specs.declared.Progress.{Progress}
 
 -- what is left from a line on is that line and what is left from the next one on
 pub left-line : (lines : List (List ℕ)) (number : ℕ) → number < length lines
     → leftFrom lines number ≡ getD lines number [] ++ leftFrom lines (number + 1)
-left-line lines number within = ap together (drop-cons lines number [] within)
+left-line lines number within = ap linesJoined (drop-cons lines number [] within)
     ∙ ap (λ (k : ℕ). getD lines number [] ++ leftFrom lines k) (sym (add-one number))
 
 -- behind the last line nothing is left
 pub nothing-left : (lines : List (List ℕ)) → leftFrom lines (length lines) ≡ []
-nothing-left lines = ap together (drop-length lines)
+nothing-left lines = ap linesJoined (drop-length lines)
 
 module _ {lines : List (List ℕ)} {number at : ℕ} {out : List ℕ} where
   -- a step begins with nothing put

@@ -20,6 +20,6 @@ pub data MakesRoom (size at : ℕ) : Place → Type 0 where
 
 -- How far a text has been printed: a first part is gone, since it was written out; the part after it stands in the
 -- buffer before the place; and the rest is left.
-pub record Holds (text out : List ℕ) (at : ℕ) (left : List ℕ) : Type 0 where
+pub record StillHeld (text out : List ℕ) (at : ℕ) (left : List ℕ) : Type 0 where
   pub gone : List ℕ
   pub whole : text ≡ gone ++ take at out ++ left

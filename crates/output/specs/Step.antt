@@ -8,13 +8,13 @@ use Rattle.buffer.specs.Put.{Put}
 use Rattle.output.specs.declared.Progress.{Progress}
 
 -- the lines one after the other
-abbrev pub together : List (List ℕ) → List ℕ
-together [] = []
-together (line ∷ lines) = line ++ together lines
+abbrev pub linesJoined : List (List ℕ) → List ℕ
+linesJoined [] = []
+linesJoined (line ∷ lines) = line ++ linesJoined lines
 
 -- what is left to print, from the line of this number on
 abbrev pub leftFrom : List (List ℕ) → ℕ → List ℕ
-leftFrom lines number = together (drop number lines)
+leftFrom lines number = linesJoined (drop number lines)
 
 -- A step: what is left before it is what was put and then what is left after it; what was put stands in the
 -- buffer from the place on, and every other byte is as it was.

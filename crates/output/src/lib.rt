@@ -27,7 +27,7 @@ pub struct Progress {
 
 // What follows from a write's answer: to go on from a place in the buffer, where an interrupted write may be tried
 // so often again; or that writing failed, with the error's number.
-pub enum Next {
+pub enum Onward {
     From { written: usize, tries: usize },
     Failed(i32),
 }
@@ -55,7 +55,7 @@ pub fn has_room(out: &[u8], at: usize) -> bool
 // What follows from the answer of a write of the bytes from one place to another, and its error. Bytes that were
 // taken are done with; an interrupted write is tried again; any other error is told, and an answer of 0, which
 // says that nothing will be taken, as the number 0.
-pub fn after_write(written: usize, filled: usize, tries: usize, answer: isize, error: i32) -> Next
+pub fn after_write(written: usize, filled: usize, tries: usize, answer: isize, error: i32) -> Onward
     requires { ⌜ written ≤ filled ⌝ }
     ensures { λ r. ⌜ r ≡ afterWrite written filled tries answer error ⌝ }
 {
@@ -63,25 +63,25 @@ pub fn after_write(written: usize, filled: usize, tries: usize, answer: isize, e
         return after_error(written, tries, error);
     }
     if answer == 0 {
-        return Next::Failed(0);
+        return Onward::Failed(0);
     }
-    Next::From {
+    Onward::From {
         written: written + least(answer as usize, filled - written),
         tries: TRIES,
     }
 }
 
 // An interrupted write is tried again from where it was, as often as is left; any other error is told.
-fn after_error(written: usize, tries: usize, error: i32) -> Next
+fn after_error(written: usize, tries: usize, error: i32) -> Onward
     ensures { λ r. ⌜ r ≡ afterError written tries error ⌝ }
 {
     if error != libc::EINTR {
-        return Next::Failed(error);
+        return Onward::Failed(error);
     }
     if tries == 0 {
-        return Next::Failed(error);
+        return Onward::Failed(error);
     }
-    Next::From {
+    Onward::From {
         written,
         tries: tries - 1,
     }
@@ -97,14 +97,14 @@ pub fn write_out(fd: i32, out: &[u8], filled: usize) -> Written
         let answer = libc::write(fd, &out[written..filled]);
         let next = after_write(written, filled, tries, answer, os::errno());
         match next {
-            Next::From {
+            Onward::From {
                 written: place,
                 tries: left,
             } => {
                 written = place;
                 tries = left;
             }
-            Next::Failed(error) => return Written::Failed(error),
+            Onward::Failed(error) => return Written::Failed(error),
         }
     }
     Written::All

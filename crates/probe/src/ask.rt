@@ -6,8 +6,8 @@ use crate::answer::of_rows;
 use crate::answer::of_values;
 use crate::answer::put_numbers;
 use crate::answer::put_returned;
+use crate::question::Header;
 use crate::question::PAGE;
-use crate::question::Question;
 use crate::question::READ;
 use crate::question::ROWS;
 use crate::room::front;
@@ -27,7 +27,7 @@ const MOST_NUMBERS: usize = MOST_BYTES / 4;
 
 // Asks the question that the header names, of the bytes that followed it, and puts its answer behind the
 // answers so far: what was returned, then every byte of the lent buffers. Where the answer ends is given.
-pub fn ask(asked: Question, first: &[u8], second: &[u8], answers: &mut [u8], at: usize) -> usize
+pub fn ask(asked: Header, first: &[u8], second: &[u8], answers: &mut [u8], at: usize) -> usize
     ensures { λ r. ⌜ r ≤ length (now (answers .exit)) ⌝ }
 {
     let mut first_lent = filled(asked.fill);
@@ -48,7 +48,7 @@ pub fn ask(asked: Question, first: &[u8], second: &[u8], answers: &mut [u8], at:
 
 // What the question returns, with the lent buffers changed as it changes them: an arm for each question.
 fn returned_by(
-    asked: Question,
+    asked: Header,
     first: &[u8],
     second: &[u8],
     first_lent: &mut [u8],
@@ -69,7 +69,7 @@ fn returned_by(
 }
 
 // Page is lent numbers: what they are after it is shown in bytes.
-fn page(asked: Question, left: &[u8], right: &[u8], shown: &mut [u8]) -> Returned {
+fn page(asked: Header, left: &[u8], right: &[u8], shown: &mut [u8]) -> Returned {
     let mut keys = filled_numbers(asked.fill);
     let room = least(shown.len() / 4, MOST_NUMBERS);
     let request = PageRequest {

@@ -9,7 +9,7 @@ mod room;
 use buffer::least;
 use libc::STDIN_FILENO;
 use libc::STDOUT_FILENO;
-use question::Question;
+use question::Header;
 use room::front;
 ghost use mathlib.Core.Path.{_≡_};
 ghost use Prim.Native.Nat.{_≤_};
@@ -41,7 +41,7 @@ fn answer_all(answers: &mut [u8]) {
 }
 
 // Reads the bytes that follow a header, asks the question and puts its answer.
-fn answer_next(asked: Question, answers: &mut [u8], at: usize) -> usize
+fn answer_next(asked: Header, answers: &mut [u8], at: usize) -> usize
     ensures { λ r. ⌜ r ≤ length (now (answers .exit)) ⌝ }
 {
     let first = read_bytes(asked.first_length);

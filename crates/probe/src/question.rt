@@ -11,7 +11,7 @@ pub const PAGE: u8 = 3;
 // What is asked: which question, the byte that fills the lent buffers, the lengths of what follows, the
 // number that the question takes, whether a page begins after it, how many keys are wanted, and the lengths
 // of the lent buffers in bytes.
-pub struct Question {
+pub struct Header {
     pub kind: u8,
     pub fill: u8,
     pub first_length: usize,
@@ -24,8 +24,8 @@ pub struct Question {
 }
 
 // The question that a header's bytes say. Byte 15 has no meaning.
-pub fn of(header: [u8; 20]) -> Question {
-    Question {
+pub fn of(header: [u8; 20]) -> Header {
+    Header {
         kind: header[0],
         fill: header[1],
         first_length: two_bytes(header[2], header[3]),

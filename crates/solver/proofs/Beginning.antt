@@ -3,7 +3,7 @@ use Prim.Native.Nat.{ℕ, _+_, _<_}
 use mathlib.Core.Path.{_≡_, refl, sym, subst}
 use mathlib.Core.List.{List, [], _∷_, List·Memᴰ, List·Memᴰ·head}
 use Rattle.ac.specs.Lists.{Ascending}
-use Rattle.ac.specs.Keys.{Begin, start, after}
+use Rattle.ac.specs.Keys.{Beginning, start, after}
 use Rattle.ac.specs.Pages.{LeastFrom, NoneFrom, boundOf}
 use Rattle.ac.proofs.Pages.{least-first, none-remains}
 use Rattle.numbers.specs.Numbers.{numberOf}
@@ -26,11 +26,11 @@ settled-unlisted first = to-refuse (first-before (15 ∷ []) first)
 
 module _ {listed : List ℕ} (ascending : Ascending _<_ listed) where
   -- an empty list is 13, wherever the page begins
-  pub settled-empty : {begin : Begin} → NoneFrom listed 0 → SettledOf listed begin (Refused NoUnifier)
+  pub settled-empty : {begin : Beginning} → NoneFrom listed 0 → SettledOf listed begin (Refused NoUnifier)
   settled-empty nothing = to-refuse (here (none-admissible (none-remains ascending start nothing)))
 
   -- where the key after which to begin, if any, is listed, the page begins with the least key that may come
-  settled-least : (begin : Begin) {first : ℕ} → ((k : ℕ) → begin ≡ after k → List·Memᴰ k listed)
+  settled-least : (begin : Beginning) {first : ℕ} → ((k : ℕ) → begin ≡ after k → List·Memᴰ k listed)
       → LeastFrom listed (boundOf begin) first
       → SettledOf listed begin (FirstKey first)
   settled-least begin {first} on-list least =

@@ -13,8 +13,8 @@ use Rattle.ac.specs.Values.{Binding, bindings}
 use Rattle.ac.proofs.Places.{placeOf-getD}
 use Rattle.ac.proofs.Replaced.{variables-ascending}
 use Rattle.list.specs.Runs.{atomsAt}
-use Rattle.list.specs.Reach.{Holds}
-use Rattle.list.specs.declared.Selection.{Selection}
+use Rattle.list.specs.Reach.{HoldsGroups}
+use Rattle.list.specs.declared.KeyedSelection.{KeyedSelection}
 use Rattle.list.proofs.Runs.{atoms-value}
 use Rattle.solver.specs.Bindings.{bindingsBelow}
 
@@ -40,8 +40,8 @@ all-bindings xs σ names atoms (suc n) h same values =
     binding x v = record { variable = x; value = v }
 
 -- what is put for a pair's variables are the bindings of the key's selection
-module _ (M : Mode) (L R : List ℕ) (names : List ℕ) {rows : List ℕ} {s : Selection} {G : Groups}
-    (holds : Holds rows (length (variables M L R)) s G)
+module _ (M : Mode) (L R : List ℕ) (names : List ℕ) {rows : List ℕ} {s : KeyedSelection} {G : Groups}
+    (holds : HoldsGroups rows (length (variables M L R)) s G)
     (fits : Fits layout G) (candidate : Candidate layout G (s .key))
     (same : (p : ℕ) → p < length (variables M L R) → getD names p 0 ≡ getD (variables M L R) p 0) where
   pub pair-bindings : bindingsBelow names (atomsAt rows s) (length (variables M L R))

@@ -5,7 +5,7 @@ use mathlib.Core.List.{List}
 use Rattle.ac.specs.Lists.{receives}
 use Rattle.ac.specs.Pair.{Mode}
 use Rattle.ac.specs.Rows.{Groups}
-use Rattle.ac.specs.Keys.{Begin}
+use Rattle.ac.specs.Keys.{Beginning}
 use Rattle.ac.proofs.Groups.{groups-unique}
 use Rattle.numbers.specs.Outcome.{Outcome, refused, given}
 use Rattle.numbers.proofs.Laws.{refusalOf, refusalOf-saidOf}
@@ -58,7 +58,7 @@ module _ {M : Mode} {L R : List ℕ} where
       let same = groups-unique M L R of of′ in
       (ap sizesOf same, ap (λ (G : Groups). receives out (bytesOf (allRows G))) same)
 
-  pub one-page : {begin : Begin} {wanted : ℕ} {out : List ℕ} → OneResult (PageGives M L R begin wanted out)
+  pub one-page : {begin : Beginning} {wanted : ℕ} {out : List ℕ} → OneResult (PageGives M L R begin wanted out)
   one-page _ _ _ _ (next {G = G} of) (next {G = H} of′) =
       let same : G ≡ H = groups-unique M L R of of′ in
       (cc same, cc same)
@@ -74,7 +74,7 @@ module _ {M : Mode} {L R : List ℕ} where
       → (a ≡ a′) × (b ≡ b′)
   rows-determined = answer-determined one-rows rowsAnswer rows-told
 
-  pub page-determined : {begin : Begin} {wanted : ℕ} {out : List ℕ} {a a′ : PageAnswer} {b b′ : List ℕ}
+  pub page-determined : {begin : Beginning} {wanted : ℕ} {out : List ℕ} {a a′ : PageAnswer} {b b′ : List ℕ}
       → PagePromise M L R begin wanted out (toldPage a) b → PagePromise M L R begin wanted out (toldPage a′) b′
       → (a ≡ a′) × (b ≡ b′)
   page-determined = answer-determined one-page pageAnswer page-told

@@ -13,7 +13,7 @@ use Rattle.ac.specs.Lists.{receives}
 use Rattle.ac.specs.Pair.{Mode}
 use Rattle.ac.specs.Rows.{Groups, GroupsOf}
 use Rattle.ac.specs.Selection.{Selection, value}
-use Rattle.ac.specs.Keys.{layout, keys, keyOf, Begin, start, remaining}
+use Rattle.ac.specs.Keys.{layout, keys, keyOf, Beginning, start, remaining}
 use Rattle.ac.specs.Pages.{more}
 use Rattle.ac.specs.Replacement.{Replacement, Unifies, ComesFrom}
 use Rattle.ac.proofs.Groups.{groups-exist, groups-unique}
@@ -93,7 +93,7 @@ module _ {M : Mode} {L R : List ℕ} (fine : WithinLimits M L R) {G : Groups} (o
 abbrev uptoEmpty : List ℕ
 uptoEmpty = rowsNumbers ++ (13 ∷ [])
 
-module _ {M : Mode} {L R : List ℕ} {begin : Begin} {wanted : ℕ} {out : List ℕ} where
+module _ {M : Mode} {L R : List ℕ} {begin : Beginning} {wanted : ℕ} {out : List ℕ} where
   -- where nothing up to 12 is given, the sides and the groups are within the limits
   fine-sides : NoneOf (PageGiven M L R begin wanted out) rowsNumbers → WithinLimits M L R
   fine-sides none = within-limits (sides-give-none (λ n number. of-the-sides number) none)
@@ -184,7 +184,7 @@ module _ {M : Mode} {L R : List ℕ} {begin : Begin} {wanted : ℕ} {out : List 
             ∙ ap (λ b. remaining b (keys M layout L R G)) from-start
 
 -- Whatever meets Page's promise meets demand 3.
-pub page-existence : {M : Mode} {L R : List ℕ} {begin : Begin} {wanted : ℕ} {out : List ℕ}
+pub page-existence : {M : Mode} {L R : List ℕ} {begin : Beginning} {wanted : ℕ} {out : List ℕ}
     {outcome : Outcome PageWritten} {out′ : List ℕ}
     → PagePromise M L R begin wanted out outcome out′ → PageExistence M L R begin wanted out outcome out′
 page-existence (is-refused refuses) =

@@ -7,7 +7,7 @@ use lib.ListN.{length}
 use Rattle.ac.specs.Limits.{limits}
 use Rattle.ac.specs.Pair.{Mode}
 use Rattle.ac.specs.Rows.{Groups, GroupsOf}
-use Rattle.ac.specs.Keys.{layout, keys, Begin, after}
+use Rattle.ac.specs.Keys.{layout, keys, Beginning, after}
 use Rattle.ac.proofs.Groups.{groups-unique}
 use Rattle.numbers.specs.First.{First, NoneOf, here, end, also}
 use Rattle.numbers.specs.Order.{sidesNumbers, keyNumbers, beginningNumbers, lengthNumbers, rowsNumbers, pageNumbers, valuesNumbers}
@@ -45,13 +45,13 @@ module _ {M : Mode} {L R : List ℕ} where
 
   module _ {G : Groups} (groups : GroupsOf M L R G) where
     -- the list of groups that are the pair's is that of any others
-    same-list : {begin : Begin} {H : Groups} {n : ℕ} → GroupsOf M L R H → ListGiven (keys M layout L R H) begin n
+    same-list : {begin : Beginning} {H : Groups} {n : ℕ} → GroupsOf M L R H → ListGiven (keys M layout L R H) begin n
         → ListGiven (keys M layout L R G) begin n
     same-list {begin} {n = n} other given =
         subst (λ H. ListGiven (keys M layout L R H) begin n) (groups-unique M L R other groups) given
 
     -- each row of Page's table is the row of the sides, of the list or of the buffer
-    pub page-made : {begin : Begin} {wanted : ℕ} {out : List ℕ}
+    pub page-made : {begin : Beginning} {wanted : ℕ} {out : List ℕ}
         → MadeOf (PageGiven M L R begin wanted out) (PairGiven limits M L R)
         (ListGiven (keys M layout L R G) begin) (length out) (wantedCount wanted) ⊥
     page-made {begin} {wanted} {out} =
@@ -92,14 +92,14 @@ module _ {M : Mode} {L R : List ℕ} where
             values-row (subst (λ H. LongValue M L R H key) (groups-unique M L R other groups) long)
 
     -- Page's numbers that the list decides are given where the list gives them
-    pub page-given : {begin : Begin} {wanted : ℕ} {out : List ℕ} {n : ℕ} → List·Memᴰ n beginningNumbers
+    pub page-given : {begin : Beginning} {wanted : ℕ} {out : List ℕ} {n : ℕ} → List·Memᴰ n beginningNumbers
         → PageGiven M L R begin wanted out n
         → ListGiven (keys M layout L R G) begin n
     page-given m given = parts.given-list page-made m given
 
     module _ (none : NoneOf (PairGiven limits M L R) sidesNumbers) where
       -- where the sides give none and the buffer is long enough, Page's first number is the list's
-      module _ {begin : Begin} {wanted : ℕ} {out : List ℕ} (enough : wantedCount wanted ≤ length out) where
+      module _ {begin : Beginning} {wanted : ℕ} {out : List ℕ} (enough : wantedCount wanted ≤ length out) where
         pub page-first : {n : ℕ} → First (ListGiven (keys M layout L R G) begin) beginningNumbers n
             → First (PageGiven M L R begin wanted out) pageNumbers n
         page-first first = parts.first-of-list page-made enough none (λ n m. m) [] first

@@ -10,7 +10,7 @@ use lib.Seq.{take-all, take-append-seam}
 use Rattle.ac.specs.Lists.{Ascending}
 use Rattle.ac.specs.Pair.{Mode}
 use Rattle.ac.specs.Rows.{Groups, GroupsOf}
-use Rattle.ac.specs.Keys.{layout, keys, Begin, start, remaining}
+use Rattle.ac.specs.Keys.{layout, keys, Beginning, start, remaining}
 use Rattle.ac.specs.Pages.{together, WholeList}
 use Rattle.ac.proofs.Groups.{groups-exist, groups-unique}
 use Rattle.ac.proofs.Listed.{keys-ascending}
@@ -28,7 +28,7 @@ use Rattle.solver.proofs.Existence.{fine-page}
 
 module _ {M : Mode} {L R : List ℕ} {G : Groups} (of : GroupsOf M L R G) where
   -- what a page's promise says of it: the next keys, and whether more follow
-  pub page-written : {begin : Begin} {wanted written : ℕ} {more : Bool} {out out′ : List ℕ}
+  pub page-written : {begin : Beginning} {wanted written : ℕ} {more : Bool} {out out′ : List ℕ}
       → PagePromise M L R begin wanted out (given (record { written = written; more = more })) out′
       → (take written out′ ≡ nextKeys M L R G begin wanted) × (more ≡ moreFollow M L R G begin wanted)
   page-written {begin} {wanted} {out = out} (is-given none (next {G = H} others)) =
@@ -39,7 +39,7 @@ module _ {M : Mode} {L R : List ℕ} {G : Groups} (of : GroupsOf M L R G) where
       )
 
   -- together they are what remains from the beginning
-  pub pages-together : {begin : Begin} {pages : List (List ℕ)} → Ascending _<_ (keys M layout L R G)
+  pub pages-together : {begin : Beginning} {pages : List (List ℕ)} → Ascending _<_ (keys M layout L R G)
       → PagesAsked M L R begin pages
       → together pages ≡ remaining begin (keys M layout L R G)
   pages-together ascending (one-more {begin = begin} {wanted = wanted} {pages = pages} before last promise
@@ -59,11 +59,11 @@ module _ {M : Mode} {L R : List ℕ} {G : Groups} (of : GroupsOf M L R G) where
       sym (given-15 refl (page-given of (its-member beginningNumbers refl) (first-given (refused-first promise))) .0)
 
 -- a page tells that the pair is within the limits
-page-within : {M : Mode} {L R : List ℕ} {begin : Begin} {wanted written : ℕ} {more : Bool} {out out′ : List ℕ}
+page-within : {M : Mode} {L R : List ℕ} {begin : Beginning} {wanted written : ℕ} {more : Bool} {out out′ : List ℕ}
     → PagePromise M L R begin wanted out (given (record { written = written; more = more })) out′ → WithinLimits M L R
 page-within (is-given none (next of)) = fine-page none of
 
-pub asked-within : {M : Mode} {L R : List ℕ} {begin : Begin} {pages : List (List ℕ)} → begin ≡ start
+pub asked-within : {M : Mode} {L R : List ℕ} {begin : Beginning} {pages : List (List ℕ)} → begin ≡ start
     → PagesAsked M L R begin pages → WithinLimits M L R
 asked-within from-start (one-more before last promise ends rest) = page-within promise
 asked-within from-start (no-more promise) = page-within promise

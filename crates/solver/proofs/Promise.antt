@@ -6,7 +6,7 @@ use mathlib.Core.List.{List, _∷_, List·Memᴰ}
 use lib.ListN.{length, getD}
 use Rattle.ac.specs.Limits.{limits}
 use Rattle.ac.specs.Pair.{Mode}
-use Rattle.ac.specs.Keys.{layout, keys, Begin, after, remaining}
+use Rattle.ac.specs.Keys.{layout, keys, Beginning, after, remaining}
 use Rattle.buffer.specs.Put.{Put}
 use Rattle.buffer.proofs.Puts.{put-received}
 use Rattle.numbers.specs.Numbers.{numberOf, saidOf}
@@ -21,9 +21,9 @@ use Rattle.table.specs.Table.{TableOf, groupsIn}
 use Rattle.table.specs.declared.Table.{Table}
 use Rattle.table.proofs.TableGroups.{length-groupAt, how-many-constants}
 use Rattle.list.specs.Given.{ListGiven}
-use Rattle.list.specs.List.{FoundOf}
-use Rattle.list.specs.declared.Found.{Found}
-use Rattle.list.specs.declared.Found.the-variants as lookup
+use Rattle.list.specs.List.{LookedUp}
+use Rattle.list.specs.declared.Lookup.{Lookup}
+use Rattle.list.specs.declared.Lookup.the-variants as lookup
 use Rattle.list.proofs.Finding.{told-listed, told-refused}
 use Rattle.solver.specs.Rows.{rowsBuffer, GroupSizes, size, sizesOf, allRows, bytesOf, RowsPromise}
 use Rattle.solver.specs.Rows as its-rows
@@ -36,11 +36,11 @@ use Rattle.solver.specs.declared.page.Settled.the-variants.{FirstKey, Re
 use Rattle.solver.proofs.Given.{rows-made, page-first, page-none, values-first, values-long, values-none}
 
 -- the cases of what is settled
-settled-refusal : {listed : List ℕ} {begin : Begin} {why : Refusal} → SettledOf listed begin (Refused why)
+settled-refusal : {listed : List ℕ} {begin : Beginning} {why : Refusal} → SettledOf listed begin (Refused why)
     → First (ListGiven listed begin) beginningNumbers (numberOf why)
 settled-refusal (to-refuse first) = first
 
-settled-first : {listed : List ℕ} {begin : Begin} {key : ℕ} → SettledOf listed begin (FirstKey key)
+settled-first : {listed : List ℕ} {begin : Beginning} {key : ℕ} → SettledOf listed begin (FirstKey key)
     → NoneOf (ListGiven listed begin) beginningNumbers
     × (remaining begin listed ≡ key ∷ remaining (after key) listed)
 settled-first (to-answer none e) = (none, e)
@@ -78,7 +78,7 @@ module _ {M : Mode} {L R : List ℕ} {t : Table} (of : TableOf M L R t)
       }
       sizes = cc (length-groupAt t 0, how-many-constants t (of .within), e₁, e₂, e₃, e₄)
 
-  module _ {begin : Begin} {wanted : ℕ} {out : List ℕ} (enough : wantedCount wanted ≤ length out)
+  module _ {begin : Beginning} {wanted : ℕ} {out : List ℕ} (enough : wantedCount wanted ≤ length out)
       {settled : Settled} (told : SettledOf (keys M layout L R (groupsIn t)) begin settled) where
     -- Page: 13, 14 and 15 change no buffer
     pub page-refused : {why : Refusal} → settled ≡ Refused why
@@ -98,8 +98,8 @@ module _ {M : Mode} {L R : List ℕ} {t : Table} (of : TableOf M L R t)
         subst₂ (λ o b. PagePromise M L R begin wanted out o b) (sym (whole .the-outcome)) (sym (whole .the-buffer))
         (is-given (page-none (of .the-groups) none enough (answer .0)) (next (of .the-groups)))
 
-  module _ {key : ℕ} {out : List ℕ} (enough : valuesBuffer ≤ length out) {found : Found}
-      (told : FoundOf (keys M layout L R (groupsIn t)) key found) where
+  module _ {key : ℕ} {out : List ℕ} (enough : valuesBuffer ≤ length out) {found : Lookup}
+      (told : LookedUp (keys M layout L R (groupsIn t)) key found) where
     -- Values: 13 and 14 change no buffer
     pub values-refused : {why : Refusal} → found ≡ lookup.Refused why
         → ValuesPromise M L R key out (refused (saidOf why)) out

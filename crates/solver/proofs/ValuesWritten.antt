@@ -19,8 +19,8 @@ use Rattle.ac.proofs.Replaced.{variables-ascending}
 use Rattle.buffer.specs.Put.{Put}
 use Rattle.buffer.proofs.Puts.{put-as, put-received}
 use Rattle.list.specs.Runs.{selectionIn, runCount, timesAt, atomOf, atomsAt, lengthAt}
-use Rattle.list.specs.Reach.{Holds}
-use Rattle.list.specs.declared.Selection.{Selection}
+use Rattle.list.specs.Reach.{HoldsGroups}
+use Rattle.list.specs.declared.KeyedSelection.{KeyedSelection}
 use Rattle.list.proofs.Any.{any-some, not-above}
 use Rattle.list.proofs.Runs.{length-runs, atoms-value}
 use Rattle.list.proofs.Table.{table-fits, table-holds}
@@ -44,8 +44,8 @@ module _ {M : Mode} {L R : List ℕ} {t : Table} {key : ℕ} (of : TableOf M L R
       sym (getD-take (t .places) (t .variables) p 0 (omega (arith, of .the-places)))
       ∙ ap (λ l. getD l p 0) (of .the-variables)
 
-  holds : Holds (t .rows) (length (variables M L R)) (selectionIn t key) (groupsIn t)
-  holds = subst (λ n. Holds (t .rows) n (selectionIn t key) (groupsIn t)) (of .the-places)
+  holds : HoldsGroups (t .rows) (length (variables M L R)) (selectionIn t key) (groupsIn t)
+  holds = subst (λ n. HoldsGroups (t .rows) n (selectionIn t key) (groupsIn t)) (of .the-places)
       (table-holds (of .within) key)
 
   -- what is laid out are the key's values
@@ -93,7 +93,7 @@ module _ {M : Mode} {L R : List ℕ} {t : Table} {key : ℕ} (of : TableOf M L R
       )
 
   -- What is told of the selection and put of it is told and put of the key.
-  module _ {selection : Selection} (its : selection ≡ selectionIn t key) {out : List ℕ} where
+  module _ {selection : KeyedSelection} (its : selection ≡ selectionIn t key) {out : List ℕ} where
     pub writes-long : true ≡ tooLong (t .rows) (t .places) selection
         → WritesValues M L R (groupsIn t) key out (refused (saidOf TooLong)) out
     writes-long e = too-long (long-counted (sym (e ∙ ap (tooLong (t .rows) (t .places)) its)))

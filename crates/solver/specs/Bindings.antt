@@ -8,10 +8,10 @@ use Rattle.ac.specs.Values.{Binding}
 use Rattle.list.specs.Runs.{lengthAt}
 use Rattle.solver.specs.Values.{longestValue}
 use Rattle.list.specs.Reach.{any}
-use Rattle.list.specs.declared.Selection.{Selection}
+use Rattle.list.specs.declared.KeyedSelection.{KeyedSelection}
 
 -- at one of the places the value would have more atoms than a value may have
-abbrev pub tooLong : List ℕ → ℕ → Selection → Bool
+abbrev pub tooLong : List ℕ → ℕ → KeyedSelection → Bool
 tooLong rows places s = any places (λ p. ltb longestValue (lengthAt rows s p))
 
 -- the variables before place n, each with the atoms at its place

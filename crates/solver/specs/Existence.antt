@@ -7,7 +7,7 @@ use lib.ListN.{getD}
 use Rattle.ac.specs.Pair.{Mode}
 use Rattle.ac.specs.Rows.{Groups, GroupsOf}
 use Rattle.ac.specs.Selection.{value}
-use Rattle.ac.specs.Keys.{layout, selectionAt, Begin, start}
+use Rattle.ac.specs.Keys.{layout, selectionAt, Beginning, start}
 use Rattle.ac.specs.Replacement.{Replacement, Unifies, ComesFrom}
 use Rattle.numbers.specs.First.{NoneOf}
 use Rattle.numbers.specs.Numbers.{saidOf}
@@ -27,7 +27,7 @@ NoneUnifies M L R = (θ : Replacement) → Unifies M L R θ → ⊥
 abbrev pub replacementOf : Mode → List ℕ → List ℕ → Groups → ℕ → Replacement
 replacementOf M L R G key = value M (layout .new) L R G (selectionAt layout G key)
 
-pub record PageExistence (M : Mode) (L R : List ℕ) (begin : Begin) (wanted : ℕ) (out : List ℕ)
+pub record PageExistence (M : Mode) (L R : List ℕ) (begin : Beginning) (wanted : ℕ) (out : List ℕ)
     (outcome : Outcome PageWritten) (out′ : List ℕ) : Type 0 where
   -- 13 exactly where no replacement unifies the sides: only there, and always there, unless a number that
   -- comes before it is given

@@ -7,7 +7,7 @@ use Rattle.ac.specs.Lists.{receives}
 use Rattle.ac.specs.Limits.{limits}
 use Rattle.ac.specs.Pair.{Mode}
 use Rattle.ac.specs.Rows.{Groups, GroupsOf}
-use Rattle.ac.specs.Keys.{layout, keys, start, after, Begin as Beginning}
+use Rattle.ac.specs.Keys.{layout, keys, start, after, Beginning}
 use Rattle.ac.specs.Pages.{page, more}
 use Rattle.numbers.specs.Numbers.{saidOf}
 use Rattle.numbers.specs.Order.{pageNumbers}

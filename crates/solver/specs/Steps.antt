@@ -9,7 +9,7 @@ use Rattle.ac.specs.Lists.{receives}
 use Rattle.ac.specs.Limits.{limits}
 use Rattle.ac.specs.Pair.{Mode}
 use Rattle.ac.specs.Rows.{Groups}
-use Rattle.ac.specs.Keys.{layout, keys, Begin, after, remaining}
+use Rattle.ac.specs.Keys.{layout, keys, Beginning, after, remaining}
 use Rattle.numbers.specs.Numbers.{numberOf, saidOf}
 use Rattle.numbers.specs.First.{First, NoneOf}
 use Rattle.numbers.specs.Order.{sidesNumbers, beginningNumbers}
@@ -47,7 +47,7 @@ ValuesOfTable table key out outcome out′ =
     OfSolved table (λ M L R. M .empties ≡ false → ValuesPromise M L R key out outcome out′)
 
 -- 13, 14 or 15, or the first of the keys that remain
-pub data SettledOf (listed : List ℕ) (begin : Begin) : Settled → Type 0 where
+pub data SettledOf (listed : List ℕ) (begin : Beginning) : Settled → Type 0 where
   to-refuse : {why : Refusal} → First (ListGiven listed begin) beginningNumbers (numberOf why)
       → SettledOf listed begin (Refused why)
   to-answer : {key : ℕ} → NoneOf (ListGiven listed begin) beginningNumbers

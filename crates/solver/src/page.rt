@@ -1,6 +1,6 @@
 // The question Page: the next keys of the list, from the start or after a key.
-use list::Found;
-use list::Next;
+use list::Lookup;
+use list::NextKey;
 use list::find_key;
 use list::least_listed;
 use numbers::Refusal;
@@ -63,12 +63,12 @@ fn settle_after(masks: Masks, key: u32) -> Settled
 {
     let found = find_key(masks, key);
     match found {
-        Found::Refused(refusal) => Settled::Refused(refusal),
-        Found::Listed => {
+        Lookup::Refused(refusal) => Settled::Refused(refusal),
+        Lookup::Listed => {
             let next = least_listed(masks, key as u64 + 1);
             match next {
-                Next::Key(first) => Settled::FirstKey(first),
-                Next::None => Settled::Refused(Refusal::LastKey),
+                NextKey::Key(first) => Settled::FirstKey(first),
+                NextKey::None => Settled::Refused(Refusal::LastKey),
             }
         }
     }
@@ -83,8 +83,8 @@ fn settle(masks: Masks, begin: Begin) -> Settled
         Begin::Start => {
             let first = least_listed(masks, 0);
             match first {
-                Next::Key(key) => Settled::FirstKey(key),
-                Next::None => Settled::Refused(Refusal::NoUnifier),
+                NextKey::Key(key) => Settled::FirstKey(key),
+                NextKey::None => Settled::Refused(Refusal::NoUnifier),
             }
         }
         Begin::After(key) => settle_after(masks, key),
@@ -101,7 +101,7 @@ fn write_keys(masks: Masks, first: u32, wanted: usize, out: &mut [u32]) -> PageA
     let mut written: usize = 1;
     while written < wanted {
         let next = least_listed(masks, last as u64 + 1);
-        let Next::Key(key) = next else {
+        let NextKey::Key(key) = next else {
             return PageAnswer::Page {
                 written,
                 more: false,
@@ -113,11 +113,11 @@ fn write_keys(masks: Masks, first: u32, wanted: usize, out: &mut [u32]) -> PageA
     }
     let next = least_listed(masks, last as u64 + 1);
     match next {
-        Next::Key(_) => PageAnswer::Page {
+        NextKey::Key(_) => PageAnswer::Page {
             written,
             more: true,
         },
-        Next::None => PageAnswer::Page {
+        NextKey::None => PageAnswer::Page {
             written,
             more: false,
         },

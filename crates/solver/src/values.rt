@@ -1,7 +1,7 @@
 // The question Values: the values that a key gives the variables.
 use buffer::put_repeated;
-use list::Found;
-use list::Selection;
+use list::KeyedSelection;
+use list::Lookup;
 use list::find_key;
 use list::selection_of;
 use list::times;
@@ -43,7 +43,7 @@ pub enum ValuesAnswer {
 }
 
 // The atom of a run of the selection: the constant, or the new variable of the balanced row.
-fn atom(selection: Selection, run: usize) -> u8
+fn atom(selection: KeyedSelection, run: usize) -> u8
     requires { ⌜ Fit selection × (run < runCount selection) ⌝ }
     ensures { λ r. ⌜ r ≡ atomOf selection run ⌝ }
 {
@@ -55,7 +55,7 @@ fn atom(selection: Selection, run: usize) -> u8
 }
 
 // How many atoms the value at the place has.
-fn value_length(rows: &[u8; ROWS], selection: Selection, place: usize) -> usize
+fn value_length(rows: &[u8; ROWS], selection: KeyedSelection, place: usize) -> usize
     requires { ⌜ Fit selection × (place < limits .variables) ⌝ }
     ensures { λ r. ⌜ r ≡ lengthAt (now (rows .entry)) selection place ⌝ }
 {
@@ -70,7 +70,7 @@ fn value_length(rows: &[u8; ROWS], selection: Selection, place: usize) -> usize
 }
 
 // Whether a value would have more than 200 atoms.
-fn too_long(rows: &[u8; ROWS], places: usize, selection: Selection) -> bool
+fn too_long(rows: &[u8; ROWS], places: usize, selection: KeyedSelection) -> bool
     requires { ⌜ Fit selection × (places ≤ limits .variables) ⌝ }
     ensures { λ r. ⌜ r ≡ tooLong (now (rows .entry)) places selection ⌝ }
 {
@@ -87,7 +87,7 @@ fn too_long(rows: &[u8; ROWS], places: usize, selection: Selection) -> bool
 // The atoms of the value at the place: that of each run, as often as the run names it.
 fn put_atoms(
     rows: &[u8; ROWS],
-    selection: Selection,
+    selection: KeyedSelection,
     place: usize,
     out: &mut [u8],
     at: usize,
@@ -111,7 +111,7 @@ fn put_atoms(
 fn put_binding(
     rows: &[u8; ROWS],
     variable: u8,
-    selection: Selection,
+    selection: KeyedSelection,
     place: usize,
     out: &mut [u8],
     at: usize,
@@ -132,7 +132,7 @@ fn put_bindings(
     rows: &[u8; ROWS],
     variables: &[u8; VARIABLES],
     places: usize,
-    selection: Selection,
+    selection: KeyedSelection,
     out: &mut [u8],
 ) -> usize
     requires { ⌜ Fit selection × (places ≤ limits .variables) ⌝ }
@@ -177,8 +177,8 @@ pub fn values_of(table: Table, key: u32, out: &mut [u8]) -> ValuesAnswer
     let masks = masks_of(table);
     let found = find_key(masks, key);
     match found {
-        Found::Refused(refusal) => ValuesAnswer::Refused(refusal),
-        Found::Listed => write(table, key, out),
+        Lookup::Refused(refusal) => ValuesAnswer::Refused(refusal),
+        Lookup::Listed => write(table, key, out),
     }
 }
 

@@ -23,5 +23,5 @@ abbrev pub SolvesPair : Pair → Solved → Type 0
 SolvesPair pair solved = (M : Mode) (L R : List ℕ) → PairOf M L R pair → SolvedOf rowLimitNumbers M L R solved
 
 -- two sides are solved, or the first of the numbers 7 to 12 is given
-abbrev pub Solves : Mode → List ℕ → List ℕ → Solved → Type 0
-Solves = SolvedOf sidesNumbers
+abbrev pub SolvesSides : Mode → List ℕ → List ℕ → Solved → Type 0
+SolvesSides = SolvedOf sidesNumbers

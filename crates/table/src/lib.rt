@@ -19,7 +19,7 @@ ghost use Rattle.ac.specs.Limits.{limits};
 ghost use Rattle.ac.specs.Pair.{unifying};
 ghost use Rattle.table.specs.Table.{mostRows, rowStart};
 ghost use Rattle.table.specs.Groups.{Roomy};
-ghost use Rattle.table.specs.Solved.{Solves, SolvesPair};
+ghost use Rattle.table.specs.Solved.{SolvesSides, SolvesPair};
 
 // The groups of a pair: the balanced rows, and those of each unbalanced constant.
 pub const GROUPS: usize = 1 + CONSTANTS;
@@ -126,9 +126,9 @@ fn solve_pair(pair: Pair) -> Solved
     }
 }
 
-// Solves a pair: the first of the numbers 7 to 12 that is given, or its table.
+// SolvesSides a pair: the first of the numbers 7 to 12 that is given, or its table.
 pub fn solve(left: &[u8], right: &[u8]) -> Solved
-    ensures { λ r. ⌜ Solves unifying (now (left .entry)) (now (right .entry)) r ⌝ }
+    ensures { λ r. ⌜ SolvesSides unifying (now (left .entry)) (now (right .entry)) r ⌝ }
 {
     let parted = take_apart(left, right);
     let verdict = parted.verdict;

@@ -3,15 +3,15 @@ use mathlib.Core.Path.{_≡_, sym, _∙_}
 use Rattle.numbers.specs.Outcome.{Outcome}
 use Rattle.tally.specs.Line.{BlockFound, lineOf}
 use Rattle.tally.specs.Counts.{Tallies, counted}
-use Rattle.tally.specs.declared.Counts.{Counts}
+use Rattle.tally.specs.declared.Totals.{Totals}
 use Rattle.tally.specs.declared.Tallied.{Tallied}
 
 -- the result that this contract asks for
-tallied : Counts → Outcome BlockFound → Tallied
+tallied : Totals → Outcome BlockFound → Tallied
 tallied c returned = record { place = c .blocks; line = lineOf returned; counts = counted c (lineOf returned) }
 
 -- what meets the promise is this one
-tallies-one : {c : Counts} {returned : Outcome BlockFound} (r : Tallied) → Tallies c returned r → r ≡ tallied c returned
+tallies-one : {c : Totals} {returned : Outcome BlockFound} (r : Tallied) → Tallies c returned r → r ≡ tallied c returned
 unfolding tallied
 tallies-one {c} {returned} r p =
     let whole : record { place = r .place; line = r .line; counts = r .counts } ≡ tallied c returned =
@@ -19,6 +19,6 @@ tallies-one {c} {returned} r p =
     whole
 
 -- Two results that meet the contract are identical.
-pub tally-determined : {c : Counts} {returned : Outcome BlockFound} (r s : Tallied) → Tallies c returned r
+pub tally-determined : {c : Totals} {returned : Outcome BlockFound} (r s : Tallied) → Tallies c returned r
     → Tallies c returned s → r ≡ s
 tally-determined r s p q = tallies-one r p ∙ sym (tallies-one s q)

@@ -1,2 +1,2 @@
 pub mod Line
-pub mod Counts
+pub mod Totals

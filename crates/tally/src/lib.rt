@@ -28,7 +28,7 @@ pub enum Line {
 }
 
 // How many blocks were read, and how many lines of each kind they have.
-pub struct Counts {
+pub struct Totals {
     pub blocks: u64,
     pub listed: u64,
     pub none: u64,
@@ -39,18 +39,18 @@ pub struct Counts {
 pub struct Tallied {
     pub place: u64,
     pub line: Line,
-    pub counts: Counts,
+    pub counts: Totals,
 }
 
 // The lines that stand at the end: `nothing read`, the counts, or `too long` before the counts.
 pub enum Closing {
     NothingRead,
-    Counted(Counts),
-    TooLong(Counts),
+    Counted(Totals),
+    TooLong(Totals),
 }
 
 // What is said of a block, from the counts so far and what Read, Rows and Page returned for it.
-pub fn tally(counts: Counts, read: ReadAnswer, rows: RowsAnswer, page: PageAnswer) -> Tallied
+pub fn tally(counts: Totals, read: ReadAnswer, rows: RowsAnswer, page: PageAnswer) -> Tallied
     ensures { λ r. ⌜ Tallies counts (toldBlock read rows page) r ⌝ }
 {
     let line = line_of(read, rows, page);
@@ -122,7 +122,7 @@ fn sum(a: u64, b: u64) -> u64
 }
 
 // The counts after a block with this line: each is counted by its own kind of line.
-fn count(counts: Counts, line: Line) -> Counts
+fn count(counts: Totals, line: Line) -> Totals
     ensures { λ r. ⌜ r ≡ counted counts line ⌝ }
 {
     let mut after = counts;
@@ -154,7 +154,7 @@ fn one_more(count: u64) -> u64
 }
 
 // The lines at the end, from the counts and whether input remains after the last block that was read.
-pub fn closing_lines(counts: Counts, remains: bool) -> Closing
+pub fn closing_lines(counts: Totals, remains: bool) -> Closing
     ensures { λ r. ⌜ r ≡ closingOf counts remains ⌝ }
 {
     if remains {

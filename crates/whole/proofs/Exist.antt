@@ -9,7 +9,7 @@ use borrow.Author.Tests.{le-ltb}
 use lib.ListN.{length, replicate, length-replicate, take}
 use Rattle.ac.specs.Pair.{Mode}
 use Rattle.ac.specs.Rows.{Groups, GroupsOf}
-use Rattle.ac.specs.Keys.{layout, keys, Begin, start}
+use Rattle.ac.specs.Keys.{layout, keys, Beginning, start}
 use Rattle.ac.specs.Pages.{together}
 use Rattle.ac.proofs.Groups.{groups-exist}
 use Rattle.numbers.specs.First.{NoneOf}
@@ -40,7 +40,7 @@ room-enough n = omega (arith, length-replicate {A = ℕ} n 0)
 
 module _ {M : Mode} {L R : List ℕ} where
   -- a page after which no more follow is the last one
-  last-page : {begin : Begin} {wanted written : ℕ} {more : Bool} {out out′ : List ℕ} → more ≡ false
+  last-page : {begin : Beginning} {wanted written : ℕ} {more : Bool} {out out′ : List ℕ} → more ≡ false
       → PagePromise M L R begin wanted out (given (record { written = written; more = more })) out′
       → PagesAsked M L R begin (take written out′ ∷ [])
   last-page {begin} {wanted} {written} {out = out} {out′ = out′} ends promise =
@@ -85,7 +85,7 @@ pages-and-answers {M} {L} {R} none some =
     (pages .0, answers .0, pages .1, answers .1)
 
 -- So have sides of which Page gives none of its numbers, wherever it begins and whatever is wanted and lent.
-pub pages-wherever-given : {M : Mode} {L R : List ℕ} {begin : Begin} {wanted : ℕ} {out : List ℕ}
+pub pages-wherever-given : {M : Mode} {L R : List ℕ} {begin : Beginning} {wanted : ℕ} {out : List ℕ}
     → NoneOf (PageGiven M L R begin wanted out) pageNumbers
     → (pages answers : List (List ℕ)) × PagesAsked M L R start pages × ValuesAsked M L R (together pages) answers
 pages-wherever-given {M} {L} {R} none =

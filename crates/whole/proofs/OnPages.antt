@@ -20,7 +20,7 @@ use lib.Seq.{take-append-seam, getD-take}
 use Rattle.ac.specs.Limits.{limits}
 use Rattle.ac.specs.Pair.{Mode}
 use Rattle.ac.specs.Search.{groups}
-use Rattle.ac.specs.Keys.{layout, keys, Begin, start, after, remaining}
+use Rattle.ac.specs.Keys.{layout, keys, Beginning, start, after, remaining}
 use Rattle.ac.proofs.Groups.{groups-exist}
 use Rattle.ac.proofs.Listed.{keys-ascending}
 use Rattle.ac.proofs.Pages.{page-members, remaining-after-page}
@@ -70,20 +70,20 @@ some-wanted zero = omega arith
 some-wanted (suc n) = omega arith
 
 -- where the list gives no number, a key remains
-list-remains : (begin : Begin) {listed : List ℕ} → ((n : ℕ) → ListGiven listed begin n → ⊥)
+list-remains : (begin : Beginning) {listed : List ℕ} → ((n : ℕ) → ListGiven listed begin n → ⊥)
     → remaining begin listed ≡ [] → ⊥
 list-remains start never empty = never 13 (none-admissible empty)
 list-remains (after k) never empty = never 14 (not-listed refl (λ m. never 15 (last-listed refl m empty)))
 
 -- a page is as long as Page says
-page-length : {M : Mode} {L R : List ℕ} {begin : Begin} {wanted written : ℕ} {more : Bool} {out out′ : List ℕ}
+page-length : {M : Mode} {L R : List ℕ} {begin : Beginning} {wanted written : ℕ} {more : Bool} {out out′ : List ℕ}
     → PagePromise M L R begin wanted out (given (record { written = written; more = more })) out′
     → length (take written out′) ≡ written
 page-length {M} {L} {R} {begin} {wanted} {out = out} (is-given none (next {G = G} of)) =
     ap length
     (take-append-seam (nextKeys M L R G begin wanted) (drop (length (nextKeys M L R G begin wanted)) out))
 
-module _ {M : Mode} {L R : List ℕ} {begin : Begin} {wanted written : ℕ} {more : Bool} {out out′ : List ℕ}
+module _ {M : Mode} {L R : List ℕ} {begin : Beginning} {wanted written : ℕ} {more : Bool} {out out′ : List ℕ}
     (page : PagePromise M L R begin wanted out (given (record { written = written; more = more })) out′) where
   -- the sides of a page that is given give no number
   none-of-sides : NoneOf (PairGiven limits M L R) sidesNumbers
@@ -130,7 +130,7 @@ module _ {M : Mode} {L R : List ℕ} {begin : Begin} {wanted written : ℕ} {mor
             (is-given (values-none of none-of-sides enough (on-list m) short) (values of)) .0,
       )
 
-module _ {M : Mode} {L R : List ℕ} {begin : Begin} {wanted written : ℕ} {out out′ : List ℕ}
+module _ {M : Mode} {L R : List ℕ} {begin : Beginning} {wanted written : ℕ} {out out′ : List ℕ}
     (page : PagePromise M L R begin wanted out (given (record { written = written; more = true })) out′)
     (before : List ℕ) (last : ℕ) (ends : take written out′ ≡ before ++ last ∷ []) where
   -- keys remain after the last one of a page after which more follow

@@ -3,7 +3,7 @@
 use Prim.Native.Nat.{ℕ}
 use mathlib.Core.List.{List, [], _∷_, List·Memᴰ}
 use Rattle.ac.specs.Pair.{Mode}
-use Rattle.ac.specs.Keys.{Begin}
+use Rattle.ac.specs.Keys.{Beginning}
 use Rattle.numbers.specs.Outcome.{Said, refused}
 use Rattle.numbers.proofs.Promises.{refused-listed}
 use Rattle.block.specs.Read.{ReadPromise}
@@ -24,7 +24,7 @@ module _ {said : Said} where
   rows-gives = refused-listed
 
   -- Page gives 7 to 16.
-  pub page-gives : {M : Mode} {L R : List ℕ} {begin : Begin} {wanted : ℕ} {out out′ : List ℕ}
+  pub page-gives : {M : Mode} {L R : List ℕ} {begin : Beginning} {wanted : ℕ} {out out′ : List ℕ}
       → PagePromise M L R begin wanted out (refused said) out′
       → List·Memᴰ (said .number) (16 ∷ 7 ∷ 8 ∷ 9 ∷ 10 ∷ 11 ∷ 12 ∷ 13 ∷ 14 ∷ 15 ∷ [])
   page-gives = refused-listed

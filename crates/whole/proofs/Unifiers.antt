@@ -25,7 +25,7 @@ use lib.ListN.{length, take, drop}
 use lib.Seq.{take-append-seam}
 use Rattle.ac.specs.Term.{Term, atom, plus, flatten}
 use Rattle.ac.specs.Pair.{Mode, IsSide, unifying}
-use Rattle.ac.specs.Keys.{layout, Begin, start}
+use Rattle.ac.specs.Keys.{layout, Beginning, start}
 use Rattle.ac.specs.Pages.{together}
 use Rattle.ac.specs.Fages.{MinimalSet}
 use Rattle.ac.proofs.Fages.{flattened, unifier-unifies, unifies-unifier}
@@ -59,7 +59,7 @@ module _ {M : Mode} (some : M .empties ≡ false) (s t : Term) where
   )
 
   -- 13 on the flattened sides is that
-  terms-no-unifier : {begin : Begin} {wanted : ℕ} {out out′ : List ℕ} {outcome : Outcome PageWritten}
+  terms-no-unifier : {begin : Beginning} {wanted : ℕ} {out out′ : List ℕ} {outcome : Outcome PageWritten}
       → PagePromise M (flatten s) (flatten t) begin wanted out outcome out′
       → (outcome ≡ refused (saidOf NoUnifier))
       ↔ (NoneOf (PageGiven M (flatten s) (flatten t) begin wanted out) rowsNumbers × NoUnifierOf M s t)
@@ -115,7 +115,7 @@ module _ {block : List ℕ} {number : ℕ} {left right left′ right′ : List �
       (subst₂ (λ L R. ValuesAsked unifying L R (together pages) answers) (same .0) (same .1) answered)
 
   -- There are such terms, pages and answers wherever Page gives none of its numbers.
-  pub block-answered : {begin : Begin} {wanted : ℕ} {out : List ℕ}
+  pub block-answered : {begin : Beginning} {wanted : ℕ} {out : List ℕ}
       → NoneOf (PageGiven unifying (take (lengths .left) left′) (take (lengths .right) right′) begin wanted out)
       pageNumbers
       → (s t : Term) × (pages answers : List (List ℕ))
@@ -129,7 +129,7 @@ module _ {block : List ℕ} {number : ℕ} {left right left′ right′ : List �
 
   -- Page gives 13 exactly where the two terms have no unifier, unless a number that comes before it is given.
   pub block-no-unifier : {s t : Term} → Writes (leftTerm block) s → Writes (rightTerm block) t
-      → {begin : Begin} {wanted : ℕ} {out out′ : List ℕ} {outcome : Outcome PageWritten}
+      → {begin : Beginning} {wanted : ℕ} {out out′ : List ℕ} {outcome : Outcome PageWritten}
       → PagePromise unifying (take (lengths .left) left′) (take (lengths .right) right′) begin wanted out outcome out′
       → (outcome ≡ refused (saidOf NoUnifier))
       ↔ (NoneOf (PageGiven unifying (take (lengths .left) left′) (take (lengths .right) right′) begin wanted out)

@@ -18,7 +18,7 @@ use mathlib.Core.Path.{_≡_, refl, subst}
 use mathlib.Core.Logic.{_↔_}
 use mathlib.Core.List.{List, _++_}
 use Rattle.ac.specs.Pair.{Mode}
-use Rattle.ac.specs.Keys.{Begin, start}
+use Rattle.ac.specs.Keys.{Beginning, start}
 use Rattle.ac.specs.Pages.{together}
 use Rattle.ac.proofs.Groups.{groups-exist}
 use Rattle.numbers.specs.First.{First, NoneOf, here}
@@ -47,7 +47,7 @@ pub whole : {M : Mode} {L R : List ℕ} {pages answers : List (List ℕ)} → Pa
     → WholeSet M L R answers
 whole asked answered = whole-set asked answered
 
-module _ {M : Mode} {L R : List ℕ} {begin : Begin} {wanted : ℕ} {out : List ℕ} where
+module _ {M : Mode} {L R : List ℕ} {begin : Beginning} {wanted : ℕ} {out : List ℕ} where
   none-before-13 : {out′ : List ℕ} → PagePromise M L R begin wanted out (refused (saidOf NoUnifier)) out′
       → NoneOf (PageGiven M L R begin wanted out) rowsNumbers
   none-before-13 promise = first-past rowsNumbers beginningNumbers refl (refused-first promise)

@@ -12,7 +12,7 @@ use Rattle.ac.specs.Lists.{receives}
 use Rattle.ac.specs.Pair.{unifying, variables}
 use Rattle.ac.specs.Rows.{Groups, GroupsOf}
 use Rattle.ac.specs.Selection.{Selection, SelectionOf, value, admissible}
-use Rattle.ac.specs.Keys.{layout, keyOf, selections, listed, keys, Begin, start, after, remaining, Fits}
+use Rattle.ac.specs.Keys.{layout, keyOf, selections, listed, keys, Beginning, start, after, remaining, Fits}
 use Rattle.ac.specs.Values.{laidOut, bindings}
 use Rattle.ac.proofs.Order.{filter-member}
 use Rattle.ac.proofs.Members.{members-map}
@@ -51,7 +51,7 @@ module _ {L R : List ℕ} {G : Groups}
       record { meets = met; alone = λ other exit p. outcome-determined one-rows p met }
 
   -- where keys remain after the beginning, at most 200 of them, they are the page
-  pub page-from : (begin : Begin) → ((k : ℕ) → begin ≡ after k → List·Memᴰ k (keys unifying layout L R G))
+  pub page-from : (begin : Beginning) → ((k : ℕ) → begin ≡ after k → List·Memᴰ k (keys unifying layout L R G))
       → (key : ℕ) (others : List ℕ) → remaining begin (keys unifying layout L R G) ≡ key ∷ others
       → length (key ∷ others) ≤ 200
       → (out : List ℕ) → 200 ≤ length out

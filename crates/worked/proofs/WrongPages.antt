@@ -8,7 +8,7 @@ use lib.ListN.{length, getD, replicate}
 use Rattle.ac.specs.Lists.{receives}
 use Rattle.ac.specs.Pair.{unifying}
 use Rattle.ac.specs.Search.{groups}
-use Rattle.ac.specs.Keys.{layout, keys, Begin, start, after}
+use Rattle.ac.specs.Keys.{layout, keys, Beginning, start, after}
 use Rattle.ac.specs.Worked.{the-keys}
 use Rattle.ac.proofs.Groups.{groups-exist}
 use Rattle.numbers.specs.Outcome.{given}
@@ -23,7 +23,7 @@ use Rattle.worked.proofs.Worked.{worked-number}
 use Rattle.worked.proofs.Wrong as wrong
 
 -- the pair of that number, from a beginning; 0 wanted, meaning 200
-abbrev asked : ℕ → Begin → SidesAsked Request
+abbrev asked : ℕ → Beginning → SidesAsked Request
 asked n begin = ofPair n (record { begin = begin; wanted = 0 })
 
 -- so many keys, and whether more follow

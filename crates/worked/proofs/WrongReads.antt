@@ -6,7 +6,7 @@ use lib.ListN.{length, getD, replicate}
 use Rattle.numbers.specs.Outcome.{given}
 use Rattle.numbers.proofs.Promises.{same-values}
 use Rattle.block.specs.Read.{SideLengths}
-use Rattle.worked.specs.Questions.{BlockAsked, TwoBuffers, readQuestion}
+use Rattle.worked.specs.Questions.{BlockAndNumber, TwoBuffers, readQuestion}
 use Rattle.worked.specs.Programs.{Program, MeetsAt, RefusesEverything, ConstantResult, WritesNothing}
 use Rattle.worked.specs.Example.{block-0, block-1}
 use Rattle.worked.proofs.Reading.{block-0-gives, block-1-gives}
@@ -17,11 +17,11 @@ abbrev lengths : ℕ → ℕ → SideLengths
 lengths left right = record { left = left; right = right }
 
 -- block 0 of the example, asked for by its place
-abbrev first : BlockAsked
+abbrev first : BlockAndNumber
 first = record { block = block-0; number = 0 }
 
 -- block 1, by its place
-abbrev second : BlockAsked
+abbrev second : BlockAndNumber
 second = record { block = block-1; number = 1 }
 
 -- two buffers of 64 zeros

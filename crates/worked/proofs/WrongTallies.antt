@@ -14,20 +14,20 @@ use Rattle.tally.specs.Line.{toldBlock}
 use Rattle.tally.specs.Counts.{Tallies}
 use Rattle.tally.specs.declared.Line.the-variants.{Listed, NoUnifier}
 use Rattle.tally.specs.declared.Line.the-variants as line
-use Rattle.tally.specs.declared.Counts.{Counts}
+use Rattle.tally.specs.declared.Totals.{Totals}
 use Rattle.tally.specs.declared.Tallied.{Tallied}
 
 -- any program for the tally: from the counts so far and what Read, Rows and Page returned for a block
 abbrev Tally : Type 0
-Tally = Counts → ReadAnswer → RowsAnswer → PageAnswer → Tallied
+Tally = Totals → ReadAnswer → RowsAnswer → PageAnswer → Tallied
 
 -- the counts B, L, U and F
-abbrev counts : ℕ → ℕ → ℕ → ℕ → Counts
+abbrev counts : ℕ → ℕ → ℕ → ℕ → Totals
 counts b l u f = record { blocks = b; listed = l; none = u; refused = f }
 
 module _ (program : Tally) where
   -- at these counts and returns the program meets the contract
-  abbrev MeetsAt : Counts → ReadAnswer → RowsAnswer → PageAnswer → Type 0
+  abbrev MeetsAt : Totals → ReadAnswer → RowsAnswer → PageAnswer → Type 0
   MeetsAt so-far read rows page = Tallies so-far (toldBlock read rows page) (program so-far read rows page)
 
   -- block 0 of the example, v0+v1 and c0+c1: no balanced row, two for each of two constants, two keys and no more

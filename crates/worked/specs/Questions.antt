@@ -2,7 +2,7 @@
 use Prim.Native.Nat.{ℕ}
 use mathlib.Core.List.{List}
 use Rattle.ac.specs.Pair.{unifying}
-use Rattle.ac.specs.Keys.{Begin}
+use Rattle.ac.specs.Keys.{Beginning}
 use Rattle.numbers.specs.Outcome.{Outcome}
 use Rattle.block.specs.Read.{SideLengths, ReadPromise}
 use Rattle.solver.specs.Rows.{GroupSizes, RowsPromise}
@@ -20,7 +20,7 @@ pub record Question : Type 1 where
   pub Promise : Asked → Lent → Outcome Values → Lent → Type 0
 
 -- Read: a block and an expected number; two lent buffers
-pub record BlockAsked : Type 0 where
+pub record BlockAndNumber : Type 0 where
   pub block : List ℕ
   pub number : ℕ
 
@@ -33,7 +33,7 @@ pub record TwoBuffers : Type 0 where
 abbrev pub readQuestion : Question
 readQuestion =
     record {
-      Asked = BlockAsked;
+      Asked = BlockAndNumber;
       Lent = TwoBuffers;
       Values = SideLengths;
       Promise = λ asked lent outcome exit.
@@ -63,7 +63,7 @@ rowsQuestion = ofSides (Unit {0}) GroupSizes (λ L R nothing. RowsPromise unifyi
 
 -- Page: and a request made of where to begin and how many are wanted
 pub record Request : Type 0 where
-  pub begin : Begin
+  pub begin : Beginning
   pub wanted : ℕ
 
 -- Page

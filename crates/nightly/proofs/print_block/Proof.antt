@@ -6,8 +6,8 @@ use mathlib.Core.Path.{_≡_, refl, sym, ap, subst, _∙_}
 use mathlib.Core.List.{List, _++_}
 use lib.ListN.{length, take}
 use borrow.Author.Needs.{needs}
-use Rattle.output.specs.Step.{together, leftFrom}
-use Rattle.output.specs.Room.{HasRoom, Holds}
+use Rattle.output.specs.Step.{linesJoined, leftFrom}
+use Rattle.output.specs.Room.{HasRoom, StillHeld}
 use Rattle.output.proofs.Steps.{nothing-left}
 use Rattle.output.proofs.Held.{holds-start, holds-step, holds-room, holds-as, roomy}
 use Rattle.nightly.specs.Printed.{lineCount, linesOf, Prints, lines-put}
@@ -22,7 +22,7 @@ Inv-loop listing output₀ at lines number₀ next₀ output number next =
     × (number ≤ lineCount listing)
     × HasRoom (length output₀) next
     × ((L R : List ℕ) → Prints L R listing
-    → Holds (take at output₀ ++ together (linesOf L R listing)) output next (leftFrom (linesOf L R listing) number))
+    → StillHeld (take at output₀ ++ linesJoined (linesOf L R listing)) output next (leftFrom (linesOf L R listing) number))
 
 abbrev μ-loop : tie.MeasureT-loop
 μ-loop listing output₀ at lines number₀ next₀ output number next = lines - number

@@ -5,7 +5,7 @@ use Prim.Native.Nat.{_≤_}
 use mathlib.Core.Path.{_≡_, refl, sym, subst, _∙_}
 use lib.ListN.{length}
 use borrow.Author.Needs.{needs}
-use Rattle.library.specs.Reading.{Fits}
+use Rattle.library.specs.Reading.{ReaderFits}
 use Rattle.library.proofs.Following.{opened-fits, handed-block}
 use Rattle.output.specs.Room.{HasRoom}
 use Rattle.nightly.specs.Library.{not-written}
@@ -17,7 +17,7 @@ abbrev Inv-loop : tie.InvT-loop
 Inv-loop input₀ output₀ reader₀ counts₀ at₀ input output reader counts at =
     (length input ≡ length input₀)
     × (length output ≡ length output₀)
-    × Fits input reader
+    × ReaderFits input reader
     × HasRoom (length output₀) at
     × Running input reader counts output at
 
@@ -35,7 +35,7 @@ loop-holds c =
     let entry = c .before .before .before .before in (
       refl,
       refl,
-      subst (Fits (entry .args .input .now)) (sym (c .before .open-library .ensures)) (opened-fits _ _ (entry .pre .0)),
+      subst (ReaderFits (entry .args .input .now)) (sym (c .before .open-library .ensures)) (opened-fits _ _ (entry .pre .0)),
       omega (arith, entry .pre .1),
       running-start _ (entry .pre .0) (c .before .open-library .ensures) (c .no-counts .ensures),
     )

@@ -3,7 +3,7 @@ use mathlib.Core.Path.{_≡_, ap, sym, _∙_}
 use lib.IntN.{ℤ, pos}
 use borrow.Author.Needs.{needs}
 use Rattle.output.specs.Writing.{afterError}
-use Rattle.output.specs.declared.Next.the-variants.{Failed}
+use Rattle.output.specs.declared.Onward.the-variants.{Failed}
 use Rattle.output.proofs.Answers.{same-error, is-interrupted, not-interrupted, other-error, no-try-left, tried-again}
 use Rattle.output.proofs.after_error.Statement.{statement}
 use Rattle.output.proofs.after_error.Tie as tie

@@ -7,7 +7,7 @@ use mir.Syntax.{w64}
 use mir.ValLaws.{toZ-ofZ}
 use borrow.Author.Needs.{needs}
 use Rattle.output.specs.Writing.{afterWrite, afterError}
-use Rattle.output.specs.declared.Next.the-variants.{From}
+use Rattle.output.specs.declared.Onward.the-variants.{From}
 use Rattle.output.proofs.Answers.{same-error, same-answer, is-nothing, not-nothing, with-error, with-bytes, countable}
 use Rattle.output.proofs.after_write.Statement.{statement}
 use Rattle.output.proofs.after_write.Tie as tie

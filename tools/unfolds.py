@@ -1,5 +1,6 @@
 #!/usr/bin/env python3
-"""Prints what each promise unfolds to: the definitions that its own names, and those that these name, file by file.
+"""What each promise unfolds to: the definitions that its own names, and those that these name, file by file. The lists are
+put between two marks of docs/PROMISES.md; tests/docs fails where others stand there.
 
 A name is looked up in its file and then in the file's `use` lines. Names of the kit's library end the search. A
 constructor or a field stands with its type and is not listed; the types of both are followed. A variable that is called
@@ -10,7 +11,10 @@ import textwrap
 from functools import cache
 from pathlib import Path
 
-CRATES = Path(__file__).resolve().parent.parent / "crates"
+ROOT = Path(__file__).resolve().parent.parent
+CRATES = ROOT / "crates"
+DOCUMENT = ROOT / "docs" / "PROMISES.md"
+BEGIN, END = "<!-- tools/unfolds.py: begin -->\n\n", "<!-- tools/unfolds.py: end -->"
 PROMISES = {
     "ReadPromise": "block/specs/Read.antt",
     "RowsPromise": "solver/specs/Rows.antt",
@@ -57,10 +61,9 @@ def body_of(group):
 def take_use(source, line):
     """A use line: which file each name comes from, or which type, where it is declared in the code."""
     path, names, alias = USE.fullmatch(line.strip()).groups()
-    place = PROJECT_PATH.fullmatch(path)
-    if not place:
+    if not path.startswith("Rattle·"):
         return
-    crate, declared, rest = place.groups()
+    crate, declared, rest = PROJECT_PATH.fullmatch(path).groups()
     home = f"{crate}/specs/{rest}.antt"
     if declared:
         *modules, name = rest.removesuffix(".the-variants").split(".")
@@ -174,5 +177,13 @@ def listed():
     return "\n".join(lines)
 
 
+def parted():
+    """The document up to the lists, the lists that stand there, and the rest."""
+    before, _, rest = DOCUMENT.read_text().partition(BEGIN)
+    stands, _, after = rest.partition(END)
+    return before, stands, after
+
+
 if __name__ == "__main__":
-    print(listed(), end="")
+    before, _, after = parted()
+    DOCUMENT.write_text(before + BEGIN + listed() + END + after)

@@ -1,5 +1,4 @@
--- The numbers that Read gives (document 01, "Numbers given in place of a result"): when each is given, and
--- their order.
+-- The numbers that Read gives (document 01, "Numbers given in place of a result"): when each is given.
 use Prim.Native.Nat.{ℕ, _<_}
 use mathlib.Core.Path.{_≡_}
 use mathlib.Core.Logic.{_⊎_}

@@ -1,5 +1,5 @@
--- The nightly program's text (document 01, "The nightly program"): what Read, Rows, Page and Values promise of each
--- block decides its lines, and the blocks' lines decide the last ones.
+-- The nightly program's text (document 01, "The nightly program"): what Read, Rows and Page promise of each block, and
+-- the values of the keys on its page, decide its lines, and the blocks' lines decide the last ones.
 use Prim.Native.Nat.{ℕ, _+_, _%_, _≤_}
 use mathlib.Core.Path.{_≡_}
 use mathlib.Core.Bool.{Bool, true, false}

@@ -1,2 +1,3 @@
 pub mod Example
+pub mod OtherLines
 pub mod Putting

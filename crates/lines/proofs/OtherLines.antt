@@ -8,7 +8,7 @@ use Rattle.text.specs.Ascii.{ascii}
 use Rattle.text.specs.Decimal.{decimal}
 use Rattle.tally.specs.declared.Line.{Line}
 use Rattle.tally.specs.declared.Line.the-variants.{Listed, Refused}
-use Rattle.tally.specs.declared.Counts.{Counts}
+use Rattle.tally.specs.declared.Totals.{Totals}
 use Rattle.tally.specs.declared.Closing.the-variants.{NothingRead, TooLong}
 use Rattle.lines.specs.Lines.{blockLine, substitutionLine, endLine, closingLines}
 
@@ -50,7 +50,7 @@ unfolding decimal
 where-refused = refl
 
 -- as many blocks as are read at most
-abbrev most : Counts
+abbrev most : Totals
 most = record { blocks = 1_048_576; listed = 1; none = 20; refused = 1_048_555 }
 
 -- If input remains, the line `too long` stands before the last line.

@@ -1,5 +1,6 @@
 -- The pages and answers that `whole` speaks of exist for every pair within the limits that has a unifier: one
--- page with all keys is enough.
+-- page with all keys is enough (`pages-and-answers`). So they do wherever Page, asked for anywhere, gives none of
+-- its numbers (`pages-wherever-given`).
 use Prim.Native.Nat.{ℕ, suc, _≤_}
 use native.Mathlib.Omega.{arith}
 use mathlib.Core.Path.{_≡_, refl, subst}

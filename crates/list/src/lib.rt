@@ -25,21 +25,23 @@ use table::masks::has_bit;
 use table::masks::missed_by;
 use table::row_start;
 
-// A key has 16 low bits for the balanced rows, and above them 4 fields of 4 bits; the lowest constant's
-// stands highest.
+// What a selection is named by: 16 low bits for the balanced rows, and above them 4 fields of 4 bits; the lowest
+// constant's stands highest.
+pub type Key = u32;
+
 pub const MASK_BITS: usize = 16;
 
 pub const INDEX_BITS: usize = 4;
 
-pub const INDEX_MASK: u32 = 15;
+pub const INDEX_MASK: Key = 15;
 
-pub const LOW_MASK: u32 = 65_535;
+pub const LOW_MASK: Key = 65_535;
 
 // How many keys there can be.
 pub const KEYS: u64 = 4_294_967_296;
 
 // Whether the key takes balanced row `i`: bit i of the low 16.
-fn takes(key: u32, i: usize) -> bool
+fn takes(key: Key, i: usize) -> bool
     requires { ⌜ i < layout .rows ⌝ }
     ensures { λ r. ⌜ r ≡ bit key i ⌝ }
 {
@@ -48,7 +50,7 @@ fn takes(key: u32, i: usize) -> bool
 
 // The row index of constant number `g`: bits 28 to 31 for the lowest, for the next 24 to 27, then 20 to 23
 // and 16 to 19.
-fn index_at(key: u32, g: usize) -> usize
+fn index_at(key: Key, g: usize) -> usize
     requires { ⌜ g < layout .constants ⌝ }
     ensures { λ r. ⌜ r ≡ fieldAt layout key g ⌝ }
 {
@@ -56,7 +58,7 @@ fn index_at(key: u32, g: usize) -> usize
 }
 
 // The key of a tuple of row indexes, a field for each constant, and a set of balanced rows, a bit for each.
-fn pack(tuple: u32, mask: u32) -> u32
+fn pack(tuple: Key, mask: Key) -> Key
     requires { ⌜ (tuple < 65536) × (mask < 2 ^ layout .rows) ⌝ }
     ensures { λ r. ⌜ r ≡ tuple * 2 ^ layout .rows + mask ⌝ }
 {
@@ -65,7 +67,7 @@ fn pack(tuple: u32, mask: u32) -> u32
 
 // A selection by its key, with what it takes rows of.
 pub struct KeyedSelection {
-    pub key: u32,
+    pub key: Key,
     // the unbalanced constants, ascending, and how many there are
     pub constants: [u8; CONSTANTS],
     pub unbalanced: usize,
@@ -74,7 +76,7 @@ pub struct KeyedSelection {
 }
 
 // The selection that a key names of a solved pair.
-pub fn selection_of(table: Table, key: u32) -> KeyedSelection
+pub fn selection_of(table: Table, key: Key) -> KeyedSelection
     ensures { λ r. ⌜ r ≡ selectionIn table key ⌝ }
 {
     let constants = table.constants;
@@ -107,14 +109,14 @@ pub fn times(rows: &[u8; ROWS], selection: KeyedSelection, place: usize, run: us
 
 // Whether the key takes a balanced row that is one of the mask's: the low 16 bits and the mask have a bit in
 // common.
-fn takes_any(rows: u64, key: u32) -> bool
+fn takes_any(rows: u64, key: Key) -> bool
     ensures { λ r. ⌜ r ≡ takesAny rows key ⌝ }
 {
     rows & (key & LOW_MASK) as u64 > 0
 }
 
 // Whether a row that the key takes is above 0 at the place: that of one of the constants, or a balanced one.
-fn reached(reaching: &[u64; MASKS], unbalanced: usize, place: usize, key: u32) -> bool
+fn reached(reaching: &[u64; MASKS], unbalanced: usize, place: usize, key: Key) -> bool
     requires { ⌜ (unbalanced ≤ limits .constants) × (place < limits .variables) ⌝ }
     ensures { λ r. ⌜ r ≡ reaches (now (reaching .entry)) unbalanced place key ⌝ }
 {
@@ -143,7 +145,7 @@ fn lowest_row(rows: u64) -> usize
 
 // The first number from the key on that may reach the place. Where the key does not, no number before the next
 // multiple of the bit of the lowest balanced row above 0 there does: the bits of all such rows stay as they are.
-fn first_reaching(reaching: &[u64; MASKS], unbalanced: usize, place: usize, key: u32) -> u64
+fn first_reaching(reaching: &[u64; MASKS], unbalanced: usize, place: usize, key: Key) -> u64
     requires { ⌜ (unbalanced ≤ limits .constants) × (place < limits .variables) ⌝ }
     ensures { λ r. ⌜ InTuple key r ⌝ }
     ensures { λ r. ⌜ Weighs (reaches (now (reaching .entry)) unbalanced place) key r ⌝ }
@@ -156,7 +158,7 @@ fn first_reaching(reaching: &[u64; MASKS], unbalanced: usize, place: usize, key:
 
 // The first number from the key on that may be admissible, of candidates: the key itself if it is, for each
 // place is above 0 in at least one taken row. Else it is the farthest that a missed place sends to.
-fn weigh(reaching: &[u64; MASKS], unbalanced: usize, places: usize, key: u32) -> u64
+fn weigh(reaching: &[u64; MASKS], unbalanced: usize, places: usize, key: Key) -> u64
     requires { ⌜ (unbalanced ≤ limits .constants) × (places ≤ limits .variables) ⌝ }
     ensures { λ r. ⌜ InTuple key r ⌝ }
     ensures { λ r. ⌜ ((G : Groups) → Marked (now (reaching .entry)) unbalanced places G → Fits layout G → Weighs (fills G places) key r) ⌝ }
@@ -183,7 +185,7 @@ fn field_limit(sizes: &[usize; GROUPS], unbalanced: usize, g: usize) -> usize
 }
 
 // The end of the block of 2 to the power of `bits` numbers in which the key stands. It may be past the highest key.
-fn block_end(key: u32, bits: usize) -> u64
+fn block_end(key: Key, bits: usize) -> u64
     requires { ⌜ bits ≤ 32 ⌝ }
     ensures { λ r. ⌜ r ≡ (key / 2 ^ bits + 1) * 2 ^ bits ⌝ }
 {
@@ -198,7 +200,7 @@ enum KeyStanding {
 
 // Where the key stands. Up to the end of its block a field only grows, so that one which is too large stays
 // so, and the block is left.
-fn stands(sizes: &[usize; GROUPS], unbalanced: usize, key: u32) -> KeyStanding
+fn stands(sizes: &[usize; GROUPS], unbalanced: usize, key: Key) -> KeyStanding
     requires { ⌜ (unbalanced ≤ layout .constants) × (getD (now sizes) 0 0 ≤ layout .rows) ⌝ }
     ensures { λ r. ⌜ StandsAmong (now (sizes .entry)) unbalanced key r ⌝ }
 {
@@ -222,7 +224,7 @@ fn stands(sizes: &[usize; GROUPS], unbalanced: usize, key: u32) -> KeyStanding
 
 // The next key of the list, if there is one.
 pub enum NextKey {
-    Key(u32),
+    Key(Key),
     None,
 }
 
@@ -233,7 +235,7 @@ fn least_of_tuple(
     unbalanced: usize,
     places: usize,
     balanced: usize,
-    key: u32,
+    key: Key,
 ) -> NextKey
     requires { ⌜ (unbalanced ≤ limits .constants) × (places ≤ limits .variables) × (balanced ≤ layout .rows) ⌝ }
     ensures { λ r. ⌜ ((G : Groups) → Marked (now (reaching .entry)) unbalanced places G → Fits layout G
@@ -247,7 +249,7 @@ fn least_of_tuple(
         if first == tried as u64 {
             return NextKey::Key(tried);
         }
-        mask += (first - tried as u64) as u32;
+        mask += (first - tried as u64) as Key;
     }
     NextKey::None
 }
@@ -261,7 +263,7 @@ fn left_bits<'a>(
     unbalanced: usize,
     places: usize,
     unreached: usize,
-    key: u32,
+    key: Key,
 ) -> usize
     requires { ⌜ (unbalanced ≤ limits .constants) × (places ≤ limits .variables) × (unreached < 64) ⌝ }
     ensures { λ r. ⌜ (layout .rows ≤ r) × (r ≤ 32) ⌝ }
@@ -298,7 +300,7 @@ pub fn least_listed(masks: Masks, from: u64) -> NextKey
     let balanced = masks.sizes[0];
     let mut at = from;
     while at < KEYS {
-        let key = at as u32;
+        let key = at as Key;
         let standing = stands(&masks.sizes, unbalanced, key);
         match standing {
             KeyStanding::NoneBefore(later) => {
@@ -331,7 +333,7 @@ pub enum Lookup {
 }
 
 // A key is listed if the least listed key from it on is itself. Else it is 14, or 13 where nothing is listed.
-pub fn find_key(masks: Masks, key: u32) -> Lookup
+pub fn find_key(masks: Masks, key: Key) -> Lookup
     requires { ⌜ Coherent masks ⌝ }
     ensures { λ r. ⌜ OfTheirList masks (λ listed. LookedUp listed key r) ⌝ }
 {

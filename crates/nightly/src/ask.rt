@@ -1,5 +1,6 @@
 // The questions asked of a block: Read, and of the sides that it gives Rows and Page. The pair is solved once.
 use block::ReadAnswer;
+use list::Key;
 use numbers::Verdict;
 use solver::page::Begin;
 use solver::page::PageAnswer;
@@ -45,7 +46,7 @@ fn right_length(read: ReadAnswer) -> usize
 }
 
 // Asks Read of the block that is to have this number, and Rows and Page of its sides.
-pub fn ask(block: &[u8], number: u16, keys: &mut [u32]) -> Asked
+pub fn ask(block: &[u8], number: u16, keys: &mut [Key]) -> Asked
     requires { ⌜ 200 ≤ length (now keys) ⌝ }
     ensures { λ r. ⌜ BlockAsked (now (block .entry)) number (now (keys .entry)) r (now (keys .exit)) ⌝ }
 {
@@ -58,7 +59,7 @@ pub fn ask(block: &[u8], number: u16, keys: &mut [u32]) -> Asked
 }
 
 // Asks Rows and Page of two sides.
-fn ask_sides(read: ReadAnswer, left: &[u8], right: &[u8], keys: &mut [u32]) -> Asked
+fn ask_sides(read: ReadAnswer, left: &[u8], right: &[u8], keys: &mut [Key]) -> Asked
     requires { ⌜ 200 ≤ length (now keys) ⌝ }
     ensures { λ r. ⌜ PairAsked read (now (left .entry)) (now (right .entry)) (now (keys .entry)) r (now (keys .exit)) ⌝ }
 {

@@ -9,6 +9,7 @@ use libc::STDOUT_FILENO;
 use library::Next;
 use library::Reader;
 use lines::put_closing;
+use list::Key;
 use output::Place;
 use output::Written;
 use output::make_room;
@@ -164,7 +165,7 @@ struct Started {
 fn start_block(block: &[u8], counts: Totals) -> Started
     ensures { λ r. ⌜ StartsBlock (now (block .entry)) counts (r .listing) (r .counts) ⌝ }
 {
-    let mut keys = [0u32; 200];
+    let mut keys: [Key; 200] = [0; 200];
     let asked = ask(block, expected_number(counts.blocks), &mut keys);
     let read = asked.read;
     let rows = asked.rows;

@@ -7,6 +7,7 @@ use buffer::least;
 use lines::put_block_line;
 use lines::put_end_line;
 use lines::put_substitution_line;
+use list::Key;
 use output::Progress;
 use solver::values::ROOM;
 use solver::values::ValuesAnswer;
@@ -26,11 +27,11 @@ pub struct Listing {
     pub place: u64,
     pub line: Line,
     pub table: Table,
-    pub keys: [u32; 200],
+    pub keys: [Key; 200],
 }
 
 // The line of a key, from its values. Of a solved pair no value is too long to be written.
-fn put_key(table: Table, key: u32, output: &mut [u8], at: usize) -> usize
+fn put_key(table: Table, key: Key, output: &mut [u8], at: usize) -> usize
     requires { ⌜ InRoom table ⌝ }
     requires { ⌜ at + 8192 ≤ length (now output) ⌝ }
     ensures { λ r. ⌜ r ≤ at + 8192 ⌝ }

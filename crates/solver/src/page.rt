@@ -1,4 +1,5 @@
 // The question Page: the next keys of the list, from the start or after a key.
+use list::Key;
 use list::Lookup;
 use list::NextKey;
 use list::find_key;
@@ -28,7 +29,7 @@ pub const DEFAULT_COUNT: usize = 200;
 // Where a page begins: at the start of the list, or after a key.
 pub enum Begin {
     Start,
-    After(u32),
+    After(Key),
 }
 
 // A request is made of where to begin and how many keys are wanted.
@@ -52,12 +53,12 @@ fn wanted_count(wanted: usize) -> usize
 
 // The first key of a page, or why there is none.
 enum Settled {
-    FirstKey(u32),
+    FirstKey(Key),
     Refused(Refusal),
 }
 
 // After a key: 13 or 14 if it is not listed, else the next one, unless it is the last.
-fn settle_after(masks: Masks, key: u32) -> Settled
+fn settle_after(masks: Masks, key: Key) -> Settled
     requires { ⌜ Coherent masks ⌝ }
     ensures { λ r. ⌜ OfTheirList masks (λ listed. SettledOf listed (after key) r) ⌝ }
 {
@@ -92,7 +93,7 @@ fn settle(masks: Masks, begin: Begin) -> Settled
 }
 
 // Write the keys from the first one on, as many as are wanted or, if fewer remain, all that remain.
-fn write_keys(masks: Masks, first: u32, wanted: usize, out: &mut [u32]) -> PageAnswer
+fn write_keys(masks: Masks, first: Key, wanted: usize, out: &mut [Key]) -> PageAnswer
     requires { ⌜ Coherent masks × (0 < wanted) × (wanted ≤ length (now out)) ⌝ }
     ensures { λ r. ⌜ OfTheirList masks (λ listed. KeysWritten (first ∷ remaining (after first) listed) wanted (now (out .entry)) (toldPage r) (now (out .exit))) ⌝ }
 {
@@ -126,7 +127,7 @@ fn write_keys(masks: Masks, first: u32, wanted: usize, out: &mut [u32]) -> PageA
 
 // The question Page on a solved pair: every refusal is settled before the first key is written. Which rows
 // reach which variable is worked out once.
-pub fn page_of(table: Table, request: PageRequest, out: &mut [u32]) -> PageAnswer
+pub fn page_of(table: Table, request: PageRequest, out: &mut [Key]) -> PageAnswer
     requires { ⌜ InRoom table ⌝ }
     ensures { λ r. ⌜ PageOfTable table request (now (out .entry)) (toldPage r) (now (out .exit)) ⌝ }
 {
@@ -144,7 +145,7 @@ pub fn page_of(table: Table, request: PageRequest, out: &mut [u32]) -> PageAnswe
 }
 
 // The question Page: 16 first, then what solving the pair refuses, then the page of the solved pair.
-pub fn page(left: &[u8], right: &[u8], request: PageRequest, out: &mut [u32]) -> PageAnswer
+pub fn page(left: &[u8], right: &[u8], request: PageRequest, out: &mut [Key]) -> PageAnswer
     ensures promise { λ r. ⌜ PagePromise unifying (now (left .entry)) (now (right .entry)) (beginningOf (request .begin)) (request .wanted) (now (out .entry))
         (toldPage r) (now (out .exit)) ⌝ }
     ensures existence { λ r. ⌜ PageExistence unifying (now (left .entry)) (now (right .entry)) (beginningOf (request .begin)) (request .wanted)

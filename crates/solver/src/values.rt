@@ -1,5 +1,6 @@
 // The question Values: the values that a key gives the variables.
 use buffer::put_repeated;
+use list::Key;
 use list::KeyedSelection;
 use list::Lookup;
 use list::find_key;
@@ -152,7 +153,7 @@ fn put_bindings(
 }
 
 // The values of a key on the list, unless one would be too long.
-pub fn write(table: Table, key: u32, out: &mut [u8]) -> ValuesAnswer
+pub fn write(table: Table, key: Key, out: &mut [u8]) -> ValuesAnswer
     requires { ⌜ InRoom table ⌝ }
     requires { ⌜ valuesBuffer ≤ length (now out) ⌝ }
     ensures { λ r. ⌜ ValuesWritten table key (now (out .entry)) (toldValues r) (now (out .exit)) ⌝ }
@@ -167,7 +168,7 @@ pub fn write(table: Table, key: u32, out: &mut [u8]) -> ValuesAnswer
 }
 
 // Values of a solved pair: 16, 13, 14, 17 or the values.
-pub fn values_of(table: Table, key: u32, out: &mut [u8]) -> ValuesAnswer
+pub fn values_of(table: Table, key: Key, out: &mut [u8]) -> ValuesAnswer
     requires { ⌜ InRoom table ⌝ }
     ensures { λ r. ⌜ ValuesOfTable table key (now (out .entry)) (toldValues r) (now (out .exit)) ⌝ }
 {
@@ -183,7 +184,7 @@ pub fn values_of(table: Table, key: u32, out: &mut [u8]) -> ValuesAnswer
 }
 
 // The question Values: 16 first, then what solving the pair refuses, then the values of the solved pair.
-pub fn values(left: &[u8], right: &[u8], key: u32, out: &mut [u8]) -> ValuesAnswer
+pub fn values(left: &[u8], right: &[u8], key: Key, out: &mut [u8]) -> ValuesAnswer
     ensures { λ r. ⌜ ValuesPromise unifying (now (left .entry)) (now (right .entry)) key (now (out .entry)) (toldValues r) (now (out .exit)) ⌝ }
 {
     if out.len() < ROOM {

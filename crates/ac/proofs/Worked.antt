@@ -1,11 +1,11 @@
 -- Pairs 1 to 12 of document 01: one test, computed over the table, and the law that turns it into what the
 -- document prints of each pair.
-use Prim.Native.Nat.{ℕ}
+use Prim.Native.Nat.{ℕ, _<_}
 use mathlib.Core.Path.{_≡_, refl, subst}
 use mathlib.Core.Bool.{Bool, true, false, _&&_, _||_, false≢true}
 use mathlib.Core.List.{List, [], _∷_, List·Memᴰ, List·Memᴰ·head, List·Memᴰ·tail}
-use borrow.Author.Tests.{eqb-true}
-use lib.Dec.{eqb}
+use borrow.Author.Tests.{eqb-true, ltb-true}
+use lib.Dec.{eqb, ltb}
 use lib.ListN.{length}
 use Rattle.ac.specs.Lists.{every}
 use Rattle.ac.specs.Pair.{unifying}
@@ -15,7 +15,7 @@ use Rattle.ac.specs.Search.{groups}
 use Rattle.ac.specs.Values.{Binding}
 use Rattle.ac.proofs.Groups.{groups-exist, groups-unique}
 use Rattle.ac.proofs.Tests.{both, every-member, Tests, equalLists, lists-equal}
-use Rattle.ac.specs.Worked.{Printed, rows, balanced-rows, rows-of, the-keys, substitutions, Pair, pairs, valuesOf, Holds, AsPrinted}
+use Rattle.ac.specs.Worked.{Printed, how-many, rows, balanced-rows, rows-of, the-keys, substitutions, Pair, pairs, valuesOf, Holds, AsPrinted}
 
 abbrev equalBindings : Binding → Binding → Bool
 equalBindings a b = eqb (a .variable) (b .variable) && equalLists eqb (a .value) (b .value)
@@ -37,6 +37,7 @@ hasRows a k (g ∷ gs) = (eqb (g .constant) a && eqb (length (g .rows)) k) || ha
 
 -- the test of what is printed
 abbrev test : List ℕ → List ℕ → Groups → Printed → Bool
+test L R G (how-many k) = eqb (length (keys unifying layout L R G)) k
 test L R G (rows rs) = equalLists (equalLists eqb) (G .balanced) rs
 test L R G (balanced-rows k) = eqb (length (G .balanced)) k
 test L R G (rows-of a k) = hasRows a k (G .constants)
@@ -49,6 +50,10 @@ testPair pair = every (test (pair .left) (pair .right) (groups unifying (pair .l
 -- The test passes at every pair of the table.
 all-pass : every testPair pairs ≡ true
 all-pass = refl
+
+-- And of every pair something is printed.
+all-print : every (λ (pair : Pair). ltb 0 (length (pair .printed))) pairs ≡ true
+all-print = refl
 
 has-rows : (a k : ℕ) (gs : List Group) → hasRows a k gs ≡ true
     → (g : Group) × List·Memᴰ g gs × (g .constant ≡ a) × (length (g .rows) ≡ k)
@@ -67,13 +72,20 @@ has-rows a k (g ∷ gs) e =
 
 -- what passes the test holds
 test-holds : (L R : List ℕ) (G : Groups) (what : Printed) → test L R G what ≡ true → Holds L R G what
+test-holds L R G (how-many k) e = eqb-true (length (keys unifying layout L R G)) k e
 test-holds L R G (rows rs) e = lists-equal (lists-equal eqb-true) (G .balanced) rs e
 test-holds L R G (balanced-rows k) e = eqb-true (length (G .balanced)) k e
 test-holds L R G (rows-of a k) e = has-rows a k (G .constants) e
 test-holds L R G (the-keys ks) e = lists-equal eqb-true (keys unifying layout L R G) ks e
 test-holds L R G (substitutions vs) e = lists-equal (lists-equal bindings-equal) (valuesOf L R G) vs e
 
--- Pairs 1 to 12: all that document 01 prints of them holds.
+-- Pairs 1 to 12: document 01 prints something of each.
+pub worked-print : (pair : Pair) → List·Memᴰ pair pairs → 0 < length (pair .printed)
+worked-print pair member =
+    ltb-true 0 (length (pair .printed))
+    (every-member (λ (p : Pair). ltb 0 (length (p .printed))) all-print member)
+
+-- And all that it prints of them holds.
 pub worked-pairs : (pair : Pair) → List·Memᴰ pair pairs → AsPrinted pair
 worked-pairs pair member G groups-of what printed =
     subst (λ (H : Groups). Holds (pair .left) (pair .right) H what)

@@ -31,6 +31,7 @@ x is atoms = record { variable = x; value = atoms }
 
 -- What the document prints of a pair.
 pub data Printed : Type 0 where
+  how-many : ℕ → Printed  -- how many selections the list has
   rows : List (List ℕ) → Printed  -- the balanced rows
   balanced-rows : ℕ → Printed  -- how many balanced rows there are
   rows-of : ℕ → ℕ → Printed  -- a constant, and how many rows it has
@@ -54,7 +55,7 @@ pairs =
     record {
       left = v 0 ∷ [];
       right = v 1 ∷ c 0 ∷ [];
-      printed = substitutions (((v 0 is c 0 ∷ n 0 ∷ []) ∷ (v 1 is n 0 ∷ []) ∷ []) ∷ []) ∷ [];
+      printed = how-many 1 ∷ substitutions (((v 0 is c 0 ∷ n 0 ∷ []) ∷ (v 1 is n 0 ∷ []) ∷ []) ∷ []) ∷ [];
     }
     -- 2. v0+v1 and v2+v3: rows 0101, 0110, 1001, 1010; keys 6, 7, 9, 11, 13, 14, 15.
     ∷ record {
@@ -94,16 +95,22 @@ pairs =
     ∷ record {
       left = v 0 ∷ v 0 ∷ v 0 ∷ [];
       right = v 1 ∷ v 1 ∷ [];
-      printed = substitutions (((v 0 is n 0 ∷ n 0 ∷ []) ∷ (v 1 is n 0 ∷ n 0 ∷ n 0 ∷ []) ∷ []) ∷ []) ∷ [];
+      printed =
+          how-many 1
+          ∷ substitutions (((v 0 is n 0 ∷ n 0 ∷ []) ∷ (v 1 is n 0 ∷ n 0 ∷ n 0 ∷ []) ∷ []) ∷ []) ∷ [];
     }
     -- 7. v0 and v0: one, key 1, v0=n0.
     ∷ record {
       left = v 0 ∷ [];
       right = v 0 ∷ [];
-      printed = the-keys (1 ∷ []) ∷ substitutions (((v 0 is n 0 ∷ []) ∷ []) ∷ []) ∷ [];
+      printed = how-many 1 ∷ the-keys (1 ∷ []) ∷ substitutions (((v 0 is n 0 ∷ []) ∷ []) ∷ []) ∷ [];
     }
     -- 8. c0 and c0: one, key 0, no variables.
-    ∷ record { left = c 0 ∷ []; right = c 0 ∷ []; printed = the-keys (0 ∷ []) ∷ substitutions ([] ∷ []) ∷ [] }
+    ∷ record {
+      left = c 0 ∷ [];
+      right = c 0 ∷ [];
+      printed = how-many 1 ∷ the-keys (0 ∷ []) ∷ substitutions ([] ∷ []) ∷ [];
+    }
     -- 9. v0 and v0+v1: 13, though there is a balanced row.
     ∷ record { left = v 0 ∷ []; right = v 0 ∷ v 1 ∷ []; printed = thirteen ∷ balanced-rows 1 ∷ [] }
     -- 10. v0+v1 and c0: 13, though c0 has two rows.
@@ -124,6 +131,7 @@ valuesOf L R G = map (λ s. bindings (value unifying (layout .new) L R G s) (var
 
 -- What is printed holds of the sides and their groups.
 abbrev pub Holds : List ℕ → List ℕ → Groups → Printed → Type 0
+Holds L R G (how-many k) = length (keys unifying layout L R G) ≡ k
 Holds L R G (rows rs) = G .balanced ≡ rs
 Holds L R G (balanced-rows k) = length (G .balanced) ≡ k
 Holds L R G (rows-of a k) = (g : Group) × List·Memᴰ g (G .constants) × (g .constant ≡ a) × (length (g .rows) ≡ k)

@@ -20,9 +20,9 @@ use Rattle.block.proofs.Faults.{term-or-fault, fault-is-no-term}
 use Rattle.list.specs.Given.{ListGiven, none-admissible, not-listed, last-listed}
 use Rattle.list.proofs.Given.{start-not-after}
 use Rattle.numbers.specs.First.{First, NoneOf, here, later, end, also}
-use Rattle.ac.specs.Limits.{Limits, limits}
+use Rattle.ac.specs.Limits.{limits}
 use Rattle.pair.proofs.NetCounts.{natAbs-difference}
-use Rattle.pair.specs.Given.{SideOf, left, right, WrongLength, WrongByte, Far, ManyRows, balanced, of-a-constant, PairGiven, side-length, no-atom, many-variables, far-net-count, many-constants, many-rows}
+use Rattle.pair.specs.Given.{left, right, WrongLength, WrongByte, Far, ManyRows, balanced, of-a-constant, PairGiven, side-length, no-atom, many-variables, far-net-count, many-constants, many-rows}
 
 -- every number of a list is decided
 data Decided (Given : ℕ → Type 0) : List ℕ → Type 0 where

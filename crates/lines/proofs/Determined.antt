@@ -1,11 +1,10 @@
 -- The nightly program's text is determined: two texts of the same blocks are identical.
-use Prim.Native.Nat.{ℕ, _%_}
+use Prim.Native.Nat.{ℕ}
 use mathlib.Core.Path.{_≡_, refl, ap, ap₂, sym, subst₂, _∙_}
 use mathlib.Core.Bool.{Bool}
-use mathlib.Core.List.{List, [], _∷_, _++_, map}
+use mathlib.Core.List.{List, [], _∷_, _++_}
 use lib.ListN.{take}
 use Rattle.ac.specs.Pair.{unifying}
-use Rattle.ac.specs.Rows.{Groups}
 use Rattle.ac.specs.Values.{Binding}
 use Rattle.ac.proofs.Groups.{groups-unique}
 use Rattle.numbers.specs.Outcome.{Said, Outcome, refused, given}

@@ -4,8 +4,8 @@ use native.Mathlib.Omega.{arith}
 use mathlib.Core.Path.{_≡_, refl}
 use mathlib.Core.Bool.{Bool, true}
 use mathlib.Core.Logic.{_⊎_, inl, inr, ⊎-elim}
-use mathlib.Core.List.{List, [], _∷_, _++_, List·Memᴰ}
-use lib.ListN.{length, take}
+use mathlib.Core.List.{List, [], _∷_, List·Memᴰ}
+use lib.ListN.{length}
 use Rattle.ac.specs.Lists.{receives}
 use Rattle.ac.specs.Pair.{unifying}
 use Rattle.ac.specs.Rows.{Groups, GroupsOf}
@@ -16,9 +16,7 @@ use Rattle.ac.proofs.Groups.{groups-exist}
 use Rattle.numbers.specs.First.{NoneOf}
 use Rattle.numbers.proofs.Carried.{none-given, its-member}
 use Rattle.block.specs.Front.{Writes}
-use Rattle.block.specs.Block.{leftTerm, rightTerm}
 use Rattle.block.specs.Table.{NoTerm, ReadGiven, no-term}
-use Rattle.block.specs.Read.{ReadPromise}
 use Rattle.block.specs.Read as read
 use Rattle.block.proofs.Faults.{term-or-fault, fault-is-no-term}
 use Rattle.list.specs.Given.{ListGiven}
@@ -31,11 +29,9 @@ use Rattle.numbers.proofs.Promises.{refuse}
 use Rattle.solver.specs.Rows.{rowsBuffer, RowsPromise, sizesOf, allRows, bytesOf, rows}
 use Rattle.solver.specs.Page.{next}
 use Rattle.solver.proofs.Given.{rows-made, page-first, page-none}
-use Rattle.tally.specs.Line.{BlockFound, lineOf}
-use Rattle.tally.specs.Counts.{closingOf}
+use Rattle.tally.specs.Line.{BlockFound}
 use Rattle.tally.specs.declared.Line.{Line}
-use Rattle.lines.specs.Lines.{closingLines}
-use Rattle.lines.specs.Library.{mostBlocks, lent, PairFound, rows-refused, page-refused, a-page, Returns, read-refused, sides, BlocksText, no-more, one-more, countsOf, LibraryText}
+use Rattle.lines.specs.Library.{mostBlocks, lent, PairFound, rows-refused, page-refused, a-page, Returns, read-refused, sides, BlocksText, no-more, one-more, LibraryText}
 use Rattle.lines.proofs.Decided.{Settled, given as settled-given, none-given as settled-none, read-settled, pair-settled, list-settled}
 
 -- something is returned for two sides, and for a block

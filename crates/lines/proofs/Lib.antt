@@ -1,4 +1,5 @@
 pub mod Example
+pub mod OtherLines
 pub mod Putting
 pub mod Determined
 pub mod Numbered

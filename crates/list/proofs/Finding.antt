@@ -1,7 +1,7 @@
 -- Whether a key is on the list: listed, 14 or 13, from the least listed keys.
 use Prim.Native.Nat.{ℕ, _<_}
 use mathlib.Core.Path.{_≡_, refl, subst}
-use mathlib.Core.List.{List, [], _∷_, List·Memᴰ}
+use mathlib.Core.List.{List, List·Memᴰ}
 use Rattle.ac.specs.Lists.{Ascending}
 use Rattle.ac.specs.Keys.{start, after}
 use Rattle.ac.specs.Pages.{LeastFrom, NoneFrom}

@@ -4,9 +4,10 @@ use Prim.Native.Nat.{ℕ, _+_, _-_, _*_, _/_, _^_, _<_, _≤_}
 use native.Mathlib.Omega.{arith}
 use native.Mathlib.Nat.{div-lt-iff-lt-mul}
 use native.Mathlib.Decide.{decLt}
-use mathlib.Core.Path.{_≡_, ap}
-use mathlib.Core.Bool.{false}
+use mathlib.Core.Path.{_≡_, ap, subst}
+use mathlib.Core.Bool.{Bool, false}
 use mathlib.Core.List.{List}
+use lib.Bits.{bitAnd, and-mask}
 use lib.Pow.{pow-pos, pow-mono}
 use Rattle.ac.specs.Rows.{Groups}
 use Rattle.ac.specs.Keys.{layout, Fits}
@@ -45,6 +46,13 @@ pub mask-on : (tuple mask : ℕ) {key first : ℕ} → key ≡ tuple * 65536 + m
 mask-on tuple mask {key} packed small within =
     let same : key / 65536 ≡ tuple = omega arith in
     omega (arith, within .0, within .1, same, ap (λ (n : ℕ). n * 65536) same)
+
+-- a key begins with its own tuple and mask
+pub from-key : (passes : ℕ → Bool) (key end : ℕ) {next : NextKey}
+    → LeastWithin passes (key / 65536 * 65536 + bitAnd key 65535) end next → LeastWithin passes key end next
+from-key passes key end {next} tried =
+    let begins : key / 65536 * 65536 + bitAnd key 65535 ≡ key = omega (arith, and-mask key 16) in
+    subst (λ (n : ℕ). LeastWithin passes n end next) begins tried
 
 module _ (reaching : List ℕ) (unbalanced places balanced tuple from : ℕ) where
   -- it is so of all groups that the masks are of

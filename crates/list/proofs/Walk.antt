@@ -151,20 +151,14 @@ module _ {m : Masks} {start at : ℕ} (walked : Walked m start at) {standing : K
       )
 
   -- A candidate's tuple was tried from its mask on.
-  module _ (e : standing ≡ IsCandidate) {tuple from : ℕ} (its-tuple : tuple ≡ at / 65536)
-      (its-mask : from ≡ at % 65536) {next : NextKey}
+  module _ (e : standing ≡ IsCandidate) {next : NextKey}
       (tried : (G : Groups) → Marked (m .reaching) (m .unbalanced) (m .places) G → Fits layout G
-      → LeastWithin (fills G (m .places)) (tuple * 65536 + from) (tuple * 65536 + 2 ^ getD (m .sizes) 0 0)
-      next) where
-    least : OfTheirGroups m (λ G. LeastWithin (fills G (m .places)) at (tuple * 65536 + 2 ^ length (G .balanced))
-        next)
+      → LeastWithin (fills G (m .places)) at (at / 65536 * 65536 + 2 ^ getD (m .sizes) 0 0) next) where
+    least : OfTheirGroups m (λ G. LeastWithin (fills G (m .places)) at
+        (at / 65536 * 65536 + 2 ^ length (G .balanced)) next)
     least t its within =
-        let begins : tuple * 65536 + from ≡ at = omega arith in
-        subst (λ (n : ℕ). LeastWithin (fills (groupsIn t) (m .places)) at (tuple * 65536 + 2 ^ n) next)
-        (sym (its .sized .a-size-each 0 (omega arith)))
-        (subst (λ (n : ℕ). LeastWithin (fills (groupsIn t) (m .places)) n
-        (tuple * 65536 + 2 ^ getD (m .sizes) 0 0) next) begins
-        (tried (groupsIn t) (its .marked) (table-fits within)))
+        subst (λ (n : ℕ). LeastWithin (fills (groupsIn t) (m .places)) at (at / 65536 * 65536 + 2 ^ n) next)
+        (sym (its .sized .a-size-each 0 (omega arith))) (tried (groupsIn t) (its .marked) (table-fits within))
 
     -- Its masks all miss a place: the walk goes on with the next tuple, since a larger mask has a bit beyond
     -- the balanced rows; or after a wider block that has none either.
@@ -201,21 +195,21 @@ module _ {m : Masks} {start at : ℕ} (walked : Walked m start at) {standing : K
           least = λ other mem above. before h other mem (walked .passed t its M L R full of other mem above);
         })
       where
-        candidate : at ≤ key → key < tuple * 65536 + 2 ^ length (groupsIn t .balanced)
+        candidate : at ≤ key → key < at / 65536 * 65536 + 2 ^ length (groupsIn t .balanced)
             → Candidate layout (groupsIn t) key
         candidate low high =
-            let place : at / 65536 * 65536 + (key - tuple * 65536) ≡ key = omega arith in
+            let place : at / 65536 * 65536 + (key - at / 65536 * 65536) ≡ key = omega arith in
             subst (Candidate layout (groupsIn t)) place
             (same-tuple (table-fits (of .within))
             (stands-candidate {m = m} (subst (StandsAmong (m .sizes) (m .unbalanced) at) e stood) t its (of .within))
-            (key - tuple * 65536) (omega (arith, pow-pos (length (groupsIn t .balanced)))))
+            (key - at / 65536 * 65536) (omega (arith, pow-pos (length (groupsIn t .balanced)))))
 
-        Lookup : Type 0
-        Lookup = (at ≤ key) × (key < tuple * 65536 + 2 ^ length (groupsIn t .balanced))
+        Found : Type 0
+        Found = (at ≤ key) × (key < at / 65536 * 65536 + 2 ^ length (groupsIn t .balanced))
             × (fills (groupsIn t) (m .places) key ≡ true)
             × ((other : ℕ) → at ≤ other → other < key → fills (groupsIn t) (m .places) other ≡ false)
 
-        before : Lookup → (other : ℕ) → List·Memᴰ other (keys M layout L R (groupsIn t)) → at ≤ other → key ≤ other
+        before : Found → (other : ℕ) → List·Memᴰ other (keys M layout L R (groupsIn t)) → at ≤ other → key ≤ other
         before h other mem low = go (decLt other key)
           where
             go : Dec (other < key) → key ≤ other

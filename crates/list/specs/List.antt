@@ -2,7 +2,7 @@
 use Prim.Native.Nat.{ℕ}
 use mathlib.Core.Path.{_≡_}
 use mathlib.Core.Bool.{false}
-use mathlib.Core.List.{List, [], _∷_, List·Memᴰ}
+use mathlib.Core.List.{List, List·Memᴰ}
 use Rattle.ac.specs.Pair.{Mode}
 use Rattle.ac.specs.Keys.{layout, keys, after}
 use Rattle.ac.specs.Pages.{LeastFrom, NoneFrom}

@@ -226,29 +226,28 @@ pub enum NextKey {
     None,
 }
 
-// The least admissible key of a tuple from a mask on: the sets of balanced rows are taken in the order of their
-// masks, and those that miss a place are passed over.
+// The least admissible key from a key on that has its row indexes: the sets of balanced rows are taken in the
+// order of their masks, and those that miss a place are passed over.
 fn least_of_tuple(
     reaching: &[u64; MASKS],
     unbalanced: usize,
     places: usize,
     balanced: usize,
-    tuple: u32,
-    from: u32,
+    key: u32,
 ) -> NextKey
     requires { ⌜ (unbalanced ≤ limits .constants) × (places ≤ limits .variables) × (balanced ≤ layout .rows) ⌝ }
-    requires { ⌜ (tuple < 65536) × (from < 2 ^ layout .rows) ⌝ }
     ensures { λ r. ⌜ ((G : Groups) → Marked (now (reaching .entry)) unbalanced places G → Fits layout G
-        → LeastWithin (fills G places) (tuple * 2 ^ layout .rows + from) (tuple * 2 ^ layout .rows + 2 ^ balanced) r) ⌝ }
+        → LeastWithin (fills G places) key (key / 2 ^ layout .rows * 2 ^ layout .rows + 2 ^ balanced) r) ⌝ }
 {
-    let mut mask = from;
+    let tuple = key >> MASK_BITS;
+    let mut mask = key & LOW_MASK;
     while mask >> balanced == 0 {
-        let key = pack(tuple, mask);
-        let first = weigh(reaching, unbalanced, places, key);
-        if first == key as u64 {
-            return NextKey::Key(key);
+        let tried = pack(tuple, mask);
+        let first = weigh(reaching, unbalanced, places, tried);
+        if first == tried as u64 {
+            return NextKey::Key(tried);
         }
-        mask += (first - key as u64) as u32;
+        mask += (first - tried as u64) as u32;
     }
     NextKey::None
 }
@@ -306,16 +305,7 @@ pub fn least_listed(masks: Masks, from: u64) -> NextKey
                 at = later;
             }
             KeyStanding::Candidate => {
-                let tuple = key >> MASK_BITS;
-                let mask = key & LOW_MASK;
-                let least = least_of_tuple(
-                    &masks.reaching,
-                    unbalanced,
-                    places,
-                    balanced,
-                    tuple,
-                    mask,
-                );
+                let least = least_of_tuple(&masks.reaching, unbalanced, places, balanced, key);
                 if let NextKey::Key(found) = least {
                     return NextKey::Key(found);
                 }

@@ -1,9 +1,9 @@
 -- Laws of what is printed of a block: the lines of what its questions return.
-use Prim.Native.Nat.{ℕ, _%_, _<_, _≤_}
+use Prim.Native.Nat.{ℕ, _%_, _≤_}
 use native.Mathlib.Omega.{arith}
-use mathlib.Core.Path.{_≡_, refl, ap, ap₂, sym, subst, _∙_}
+use mathlib.Core.Path.{_≡_, refl, ap, subst, _∙_}
 use mathlib.Core.Bool.{Bool, true, false, cond}
-use mathlib.Core.List.{List, [], _∷_, map, List·Memᴰ, List·Memᴰ·not-nil, Memᴰ·append-left}
+use mathlib.Core.List.{List, [], map, List·Memᴰ, List·Memᴰ·not-nil, Memᴰ·append-left}
 use lib.Dec.{eqb}
 use lib.ListN.{length, take, drop, replicate, length-append, length-take, take-append-drop}
 use lib.Seq.{take-append-seam}
@@ -19,23 +19,21 @@ use Rattle.solver.specs.declared.rows.RowsAnswer.{RowsAnswer}
 use Rattle.solver.specs.declared.rows.RowsAnswer.the-variants.{Groups as Sizes}
 use Rattle.solver.specs.declared.rows.RowsAnswer.the-variants as rows
 use Rattle.numbers.specs.Outcome.{Said, Outcome, refused, given, is-given}
-use Rattle.solver.specs.Page.{wantedCount, PageWritten, PagePromise, nextKeys}
+use Rattle.solver.specs.Page.{wantedCount, PagePromise, nextKeys}
 use Rattle.solver.specs.Page as keyed
 use Rattle.solver.specs.declared.page.PageAnswer.{PageAnswer}
 use Rattle.solver.specs.declared.page.PageAnswer.the-variants.{Page}
 use Rattle.solver.specs.declared.page.PageAnswer.the-variants as page
 use Rattle.table.specs.Table.{groupsIn}
 use Rattle.table.specs.declared.Table.{Table}
-use Rattle.tally.specs.Line.{BlockFound, toldBlock, lineOf, lineOfNumber}
+use Rattle.tally.specs.Line.{BlockFound, toldBlock, lineOfNumber}
 use Rattle.tally.specs.Counts.{Tallies, counted}
-use Rattle.tally.specs.declared.Line.{Line}
 use Rattle.tally.specs.declared.Line.the-variants.{Listed, NoUnifier, Refused}
 use Rattle.tally.specs.declared.Totals.{Totals}
 use Rattle.tally.specs.declared.Tallied.{Tallied}
-use Rattle.lines.specs.Lines.{blockLines}
 use Rattle.lines.specs.Library.{bindingsOf, Returns, read-refused, sides, rows-refused, page-refused, a-page}
 use Rattle.nightly.specs.Asked.{SolvedPair, BlockAsked}
-use Rattle.nightly.specs.Printed.{keyCount, pageOf, linesOf, ReadyToPrint, Prints, StartsBlock}
+use Rattle.nightly.specs.Printed.{keyCount, ReadyToPrint, StartsBlock}
 use Rattle.nightly.specs.declared.ask.Asked.{Asked}
 use Rattle.nightly.specs.declared.print.Listing.{Listing}
 

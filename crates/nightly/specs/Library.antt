@@ -1,7 +1,7 @@
 -- What the program prints of a library: the blocks that reading it hands on, one after the other, and last what stands
 -- at the end.
 use Prim.Native.Nat.{ℕ, _≤_}
-use mathlib.Core.Bool.{Bool, true, false}
+use mathlib.Core.Bool.{true, false}
 use mathlib.Core.List.{List, [], _∷_, _++_}
 use lib.ListN.{length}
 use lib.IntN.{ℤ}

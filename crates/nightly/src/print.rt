@@ -14,7 +14,7 @@ use table::Table;
 use tally::Line;
 ghost use mathlib.Core.Path.{_≡_};
 ghost use mathlib.Core.List.{List, []};
-ghost use Prim.Native.Nat.{ℕ, _+_, _<_, _≤_, min};
+ghost use Prim.Native.Nat.{ℕ, _+_, _<_, _≤_};
 ghost use lib.ListN.{length, getD};
 ghost use Rattle.buffer.specs.Put.{Put};
 ghost use Rattle.output.specs.Step.{Goes, Steps};

@@ -5,7 +5,7 @@ use native.Mathlib.Omega.{arith}
 use mathlib.Core.Path.{_≡_, refl, sym, ap, _∙_}
 use mathlib.Core.List.{List, List·Memᴰ}
 use Rattle.numbers.specs.First.{First, NoneOf}
-use Rattle.numbers.specs.Outcome.{Said, Outcome, refused, given, Refuses, Promise, is-refused, is-given}
+use Rattle.numbers.specs.Outcome.{Said, Outcome, refused, given, Promise, is-refused, is-given}
 use Rattle.numbers.proofs.Laws.{first-unique, first-not-none, first-member}
 
 -- an outcome is refused or given, and says one thing

@@ -5,12 +5,11 @@ use mathlib.Core.Path.{_≡_, subst}
 use mathlib.Core.List.{List, _++_}
 use Rattle.numbers.specs.First.{First, NoneOf}
 use Rattle.numbers.specs.Numbers.{numberOf}
-use Rattle.numbers.specs.Outcome.{Refuses}
 use Rattle.numbers.specs.Verdict.{Decides}
 use Rattle.numbers.specs.declared.Refusal.{Refusal}
 use Rattle.numbers.specs.declared.Verdict.{Verdict}
 use Rattle.numbers.specs.declared.Verdict.the-variants.{Refused, Accepted}
-use Rattle.numbers.proofs.Carried.{first-before, first-after, none-after}
+use Rattle.numbers.proofs.Carried.{first-after, none-after}
 
 module _ {Given : ℕ → Type 0} {So : Type 0} {verdict : Verdict} where
   -- a number that is given refuses

@@ -9,8 +9,8 @@ use lib.Signed.{ltZ, nonNeg}
 use mir.Syntax.{w32, w64}
 use mir.Val.{toZ, ofZ, SFits, Fits}
 use mir.ValLaws.{toZ-ofZ}
-use borrow.Author.Tests.{ltb-true, eq-eqb, ne-eqb}
-use Rattle.output.specs.Writing.{afterBytes, tryAgain, afterError, afterWrite}
+use borrow.Author.Tests.{ltb-true, ne-eqb}
+use Rattle.output.specs.Writing.{tryAgain, afterError, afterWrite}
 use Rattle.output.specs.declared.Onward.{Onward}
 use Rattle.output.specs.declared.Onward.the-variants.{From, Failed}
 

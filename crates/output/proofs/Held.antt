@@ -1,10 +1,10 @@
 -- Laws of how far a text has been printed.
 use Prim.Native.Nat.{ℕ, _+_, _≤_}
 use native.Mathlib.Omega.{arith}
-use mathlib.Core.Path.{_≡_, refl, ap, ap₂, sym, subst, _∙_}
-use mathlib.Core.List.{List, [], _∷_, _++_, append-assoc, append-nil}
-use lib.ListN.{length, take, drop, length-append}
-use lib.Seq.{sets, sets-eq, take-at, length-take-le}
+use mathlib.Core.Path.{_≡_, refl, ap, sym, subst, _∙_}
+use mathlib.Core.List.{List, [], _++_, append-assoc, append-nil}
+use lib.ListN.{length, take, length-append}
+use lib.Seq.{sets-eq, take-at, length-take-le}
 use Rattle.buffer.specs.Put.{Put}
 use Rattle.output.specs.Step.{linesJoined, leftFrom, Steps}
 use Rattle.output.specs.Room.{HasRoom, MakesRoom, stays, emptied, failed, StillHeld}

@@ -5,13 +5,12 @@ use native.Mathlib.Numerals.{add-one}
 use native.Mathlib.Decide.{decLt}
 use mathlib.Core.Logic.{inl, inr}
 use mathlib.Core.Path.{_≡_, refl, ap, sym, _∙_}
-use mathlib.Core.List.{List, [], _∷_, _++_, append-assoc}
-use lib.ListN.{length, drop, getD}
+use mathlib.Core.List.{List, [], _++_, append-assoc}
+use lib.ListN.{length, getD}
 use lib.Seq.{drop-cons, drop-length}
 use Rattle.buffer.specs.Put.{Put}
 use Rattle.buffer.proofs.Puts.{put-nothing, put-then}
 use Rattle.output.specs.Step.{linesJoined, leftFrom, Steps, Stepped, done, step, Goes}
-use Rattle.output.specs.declared.Progress.{Progress}
 
 -- what is left from a line on is that line and what is left from the next one on
 pub left-line : (lines : List (List ℕ)) (number : ℕ) → number < length lines

@@ -17,7 +17,7 @@ use buffer::wide;
 use solver::page::Begin;
 use solver::page::PageRequest;
 ghost use mathlib.Core.Path.{_≡_};
-ghost use Prim.Native.Nat.{_≤_, _<_};
+ghost use Prim.Native.Nat.{_≤_};
 ghost use lib.ListN.{length};
 
 // The most that is lent: so many bytes, or so many numbers, which are shown as four bytes each.

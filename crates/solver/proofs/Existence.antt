@@ -1,4 +1,6 @@
 -- Demand 3 follows from Page's promise: 13 exactly where nothing unifies, all else only where something does.
+-- The keys that are written unify, none comes from another, and on a page with the whole list every unifier
+-- comes from one.
 use Prim.Native.Nat.{ℕ, _<_}
 use native.Mathlib.Omega.{arith}
 use mathlib.Core.Path.{_≡_, refl, sym, _∙_, ap, subst}
@@ -62,7 +64,8 @@ module _ {M : Mode} {L R : List ℕ} (fine : WithinLimits M L R) {G : Groups} (o
       )
 
   -- of two keys of the list neither names a replacement that comes from the other's
-  pub keys-independent : {key other : ℕ} → List·Memᴰ key (keys M layout L R G) → List·Memᴰ other (keys M layout L R G)
+  pub keys-independent : {key other : ℕ} → List·Memᴰ key (keys M layout L R G)
+      → List·Memᴰ other (keys M layout L R G)
       → ComesFrom M (layout .new) L R (replacementOf M L R G key) (replacementOf M L R G other) → key ≡ other
   keys-independent m m′ comes =
       let fits = fine .groups-fit G of in

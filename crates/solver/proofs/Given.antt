@@ -1,7 +1,7 @@
 -- What the tables of numbers of Rows, Page and Values come to, for groups that are the pair's: 16 first, then
 -- the sides' numbers, the list's, and 17.
-use Prim.Native.Nat.{ℕ, _<_, _≤_}
-use mathlib.Core.Path.{refl, subst}
+use Prim.Native.Nat.{ℕ, _≤_}
+use mathlib.Core.Path.{subst}
 use mathlib.Core.List.{List, [], List·Memᴰ}
 use lib.ListN.{length}
 use Rattle.ac.specs.Limits.{limits}
@@ -10,7 +10,7 @@ use Rattle.ac.specs.Rows.{Groups, GroupsOf}
 use Rattle.ac.specs.Keys.{layout, keys, Beginning, after}
 use Rattle.ac.proofs.Groups.{groups-unique}
 use Rattle.numbers.specs.First.{First, NoneOf, here, end, also}
-use Rattle.numbers.specs.Order.{sidesNumbers, keyNumbers, beginningNumbers, lengthNumbers, rowsNumbers, pageNumbers, valuesNumbers}
+use Rattle.numbers.specs.Order.{sidesNumbers, keyNumbers, beginningNumbers, lengthNumbers, pageNumbers, valuesNumbers}
 use Rattle.numbers.proofs.Carried.{within-front}
 use Rattle.numbers.proofs.Parts as parts
 use Rattle.numbers.proofs.Parts.{Row, MadeOf, sides-row, list-row, buffer-row, values-row}

@@ -1,9 +1,8 @@
 -- Pages asked for one after the other hold together the whole list, no key twice.
 use Prim.Native.Nat.{ℕ, _<_}
-use native.Mathlib.Omega.{arith}
 use mathlib.Core.Path.{_≡_, refl, sym, _∙_, ap, subst}
 use mathlib.Core.Bool.{Bool}
-use mathlib.Core.List.{List, [], _++_, append-nil}
+use mathlib.Core.List.{List, _++_, append-nil}
 use borrow.Author.Tests.{ltb-false}
 use lib.ListN.{length, take, drop, take-append-drop}
 use lib.Seq.{take-all, take-append-seam}

@@ -1,7 +1,7 @@
 -- The questions' promises from their steps, of a table that is the pair's.
 use Prim.Native.Nat.{ℕ, _≤_}
 use native.Mathlib.Omega.{arith}
-use mathlib.Core.Path.{_≡_, refl, sym, subst, subst₂}
+use mathlib.Core.Path.{_≡_, sym, subst, subst₂}
 use mathlib.Core.List.{List, _∷_, List·Memᴰ}
 use lib.ListN.{length, getD}
 use Rattle.ac.specs.Limits.{limits}
@@ -25,7 +25,7 @@ use Rattle.list.specs.List.{LookedUp}
 use Rattle.list.specs.declared.Lookup.{Lookup}
 use Rattle.list.specs.declared.Lookup.the-variants as lookup
 use Rattle.list.proofs.Finding.{told-listed, told-refused}
-use Rattle.solver.specs.Rows.{rowsBuffer, GroupSizes, size, sizesOf, allRows, bytesOf, RowsPromise}
+use Rattle.solver.specs.Rows.{rowsBuffer, size, sizesOf, allRows, bytesOf, RowsPromise}
 use Rattle.solver.specs.Rows as its-rows
 use Rattle.solver.specs.Page.{wantedCount, PageWritten, PagePromise, next}
 use Rattle.solver.specs.Values.{valuesBuffer, ValuesPromise}

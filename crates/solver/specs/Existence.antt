@@ -46,9 +46,10 @@ pub record PageExistence (M : Mode) (L R : List ℕ) (begin : Beginning) (wanted
   pub written-cover : {G : Groups} {written : ℕ} → GroupsOf M L R G → begin ≡ start
       → outcome ≡ given (record { written = written; more = false }) → (θ : Replacement) → Unifies M L R θ
       → (i : ℕ) × (i < written) × ComesFrom M (layout .new) L R (replacementOf M L R G (getD out′ i 0)) θ
-  -- none comes from another: where the replacement of a key that is written comes from that of another one,
-  -- the two stand at one place
+  -- none comes from another: of two keys that are written the replacement of the one comes from that of the
+  -- other only if they stand at one place
   pub written-independent : {G : Groups} {written : ℕ} {more : Bool} (i j : ℕ) → GroupsOf M L R G
       → outcome ≡ given (record { written = written; more = more }) → i < written → j < written
-      → ComesFrom M (layout .new) L R (replacementOf M L R G (getD out′ i 0)) (replacementOf M L R G (getD out′ j 0))
+      → ComesFrom M (layout .new) L R (replacementOf M L R G (getD out′ i 0))
+      (replacementOf M L R G (getD out′ j 0))
       → i ≡ j

@@ -1,13 +1,14 @@
 -- What a client may ask on (document 01, "The questions"), by what Page and Values promise, in every mode.
 --
--- `never-empty`. A page that is given has at least one key, and so a last one (`last-key`). What is written at a place
--- of the buffer stands on the page (`stands-on-page`).
--- `key-answered`. Values answers a key that stands on a page, whatever the page's beginning and count, if its lent
--- buffer is long enough. So none of 13, 14 and 17 is given of such a key.
--- `asked-on`. Where more follow, Page asked for after the last key gives a page if its lent buffer is long enough;
--- `refused-by-16-alone`: so 16 is the only number that it gives there.
+-- `never-empty`. A page that is given has at least one key, and so a last one (`last-key`). What is written at a
+-- place of the buffer stands on the page (`stands-on-page`).
+-- `key-answered`. Values answers a key that stands on a page, whatever the page's beginning and count, if its
+-- lent buffer is long enough. So none of its numbers but 16 is given of such a key, 17 among them.
+-- `asked-on`. Where more follow, Page asked for after the last key gives a page if its lent buffer is long
+-- enough; so 16 is the only number that it gives there (`refused-by-16-alone`).
 --
--- Of a key that stands on no page nothing is said here: Values gives 14 of it, by its promise.
+-- Of a key that stands on no page nothing is said here: of one that is not on the list Values gives 14, by its
+-- promise.
 use Prim.Native.Nat.{ℕ, zero, suc, _<_, _≤_}
 use native.Mathlib.Omega.{arith}
 use native.Mathlib.Decide.{decLe}
@@ -45,16 +46,18 @@ use Rattle.solver.proofs.Limits.{within-limits, sides-give-none}
 use Rattle.solver.proofs.Pages.{page-written}
 use Rattle.whole.proofs.Short.{not-long}
 
--- a list that is not empty: its front has a member, and it has a first and a last one
+-- a list that is not empty has a front that is not
 some-taken : (n : ℕ) (xs : List ℕ) → 0 < n → (xs ≡ [] → ⊥) → 0 < length (take n xs)
 some-taken zero xs wanted some = absurd (omega arith)
 some-taken (suc n) [] wanted some = absurd (some refl)
 some-taken (suc n) (x ∷ xs) wanted some = omega arith
 
+-- a first member
 first-of : (xs : List ℕ) → 0 < length xs → (x : ℕ) × List·Memᴰ x xs
 first-of [] some = absurd (omega arith)
 first-of (x ∷ xs) some = (x, List·Memᴰ·head refl)
 
+-- and a last one
 last-of : (xs : List ℕ) → 0 < length xs → (before : List ℕ) × (last : ℕ) × (xs ≡ before ++ last ∷ [])
 last-of [] some = absurd (omega arith)
 last-of (x ∷ xs) some = go xs (last-of xs)
@@ -101,7 +104,8 @@ module _ {M : Mode} {L R : List ℕ} {begin : Beginning} {wanted written : ℕ} 
   some-keys =
       subst (λ (l : List ℕ). 0 < length l) (sym (page-written (groups-exist M L R) page .0))
       (some-taken (wantedCount wanted) (remaining begin (keys M layout L R (groups M L R))) (some-wanted wanted)
-      (list-remains begin (λ n number. none-given (given-none page) (Memᴰ·append-right rowsNumbers (list-number number))
+      (list-remains begin (λ n number.
+      none-given (given-none page) (Memᴰ·append-right rowsNumbers (list-number number))
       (of-the-list (groups-exist M L R) number))))
 
   -- A page is never empty.
@@ -151,8 +155,8 @@ module _ {M : Mode} {L R : List ℕ} {begin : Beginning} {wanted written : ℕ} 
   -- so the list gives no number after it
   none-after-last : NoneOf (ListGiven (keys M layout L R (groups M L R)) (after last)) beginningNumbers
   none-after-last =
-      let listed = on-list page (subst (List·Memᴰ last) (sym ends) (Memᴰ·append-right before (List·Memᴰ·head refl))) in
-      none-of (λ n. list-gives-none (listed-after listed) (first-of _ some-remain .1)) beginningNumbers
+      let stands = subst (List·Memᴰ last) (sym ends) (Memᴰ·append-right before (List·Memᴰ·head refl)) in
+      none-of (λ n. list-gives-none (listed-after (on-list page stands)) (first-of _ some-remain .1)) beginningNumbers
 
   module _ {wanted′ : ℕ} {lent lent′ : List ℕ} where
     -- Where more follow, a page asked for after the last key is given where the lent buffer is long enough.

@@ -1,5 +1,5 @@
--- What is read back from the answers of Values as substitutions: those of the listed selections, so a complete set
--- of minimal unifiers of two terms whose flattened sides were asked for.
+-- What is read back from the answers of Values as substitutions: those of the listed selections, and so a
+-- complete set of minimal unifiers of two terms whose flattened sides were asked for.
 use Prim.Native.Nat.{ℕ, _≤_}
 use mathlib.Core.Path.{_≡_, refl, sym, ap, ap₂, subst, _∙_, fun-ext}
 use mathlib.Core.Bool.{Bool, true, false, cond}

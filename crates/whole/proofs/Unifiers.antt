@@ -1,19 +1,20 @@
--- From the bytes of a block to source document 000 (Fages, RR-0287): "on what a unifier is, document 000 decides"
--- (document 01, "What the program decides"). The words of the statements stand in specs/Unifiers.antt, and a complete
--- set of minimal unifiers in ac/specs/Fages.antt. They speak of promises and bytes alone, not of code.
+-- From the bytes of a block to source document 000 (Fages, RR-0287): "on what a unifier is, document 000
+-- decides" (document 01, "What the program decides"). The words of the statements stand in specs/Unifiers.antt,
+-- and a complete set of minimal unifiers in ac/specs/Fages.antt. They speak of promises and bytes alone, not of
+-- code.
 --
--- `block-unifiers`. Let Read give the sides of a block whose two terms are s and t. Let pages be asked for on these
--- sides, one after the other from the start until no more follow, and let Values answer each key on them. If all of
--- these meet the promises, the substitutions read back from the bytes are a complete set of minimal unifiers of s and
--- t: they move the variables of the terms alone, their values hold no variable of terms, each is a unifier, every
--- unifier has one of them that is more general, and none is more general than another.
+-- `block-unifiers`. Let Read give the sides of a block whose two terms are s and t. Let pages be asked for on
+-- these sides, one after the other from the start until no more follow, and let Values answer each key on them.
+-- If all of these meet the promises, the substitutions read back from the bytes are a complete set of minimal
+-- unifiers of s and t: they move the variables of the two terms alone, their values hold no variable of terms,
+-- each is a unifier, every unifier has one of them that is more general, and none is more general than another.
 -- `block-answered`. Wherever Read gives sides and Page gives none of its numbers, there are such terms, pages and
 -- answers.
--- `block-no-unifier`. On the sides that Read gave Page gives 13 exactly where s and t have no unifier, unless a number
--- that comes before it is given.
+-- `block-no-unifier`. On the sides that Read gave Page gives 13 exactly where s and t have no unifier, unless a
+-- number that comes before it is given.
 --
--- Here t is the right term with its atoms as `onTheRight` has them. Not covered are sides that give 7 to 12: of their
--- unifiers nothing is said.
+-- The right term is meant with its atoms as `onTheRight` has them, `renamed onTheRight t`. Not covered are sides
+-- that give one of 7 to 12: of the unifiers of such terms nothing is said.
 use Prim.Native.Nat.{ℕ}
 use native.Mathlib.Omega.{arith}
 use mathlib.Core.Path.{_≡_, refl, sym, ap, ap₂, subst₂, _∙_}
@@ -55,7 +56,9 @@ module _ {M : Mode} (some : M .empties ≡ false) (s t : Term) where
   none-alike : IsSide (flatten s) → IsSide (flatten t) → NoneUnifies M (flatten s) (flatten t) ↔ NoUnifierOf M s t
   none-alike left right = (
     λ nothing σ unifier. nothing (flattened σ) (unifier-unifies M s t σ .0 unifier),
-    λ nothing θ unifies. let found = unifies-unifier M s t left right some θ unifies in nothing (found .0) (found .2),
+    λ nothing θ unifies.
+        let found = unifies-unifier M s t left right some θ unifies in
+        nothing (found .0) (found .2),
   )
 
   -- 13 on the flattened sides is that
@@ -130,7 +133,8 @@ module _ {block : List ℕ} {number : ℕ} {left right left′ right′ : List �
   -- Page gives 13 exactly where the two terms have no unifier, unless a number that comes before it is given.
   pub block-no-unifier : {s t : Term} → Writes (leftTerm block) s → Writes (rightTerm block) t
       → {begin : Beginning} {wanted : ℕ} {out out′ : List ℕ} {outcome : Outcome PageWritten}
-      → PagePromise unifying (take (lengths .left) left′) (take (lengths .right) right′) begin wanted out outcome out′
+      → PagePromise unifying (take (lengths .left) left′) (take (lengths .right) right′) begin wanted out outcome
+      out′
       → (outcome ≡ refused (saidOf NoUnifier))
       ↔ (NoneOf (PageGiven unifying (take (lengths .left) left′) (take (lengths .right) right′) begin wanted out)
       rowsNumbers × NoUnifierOf unifying s (renamed onTheRight t))
@@ -139,5 +143,6 @@ module _ {block : List ℕ} {number : ℕ} {left right left′ right′ : List �
       subst₂
       (λ L R. PagePromise unifying L R begin wanted out outcome out′
       → (outcome ≡ refused (saidOf NoUnifier))
-      ↔ (NoneOf (PageGiven unifying L R begin wanted out) rowsNumbers × NoUnifierOf unifying s (renamed onTheRight t)))
+      ↔ (NoneOf (PageGiven unifying L R begin wanted out) rowsNumbers
+      × NoUnifierOf unifying s (renamed onTheRight t)))
       (sym (same .0)) (sym (same .1)) (terms-no-unifier refl s (renamed onTheRight t)) promise

@@ -1,18 +1,18 @@
--- What Page and Values give together (document 01, "What every promise has to say", demand 3). This is the file to
--- read first; the words of the statements stand in specs/Whole.antt. They speak of promises and bytes alone, not of
--- code, and hold in every mode: whichever atoms are variables, and whether or not a value may be empty.
+-- What Page and Values give together (document 01, "What every promise has to say", demand 3). This is the file
+-- to read first; the words of the statements stand in specs/Whole.antt. They speak of promises and bytes alone,
+-- not of code, and hold in every mode: whichever atoms are variables, and whether or not a value may be empty.
 --
--- `whole`. For all sides, whatever lists of bytes they are: let pages be asked for one after the other from the start
--- until no more follow, each after the last key of the one before, with any counts and any lent buffers; and let
--- Values be asked for each key on them, with any lent buffer, and answer. If all of these meet the promises, the
--- replacements read back from the bytes each unify, every unifier comes from one of them, none comes from another,
--- and none stands twice. That there are such pages and answers wherever there is a unifier is `pages-and-answers` of
--- Exist.antt.
--- `none-at-all` and `values-none-at-all`. The other end: Page and Values give 13 exactly where no replacement unifies,
--- unless a number that comes before it is given.
+-- `whole`. For all sides, whatever lists of bytes they are: let pages be asked for one after the other from the
+-- start until no more follow, each after the last key of the one before, with any counts and any lent buffers;
+-- and let Values be asked for each key on them, with any lent buffer, and answer. If all of these meet the
+-- promises, the replacements read back from the bytes each unify, every unifier comes from one of them, none
+-- comes from another, and none stands twice. That there are such pages and answers wherever there is a unifier is
+-- `pages-and-answers` of Exist.antt.
+-- `none-at-all` and `values-none-at-all`. The other end: Page and Values give 13 exactly where no replacement
+-- unifies, unless a number that comes before it is given.
 --
--- What a client may ask on, and is answered, is in OnPages.antt. The same from the bytes of a block, and for the terms
--- and unifiers of source document 000, is in Unifiers.antt.
+-- What a client may ask on, and is answered, is in OnPages.antt. The same from the bytes of a block, with the
+-- terms and unifiers of source document 000, is in Unifiers.antt.
 use Prim.Native.Nat.{ℕ}
 use mathlib.Core.Path.{_≡_, refl, subst}
 use mathlib.Core.Logic.{_↔_}

@@ -1,5 +1,5 @@
--- The words in which the answers to a block are unifiers of its two terms as source document 000 has them (Fages,
--- RR-0287). The terms are trees, and a substitution is read back from the bytes of Values alone.
+-- The words in which the answers to a block are unifiers of its two terms as source document 000 has them
+-- (Fages, RR-0287). The terms are trees, and a substitution is read back from the bytes of Values alone.
 use Prim.Native.Nat.{ℕ}
 use mathlib.Core.Bool.{cond}
 use mathlib.Core.List.{List, map}
@@ -19,8 +19,8 @@ renamed name (plus s t) = plus (renamed name s) (renamed name t)
 abbrev pub variablesIn : List ℕ → List ℕ
 variablesIn bytes = map (λ (b : Binding). b .variable) (takenApart 0 bytes)
 
--- The substitution read back from bytes: a variable that stands in them becomes the term of its value, and every
--- other atom stays.
+-- The substitution read back from bytes: a variable that stands in them becomes the term of its value, and
+-- every other atom stays.
 abbrev pub readSubstitution : List ℕ → Substitution
 readSubstitution bytes x = cond (ltb 0 (count x (variablesIn bytes))) (tree (readBack bytes x)) (atom x)
 

@@ -1,6 +1,7 @@
 pub mod Within
 pub mod Answering
 pub mod Worked
+pub mod Document
 pub mod Reading
 pub mod Wrong
 pub mod WrongReads

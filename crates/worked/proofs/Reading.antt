@@ -14,7 +14,6 @@ use Rattle.numbers.proofs.Promises.{outcome-determined}
 use Rattle.block.specs.Read.{sides}
 use Rattle.block.proofs.Settled.{not-16, none-given}
 use Rattle.block.proofs.Determined.{one-result}
-use Rattle.worked.specs.Questions.{TwoBuffers}
 use Rattle.worked.specs.Answers.{ReadAnswers}
 use Rattle.worked.specs.Example.{block-0, block-1}
 

@@ -12,7 +12,7 @@ use Rattle.ac.specs.Pair.{unifying}
 use Rattle.ac.specs.Lists.{every}
 use Rattle.ac.specs.Search.{groups}
 use Rattle.ac.specs.Keys.{layout, listed, keys}
-use Rattle.ac.specs.Worked.{Printed, rows, balanced-rows, rows-of, the-keys, substitutions, Pair, pairs, Holds}
+use Rattle.ac.specs.Worked.{Printed, how-many, rows, balanced-rows, rows-of, the-keys, substitutions, Pair, pairs, Holds}
 use Rattle.ac.proofs.Groups.{groups-exist, groups-unique}
 use Rattle.ac.proofs.Places.{getD-member}
 use Rattle.ac.proofs.Tests.{every-member}
@@ -55,6 +55,7 @@ module _ (L R : List ℕ) (passes : all (tests L R) ≡ true) where
 
   -- what holds of the groups is what is answered
   printed : (what : Printed) → Holds L R (groups unifying L R) what → AnswersPrinted L R what
+  printed (how-many k) e = (list L R, computed .the-list, e)
   printed (rows rs) e = (groups unifying L R, groups-exist unifying L R, e, computed .the-rows)
   printed (balanced-rows k) e = (groups unifying L R, groups-exist unifying L R, e, computed .the-rows)
   printed (rows-of a k) e = (groups unifying L R, groups-exist unifying L R, e, computed .the-rows)

@@ -37,7 +37,8 @@ seven-keys =
 
 -- pair 7: one, key 1
 one-key : PageAnswers (numbered 7 .left) (numbered 7 .right) (1 ∷ [])
-one-key = worked-number 7 (omega arith) (omega arith) .as-printed (the-keys _) (List·Memᴰ·head refl)
+one-key =
+    worked-number 7 (omega arith) (omega arith) .as-printed (the-keys _) (List·Memᴰ·tail (List·Memᴰ·head refl))
 
 -- pair 2: after key 6, six follow
 six-follow : (out : List ℕ) → 200 ≤ length out

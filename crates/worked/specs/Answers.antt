@@ -9,7 +9,7 @@ use Rattle.ac.specs.Pair.{unifying}
 use Rattle.ac.specs.Rows.{Group, Groups, GroupsOf}
 use Rattle.ac.specs.Keys.{layout, keys, start}
 use Rattle.ac.specs.Values.{Binding, laidOut}
-use Rattle.ac.specs.Worked.{Pair, pairs, Printed, rows, balanced-rows, rows-of, the-keys, substitutions}
+use Rattle.ac.specs.Worked.{Pair, pairs, Printed, how-many, rows, balanced-rows, rows-of, the-keys, substitutions}
 use Rattle.numbers.specs.Numbers.{saidOf}
 use Rattle.numbers.specs.Outcome.{Outcome, refused, given}
 use Rattle.numbers.specs.declared.Refusal.the-variants.{NoUnifier}
@@ -73,6 +73,7 @@ module _ (L R : List ℕ) where
 
   -- The questions answer what the document prints.
   abbrev pub AnswersPrinted : Printed → Type 0
+  AnswersPrinted (how-many k) = (ks : List ℕ) × PageAnswers ks × (length ks ≡ k)
   AnswersPrinted (rows rs) = RowsGiveSuch (λ G. G .balanced ≡ rs)
   AnswersPrinted (balanced-rows k) = RowsGiveSuch (λ G. length (G .balanced) ≡ k)
   AnswersPrinted (rows-of a k) =

@@ -2,3 +2,4 @@ pub mod Questions
 pub mod Answers
 pub mod Programs
 pub mod Example
+pub mod Document

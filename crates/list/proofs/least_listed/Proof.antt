@@ -3,10 +3,9 @@
 use Prim.Native.Nat.{_-_, _^_}
 use native.Mathlib.Omega.{arith}
 use native.Mathlib.Nat.{le-refl}
-use mathlib.Core.Path.{refl, sym, subst, _∙_}
+use mathlib.Core.Path.{sym, subst, _∙_}
 use borrow.Author.Needs.{needs}
 use borrow.Author.Tests.{not-true}
-use lib.Bits.{and-mask, mask-lt}
 use Rattle.list.proofs.Candidates.{below-block-end}
 use Rattle.list.proofs.Walk.{Walked, passed-none, step-nothing, step-between, step-over, step-found, step-end}
 use Rattle.list.proofs.least_listed.Statement.{statement}
@@ -64,19 +63,11 @@ loop-again c =
 enum-told : tie.Need-enum-told Inv-loop μ-loop
 enum-told c = search needs
 
-cast-tuple : tie.Need-cast-tuple Inv-loop μ-loop
-cast-tuple c = search needs
-
-shr-tuple : tie.Need-shr-tuple Inv-loop μ-loop
-shr-tuple c = search needs
-
 least-of-tuple-requires : tie.Need-least-of-tuple-requires Inv-loop μ-loop
 least-of-tuple-requires c κs =
     let turn = c .before .before .before .before .before .before .before in
-    let fit = turn .before .before .before .before .before .before .pre in (
-      (fit .constants-fit, fit .places-fit, fit .sizes-fit 0),
-      (omega (arith, turn .loop-test .taken), mask-lt (turn .before .loop .at) 16),
-    )
+    let fit = turn .before .before .before .before .before .before .pre in
+    (fit .constants-fit, fit .places-fit, fit .sizes-fit 0)
 
 enum-known-least : tie.Need-enum-known-least Inv-loop μ-loop
 enum-known-least c = search needs
@@ -86,8 +77,8 @@ returns-2 c =
     let candidate = c .before .before .before .before .before .before in
     let stood = candidate .before .before in
     let turn = stood .before .before .before in
-    step-found (turn .before .loop .inv) (stood .stands .ensures) (candidate .enum-told .given .1) refl
-    (and-mask (turn .before .loop .at) 16) (c .before .before .before .least-of-tuple .ensures)
+    step-found (turn .before .loop .inv) (stood .stands .ensures) (candidate .enum-told .given .1)
+    (c .before .before .before .least-of-tuple .ensures)
     (c .before .least .given .1)
 
 enum-told-2 : tie.Need-enum-told-2 Inv-loop μ-loop
@@ -120,8 +111,8 @@ loop-again-2 c =
     let stood = candidate .before .before in
     let turn = stood .before .before .before in
     subst (Walked _ _) (sym (c .block-end .ensures))
-    (step-over (turn .before .loop .inv) (stood .stands .ensures) (candidate .enum-told .given .1) refl
-    (and-mask (turn .before .loop .at) 16) (tried .before .before .least-of-tuple .ensures)
+    (step-over (turn .before .loop .inv) (stood .stands .ensures) (candidate .enum-told .given .1)
+    (tried .before .before .least-of-tuple .ensures)
     (tried .enum-told2 .given .1) (left .0 .0) (left .1 _ (turn .before .before .before .before .before .before .pre .sets)))
 
 returns-3 : tie.Need-returns-3 Inv-loop μ-loop
@@ -144,8 +135,6 @@ least-listed-spec =
     loop-less
     loop-again
     enum-told
-    cast-tuple
-    shr-tuple
     least-of-tuple-requires
     enum-known-least
     returns-2

@@ -1,5 +1,4 @@
 -- `list::pack` meets its contract: the tuple is shifted past the mask, so that they have no bit in common.
-use Prim.Native.Nat.{_*_, _^_}
 use native.Mathlib.Omega.{arith}
 use mathlib.Core.Path.{ap, _∙_}
 use borrow.Author.Needs.{needs}

@@ -1,7 +1,6 @@
 -- `nightly::print_library` meets its contract: before each turn the text of the blocks so far stands in the buffer, but
 -- for what was written out, and each turn leaves one block less to read. Assumes nothing.
 use native.Mathlib.Omega.{arith}
-use Prim.Native.Nat.{_≤_}
 use mathlib.Core.Path.{_≡_, refl, sym, subst, _∙_}
 use lib.ListN.{length}
 use borrow.Author.Needs.{needs}

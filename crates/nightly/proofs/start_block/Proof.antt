@@ -1,5 +1,4 @@
 -- `nightly::start_block` meets its contract: what is printed is what was asked and tallied. Assumes nothing.
-use native.Mathlib.Omega.{arith}
 use borrow.Author.Needs.{needs}
 use Rattle.nightly.proofs.Starting.{starts}
 use Rattle.nightly.proofs.start_block.Statement.{statement}

@@ -1,6 +1,5 @@
 -- `output::after_error` meets its contract: the error that is tested is the one that was given. Assumes nothing.
-use mathlib.Core.Path.{_≡_, ap, sym, _∙_}
-use lib.IntN.{ℤ, pos}
+use mathlib.Core.Path.{ap, sym, _∙_}
 use borrow.Author.Needs.{needs}
 use Rattle.output.specs.Writing.{afterError}
 use Rattle.output.specs.declared.Onward.the-variants.{Failed}

@@ -1,7 +1,6 @@
 -- `output::after_write` meets its contract: the answer that is tested is the one that was given. Assumes nothing.
 use Prim.Native.Nat.{_+_, _-_, min}
-use native.Mathlib.Omega.{arith}
-use mathlib.Core.Path.{_≡_, ap, sym, _∙_}
+use mathlib.Core.Path.{ap, sym, _∙_}
 use lib.IntN.{natAbs}
 use mir.Syntax.{w64}
 use mir.ValLaws.{toZ-ofZ}

@@ -1,7 +1,7 @@
 -- `output::make_room` meets its contract: the buffer is written out where there is no room behind the place.
 -- Assumes nothing.
 use native.Mathlib.Omega.{arith}
-use mathlib.Core.Path.{_≡_, sym, _∙_}
+use mathlib.Core.Path.{sym, _∙_}
 use borrow.Author.Tests.{leb-true, leb-false}
 use borrow.Author.Needs.{needs}
 use Rattle.output.specs.Room.{stays, emptied, failed}

@@ -1,6 +1,5 @@
 -- `output::write_out` is safe and ends: each turn writes bytes, or leaves one try less. Assumes nothing.
 use Prim.Native.Nat.{_≤_}
-use native.Mathlib.Omega.{arith}
 use mir.Syntax.{w32, w64}
 use mir.Val.{toZ, ofZ}
 use borrow.Author.Needs.{needs}

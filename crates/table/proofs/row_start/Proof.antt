@@ -1,6 +1,6 @@
 -- `table::row_start` meets its contract: nothing is lost, since groups and rows are few. Assumes nothing.
 use native.Mathlib.Omega.{arith}
-use mathlib.Core.Path.{_∙_, sym, ap}
+use mathlib.Core.Path.{ap}
 use Rattle.table.specs.Table.{rowStart}
 use Rattle.table.proofs.Rows.{mostRows-least, rowStart-constant}
 use Rattle.table.proofs.row_start.Statement.{statement}

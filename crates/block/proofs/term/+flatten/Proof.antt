@@ -115,7 +115,9 @@ module _ (t : ℕ) where
 
   first-term : (c : AtFirst)
       → FoundTerm (drop 1 (bytes (plus-known c))) (buffer (plus-known c)) (used c) (filled c) (buffer-after c)
-  first-term c = rw part-to-end at (when-found (c .before .before .before .before .before .flatten .ensures) (c .before .first .given .1))
+  first-term c =
+      rw part-to-end at
+      (when-found (c .before .before .before .before .before .flatten .ensures) (c .before .first .given .1))
 
   second-term : (c : AtSecond) →
       let at-first = first-known c in
@@ -123,7 +125,8 @@ module _ (t : ℕ) where
       (drop (filled at-first) (buffer-after at-first))
       (used-next c) (filled-next c) (c .before .before .before .before .before .flatten2 .last .1 .0)
   second-term c =
-      rw (left-for-second, part-to-end) at (when-found (c .before .before .before .before .before .flatten2 .ensures) (c .before .second .given .1))
+      rw (left-for-second, part-to-end) at
+      (when-found (c .before .before .before .before .before .flatten2 .ensures) (c .before .second .given .1))
 
   -- the plus and the first term are among the bytes
   first-within : (c : AtFirst) → 1 + used c ≤ length (bytes (plus-known c))
@@ -149,7 +152,8 @@ module _ (t : ℕ) where
       )
 
   flatten-returns-2 : Here flatten-lts.Need-returns-2
-  flatten-returns-2 c = after-first-byte (some-bytes (c .before .before .before .before .before)) (c .before .before .flatten-atom .ensures _)
+  flatten-returns-2 c =
+      after-first-byte (some-bytes (c .before .before .before .before .before)) (c .before .before .flatten-atom .ensures _)
 
   flatten-returns-3 : Here flatten-lts.Need-returns-3
   flatten-returns-3 c =
@@ -158,8 +162,9 @@ module _ (t : ℕ) where
 
   flatten-returns-4 : Here flatten-lts.Need-returns-4
   flatten-returns-4 c =
+      let at-plus = c .before .before .before .before .before .before .before in
       let none = when-nothing (c .before .before .before .before .flatten .ensures) (c .enum-told3 .given .1) in
-      plus-in-front (c .before .before .before .before .before .before .before) (nothing (first-missing (rw part-to-end at none)))
+      plus-in-front at-plus (nothing (first-missing (rw part-to-end at none)))
 
   -- fewer bytes are left for the second term, and room enough for its atoms
   flatten-requires-2 : Here flatten-lts.Need-flatten-requires-2
@@ -175,8 +180,10 @@ module _ (t : ℕ) where
 
   flatten-returns-5 : Here flatten-lts.Need-returns-5
   flatten-returns-5 c =
+      let at-first = c .before .before .before .before .before .before .before in
       let none = when-nothing (c .before .before .before .before .flatten2 .ensures) (c .enum-told4 .given .1) in
-      plus-in-front (c .before .before .before .before .before .before .before .before .before .before .before .before .before .before .before) (nothing (second-nothing (first-term (c .before .before .before .before .before .before .before)) (rw left-for-second at none)))
+      plus-in-front (plus-known at-first)
+      (nothing (second-nothing (first-term at-first) (rw left-for-second at none)))
 
   flatten-returns-6 : Here flatten-lts.Need-returns-6
   flatten-returns-6 c =

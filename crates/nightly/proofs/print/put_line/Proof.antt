@@ -1,7 +1,6 @@
 -- `nightly::print::put_line` meets its contract: each kind of line has its own numbers. Assumes nothing.
 use Prim.Native.Nat.{_<_, _≤_}
 use native.Mathlib.Omega.{arith}
-use mathlib.Core.Path.{_≡_, _∙_}
 use borrow.Author.Needs.{needs}
 use Rattle.buffer.proofs.Puts.{put-as}
 use Rattle.nightly.specs.Printed.{keyCount, pageOf}

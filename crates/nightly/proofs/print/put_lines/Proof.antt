@@ -2,12 +2,11 @@
 -- in the buffer. Assumes nothing.
 use Prim.Native.Nat.{ℕ, _+_, _-_, _<_, _≤_}
 use native.Mathlib.Omega.{arith}
-use mathlib.Core.Path.{_≡_, refl, sym, ap, subst, _∙_}
+use mathlib.Core.Path.{_≡_, refl, sym, _∙_}
 use mathlib.Core.List.{List}
 use lib.ListN.{length}
 use borrow.Author.Tests.{leb-true, leb-false, not-true, not-false}
-use borrow.Author.Needs.{needs}
-use Rattle.output.specs.Step.{Steps, Goes}
+use Rattle.output.specs.Step.{Steps}
 use Rattle.output.proofs.Steps.{step-start, step-line, Going, going-start, going-line, gone-all, gone-full}
 use Rattle.nightly.specs.Printed.{lineCount, linesOf, Prints}
 use Rattle.nightly.proofs.Numbered.{count-lines}

@@ -1,7 +1,7 @@
 -- `table::groups::find_group` meets its contract: the two parts of a net count say what is found. Assumes
 -- nothing.
 use Prim.Native.Nat.{ℕ}
-use mathlib.Core.Path.{sym, subst₂}
+use mathlib.Core.Path.{subst₂}
 use native.Mathlib.Omega.{arith}
 use borrow.Author.Needs.{needs}
 use lib.ListN.{take}

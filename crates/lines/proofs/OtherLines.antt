@@ -1,0 +1,64 @@
+-- The lines that document 01's example does not have, as the document prints them.
+use Prim.Native.Nat.{ℕ}
+use mathlib.Core.Path.{_≡_, refl}
+use mathlib.Core.Bool.{true}
+use mathlib.Core.List.{List, [], _∷_, _++_}
+use Rattle.ac.specs.Values.{Binding}
+use Rattle.text.specs.Ascii.{ascii}
+use Rattle.text.specs.Decimal.{decimal}
+use Rattle.tally.specs.declared.Line.{Line}
+use Rattle.tally.specs.declared.Line.the-variants.{Listed, Refused}
+use Rattle.tally.specs.declared.Totals.{Totals}
+use Rattle.tally.specs.declared.Closing.the-variants.{NothingRead, TooLong}
+use Rattle.lines.specs.Lines.{blockLine, substitutionLine, endLine, closingLines}
+
+-- v0 and v1 with their values
+abbrev two : List ℕ → List ℕ → List Binding
+two a b = record { variable = 0; value = a } ∷ record { variable = 1; value = b } ∷ []
+
+-- New variables are n0, n1 and so on: pairs 5 and 6 worked by hand.
+pub with-new-variables :
+    substitutionLine (two (64 ∷ []) (64 ∷ []))
+    ++ substitutionLine (two (64 ∷ 192 ∷ []) (64 ∷ 192 ∷ 192 ∷ []))
+    ++ substitutionLine (two (192 ∷ 192 ∷ []) (192 ∷ 192 ∷ 192 ∷ []))
+    ≡ ascii "v0=c0 v1=c0\nv0=c0+n0 v1=c0+n0+n0\nv0=n0+n0 v1=n0+n0+n0\n"
+unfolding decimal
+with-new-variables = refl
+
+-- The last atoms of each kind: v63, c63 and n15.
+pub with-last-atoms :
+    substitutionLine (record { variable = 63; value = 127 ∷ 207 ∷ [] } ∷ []) ≡ ascii "v63=c63+n15\n"
+unfolding decimal
+with-last-atoms = refl
+
+-- One without variables is `-`.
+pub without-variables : substitutionLine [] ≡ ascii "-\n"
+without-variables = refl
+
+-- a block with more than the first page
+abbrev longer : Line
+longer = Listed 16 0 200 true
+
+-- After the first page of 200, where more follow, stands `more`.
+pub where-more-follow : blockLine 7 longer ++ endLine longer ≡ ascii "block 7 rows 16 0\nmore\n"
+unfolding decimal
+where-more-follow = refl
+
+-- Any other number gives `block P refused X`, and no page.
+pub where-refused : blockLine 65_536 (Refused 16) ++ endLine (Refused 16) ≡ ascii "block 65536 refused 16\n"
+unfolding decimal
+where-refused = refl
+
+-- as many blocks as are read at most
+abbrev most : Totals
+most = record { blocks = 1_048_576; listed = 1; none = 20; refused = 1_048_555 }
+
+-- If input remains, the line `too long` stands before the last line.
+pub where-input-remains :
+    closingLines (TooLong most) ≡ ascii "too long\nblocks 1048576 listed 1 none 20 refused 1048555\n"
+unfolding decimal
+where-input-remains = refl
+
+-- For an empty input only `nothing read`.
+pub where-nothing-is-read : closingLines NothingRead ≡ ascii "nothing read\n"
+where-nothing-is-read = refl

@@ -7,10 +7,10 @@
 -- before it is given.
 use Prim.Native.Nat.{ℕ, _+_, _-_, _≤_, _<_}
 use native.Mathlib.Omega.{arith}
-use mathlib.Core.Path.{_≡_, refl, sym, ap, ap₂, subst, subst₂, _∙_}
+use mathlib.Core.Path.{_≡_, sym, ap, ap₂, subst, subst₂, _∙_}
 use mathlib.Core.Logic.{_↔_, inl, inr, ⊎-elim}
-use mathlib.Core.Bool.{true, false, cond}
-use mathlib.Core.List.{List, List·Memᴰ, List·Memᴰ·head, List·Memᴰ·tail, List·Memᴰ·append-cases, map}
+use mathlib.Core.Bool.{cond}
+use mathlib.Core.List.{List, List·Memᴰ, List·Memᴰ·head, List·Memᴰ·append-cases}
 use borrow.Author.Tests.{lt-ltb, le-ltb}
 use lib.Dec.{ltb}
 use lib.ListN.{take}

@@ -2,7 +2,7 @@
 -- and v3+c1 are the sides v3+c0 and v35+c1, by `overlapping-gives`, `proofs/Reading.antt`, and have two unifiers.
 use Prim.Native.Nat.{ℕ}
 use mathlib.Core.Path.{refl}
-use mathlib.Core.List.{List, [], _∷_}
+use mathlib.Core.List.{List, [], _∷_, List·Memᴰ·head, List·Memᴰ·tail}
 use Rattle.ac.specs.Values.{Binding}
 use Rattle.ac.specs.Worked.{balanced-rows, rows-of, the-keys, substitutions}
 use Rattle.worked.specs.Answers.{AnswersPrinted}
@@ -19,9 +19,15 @@ right = 35 ∷ 65 ∷ []
 abbrev binding : ℕ → List ℕ → Binding
 binding x atoms = record { variable = x; value = atoms }
 
--- One balanced row, and one for each constant: `rows 1 2`.
+-- One balanced row, and one for each of the two constants: `rows 1 2`.
 pub overlap-balanced : AnswersPrinted left right (balanced-rows 1)
 overlap-balanced = printed left right refl (balanced-rows 1) refl
+
+pub overlap-c0 : AnswersPrinted left right (rows-of 64 1)
+overlap-c0 = printed left right refl (rows-of 64 1) (_, List·Memᴰ·head refl, refl, refl)
+
+pub overlap-c1 : AnswersPrinted left right (rows-of 65 1)
+overlap-c1 = printed left right refl (rows-of 65 1) (_, List·Memᴰ·tail (List·Memᴰ·head refl), refl, refl)
 
 -- Two keys, so two unifiers.
 pub overlap-keys : AnswersPrinted left right (the-keys (0 ∷ 1 ∷ []))

@@ -5,11 +5,12 @@ use mathlib.Core.Path.{_≡_, refl, ap}
 use mathlib.Core.Bool.{true}
 use mathlib.Core.Logic.{inl, inr}
 use mathlib.Core.List.{List, [], _∷_}
+use lib.ListN.{length}
 use Rattle.ac.specs.Term.{Term, atom, plus}
 use Rattle.numbers.specs.First.{also}
 use Rattle.block.specs.Front.{Writable, one, two, Writes, leftSide, rightSide}
-use Rattle.block.specs.Block.{leftTerm, rightTerm, filler}
-use Rattle.block.specs.Inner.{allZero, GoodHeader}
+use Rattle.block.specs.Block.{blockNumber, leftLength, rightLength, leftTerm, rightTerm, filler, check, checkOfBytes}
+use Rattle.block.specs.Inner.{IsLength, allZero, GoodHeader}
 use Rattle.numbers.specs.Outcome.{is-given}
 use Rattle.numbers.proofs.Promises.{outcome-determined}
 use Rattle.block.specs.Read.{sides}
@@ -33,6 +34,23 @@ block-gives good left right zeros lent left-fits right-fits =
           (same .0, ap (λ b. record { left = b .0; right = b .1 }) (same .1));
     }
 
+-- a header is good if the block's length, check, number and terms' lengths are
+header :
+    {block : List ℕ} {number : ℕ} →
+    length block ≡ 512 →
+    check block ≡ checkOfBytes block →
+    blockNumber block ≡ number →
+    IsLength (leftLength block) × IsLength (rightLength block) →
+    GoodHeader block number
+header whole checked numbered lengths =
+    record {
+      whole = whole;
+      checked = checked;
+      numbered = numbered;
+      left-length = lengths .0;
+      right-length = lengths .1;
+    }
+
 -- v0 to v31 may be written
 variable : (a : ℕ) → a < 32 → Writable (atom a)
 variable a h = one (inl h)
@@ -45,13 +63,7 @@ constant a h = one (inr h)
 pub block-0-gives : ReadAnswers block-0 0 (0 ∷ 1 ∷ []) (64 ∷ 65 ∷ [])
 block-0-gives =
     block-gives {s = plus (atom 0) (atom 1)} {t = plus (atom 64) (atom 65)}
-    (record {
-      whole = refl;
-      checked = refl;
-      numbered = refl;
-      left-length = (omega arith, omega arith);
-      right-length = (omega arith, omega arith);
-    })
+    (header refl refl refl (omega arith))
     (record { exactly = refl; writable = two (variable 0 (omega arith)) (variable 1 (omega arith)) })
     (record { exactly = refl; writable = two (constant 64 (omega arith)) (constant 65 (omega arith)) })
     refl
@@ -60,13 +72,7 @@ block-0-gives =
 pub block-1-gives : ReadAnswers block-1 1 (0 ∷ 0 ∷ []) (64 ∷ [])
 block-1-gives =
     block-gives {s = plus (atom 0) (atom 0)} {t = atom 64}
-    (record {
-      whole = refl;
-      checked = refl;
-      numbered = refl;
-      left-length = (omega arith, omega arith);
-      right-length = (omega arith, omega arith);
-    })
+    (header refl refl refl (omega arith))
     (record { exactly = refl; writable = two (variable 0 (omega arith)) (variable 0 (omega arith)) })
     (record { exactly = refl; writable = constant 64 (omega arith) })
     refl
@@ -75,13 +81,7 @@ block-1-gives =
 pub overlapping-gives : ReadAnswers overlapping 0 (3 ∷ 64 ∷ []) (35 ∷ 65 ∷ [])
 overlapping-gives =
     block-gives {s = plus (atom 3) (atom 64)} {t = plus (atom 3) (atom 65)}
-    (record {
-      whole = refl;
-      checked = refl;
-      numbered = refl;
-      left-length = (omega arith, omega arith);
-      right-length = (omega arith, omega arith);
-    })
+    (header refl refl refl (omega arith))
     (record { exactly = refl; writable = two (variable 3 (omega arith)) (constant 64 (omega arith)) })
     (record { exactly = refl; writable = two (variable 3 (omega arith)) (constant 65 (omega arith)) })
     refl

@@ -4,7 +4,8 @@
     tools/library.py <examples/small.txt >library
 
 A line is a pair, as `v0+(v1+3c5) = c0+c1`: a block for each, numbered from 0. 3c5 is c5 three times. Brackets may group; without
-them the rest of a sum is its right part. The line `zeros` is a block of zeros. Empty lines and what follows # are passed over.
+them the rest of a sum is its right part. The two sides have separate variables, v0 to v31 each: answers call those of the right
+side v32 to v63. The line `zeros` is a block of zeros. Empty lines and what follows # are passed over.
 """
 import re
 import signal
@@ -23,7 +24,7 @@ def atoms(word):
     """The atoms of a word such as v0 or 3c5, each as a term."""
     parts = re.fullmatch(r"([1-9][0-9]?)?([vc])([0-9]{1,2})", word)
     if not parts or int(parts[3]) > 63:
-        raise Wrong(f"{word} is no atom; atoms are v0 to v63 and c0 to c63, and 3v0 is three of them")
+        raise Wrong(f"{word} is no atom; atoms are v0 to v31 and c0 to c63, and 3v0 is three of them")
     return [bytes([FIRST[parts[2]] + int(parts[3])])] * int(parts[1] or 1)
 
 
@@ -73,6 +74,9 @@ def side(name, text):
     made = term(text)
     if len(flattened(made)) > MOST_ATOMS:
         raise Wrong(f"the {name} side has {len(flattened(made))} atoms; a block holds at most {MOST_ATOMS}")
+    for atom in flattened(made):
+        if 31 < atom < 64:
+            raise Wrong(f"v{atom} cannot be written, only v0 to v31; answers call the right side's v{atom - 32} so")
     return made
 
 

@@ -1,6 +1,6 @@
-"""Cases of Read for the program probe: blocks, and what document 01 says of each.
+"""Cases of Read for the program probe: blocks, and what documents 01 and 02 (R-1) say of each.
 
-The answers come from a reader of blocks of its own, written from document 01.
+The answers come from a reader of blocks of its own, written from these documents.
 """
 from library import PLUS, block, left_brackets, right_brackets, with_check
 from protocol import READ, Case, buffer, given, question, refused
@@ -19,7 +19,7 @@ def summing_to(total):
     return (EXAMPLE[:10] + bytes([255] * full + [rest])).ljust(510, b"\0")
 
 
-UP = [bytes([atom]) for atom in range(64)]
+UP = [bytes([atom % 32]) for atom in range(64)]
 DOWN = [bytes([atom]) for atom in range(127, 63, -1)]
 
 # name, block, expected number, length of the left buffer and of the right one
@@ -51,6 +51,14 @@ ASKED = [
     ("right term has bytes left over", block(0, bytes([0]), bytes([PLUS, 64, 65, 66])), 0, 64, 64),
     ("byte 129 on the left", block(0, bytes([PLUS, 0, 129]), bytes([64])), 0, 64, 64),
     ("byte 255 on the right", block(0, bytes([0]), bytes([255])), 0, 64, 64),
+    ("one variable on both sides", block(0, bytes([PLUS, 3, 64]), bytes([PLUS, 3, 65])), 0, 64, 64),
+    ("the highest variable and all constants between", block(0, bytes([31]), right_brackets([bytes([31]), *DOWN[1:]])), 0, 64, 64),
+    ("byte 32 on the left", block(0, bytes([PLUS, 0, 32]), bytes([64])), 0, 64, 64),
+    ("byte 63 on the left", block(0, bytes([63]), bytes([64])), 0, 64, 64),
+    ("byte 32 on the right", block(0, bytes([0]), bytes([32])), 0, 64, 64),
+    ("byte 63 on the right", block(0, bytes([0]), bytes([PLUS, 63, 64])), 0, 64, 64),
+    ("byte 32 and filler wrong", changed(block(0, bytes([0]), bytes([32])), 509, 1), 0, 64, 64),
+    ("byte 32 as filler", changed(EXAMPLE, 10, 32), 0, 64, 64),
     ("term and filler wrong", changed(block(0, bytes([0]), bytes([129])), 509, 1), 0, 64, 64),
     ("first filler byte", changed(EXAMPLE, 10, 1), 0, 64, 64),
     ("last filler byte", changed(EXAMPLE, 509, 128), 0, 64, 64),
@@ -67,7 +75,7 @@ def term(written):
     """The atoms of the bytes as one term, or None."""
     atoms, wanted = [], 1
     for place, byte in enumerate(written):
-        if byte > PLUS:
+        if 32 <= byte < 64 or byte > PLUS:
             return None
         if byte == PLUS:
             wanted += 1
@@ -77,6 +85,11 @@ def term(written):
         if wanted == 0:
             return atoms if place + 1 == len(written) else None
     return None
+
+
+def renamed(atoms):
+    """The right term's atoms, each variable with the number 32 higher."""
+    return [atom + 32 if atom < 64 else atom for atom in atoms]
 
 
 def read(whole, number, left_length, right_length):
@@ -98,7 +111,8 @@ def read(whole, number, left_length, right_length):
         return 5
     if any(whole[right_end:510]):
         return 6
-    return sides
+    left, right = sides
+    return left, renamed(right)
 
 
 def answer(whole, number, *lent):

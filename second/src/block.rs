@@ -1,5 +1,6 @@
-//! Library blocks: reading one, and sealing one with its check (document 01, A library block).
+//! Library blocks: reading one, and sealing one with its check (document 01, A library block; document 02, R-1).
 
+use crate::pair::FIRST_CONSTANT;
 use crate::refusal::Refusal;
 
 /// The length of a block in bytes.
@@ -12,6 +13,8 @@ pub const CHECK: usize = 510;
 pub const LONGEST_TERM: usize = 127;
 /// The byte that is followed by two terms.
 pub const PLUS: u8 = 128;
+/// How many variables may be written, and so how much higher those of a right term are numbered.
+pub const APART: u8 = 32;
 
 /// The two flattened sides of a pair.
 #[derive(Clone, Debug, PartialEq, Eq, PartialOrd, Ord)]
@@ -37,7 +40,7 @@ pub fn read(block: &[u8], expected: u16) -> Result<Sides, Refusal> {
     }
     let (left, rest) = block[TERMS..CHECK].split_at(lengths[0]);
     let (right, filler) = rest.split_at(lengths[1]);
-    let sides = Sides { left: flatten(left)?, right: flatten(right)? };
+    let sides = Sides { left: flatten(left)?, right: renamed(flatten(right)?) };
     if filler.iter().any(|&byte| byte != 0) {
         return Err(Refusal::Filler);
     }
@@ -50,7 +53,7 @@ fn flatten(term: &[u8]) -> Result<Vec<u8>, Refusal> {
     let mut to_come = 1;
     let mut atoms = Vec::new();
     for &byte in term {
-        if to_come == 0 || byte > PLUS {
+        if to_come == 0 || !(may_be_written(byte) || byte == PLUS) {
             return Err(Refusal::Term);
         }
         if byte == PLUS {
@@ -65,6 +68,17 @@ fn flatten(term: &[u8]) -> Result<Vec<u8>, Refusal> {
     } else {
         Err(Refusal::Term)
     }
+}
+
+/// Whether a byte is an atom that may stand in a term: v0 to v31, or a constant.
+pub fn may_be_written(byte: u8) -> bool {
+    byte < APART || (FIRST_CONSTANT..PLUS).contains(&byte)
+}
+
+/// The right term's atoms, each variable with the number 32 higher.
+fn renamed(mut atoms: Vec<u8>) -> Vec<u8> {
+    atoms.iter_mut().filter(|atom| **atom < FIRST_CONSTANT).for_each(|atom| *atom += APART);
+    atoms
 }
 
 /// The number of two bytes at a place, high byte first.

@@ -1,8 +1,8 @@
 //! Blocks to read: random terms of every shape, and damage of every kind.
 
-use crate::block::{seal, Sides, BLOCK, CHECK, LONGEST_TERM, PLUS, TERMS};
+use crate::block::{may_be_written, seal, Sides, APART, BLOCK, CHECK, LONGEST_TERM, PLUS, TERMS};
 use crate::chance::Chance;
-use crate::pair::LAST_ATOM;
+use crate::pair::FIRST_CONSTANT;
 
 /// How a plus is split: the first atom beside the rest, all but the last beside it, or anywhere.
 #[derive(Clone, Copy)]
@@ -12,7 +12,7 @@ enum Shape {
     Anywhere,
 }
 
-/// A block with two sides as terms of random shape; each side has 1 to 64 atoms.
+/// A block with two sides as terms of random shape; each side has 1 to 64 atoms that may be written.
 pub fn good_block(chance: &mut Chance, number: u16, sides: &Sides) -> Vec<u8> {
     let left = term(chance, &sides.left);
     let right = term(chance, &sides.right);
@@ -31,9 +31,18 @@ pub fn block_sides(chance: &mut Chance) -> Sides {
     let longest = chance.pick(&[1, 3, 8, 64]);
     let mut side = || {
         let length = if chance.one_in(16) { 64 } else { 1 + chance.below(longest) };
-        (0..length).map(|_| chance.byte(0, LAST_ATOM)).collect()
+        (0..length).map(|_| written(chance.byte(0, PLUS - 1))).collect()
     };
     Sides { left: side(), right: side() }
+}
+
+/// The byte that an atom is written with: a variable above v31, as Read gives them of a right term, 32 lower.
+pub fn written(atom: u8) -> u8 {
+    if may_be_written(atom) || atom >= FIRST_CONSTANT {
+        atom
+    } else {
+        atom - APART
+    }
 }
 
 /// A term over the atoms in their order, of random shape.

@@ -1,10 +1,11 @@
 //! Planted faults: answers that are wrong in one known way, to show that the comparison can fail. One for
-//! each question, one for each plausible error of document 01, and two in the nightly text.
+//! each question, one for the variables of a right term, one for each plausible error of document 01, and two
+//! in the nightly text.
 
 use crate::answer::answer;
-use crate::block::Sides;
+use crate::block::{Sides, APART};
 use crate::list::{stages, List};
-use crate::pair::Pair;
+use crate::pair::{Pair, FIRST_CONSTANT};
 use crate::question::{Answer, Ask, Question};
 use crate::refusal::Refusal;
 use crate::rows::{at_or_below, weight, Groups, Row, MOST_ROWS};
@@ -18,6 +19,8 @@ use std::io::{self, Read, Write};
 pub enum Fault {
     /// Read looks at the block number before the check.
     NumberBeforeCheck,
+    /// Read gives the right term's variables as they are written.
+    RightAsWritten,
     /// Rows clears the byte after the last row.
     ByteAfterRows,
     /// Page says that more follow whenever it is full.
@@ -43,8 +46,9 @@ pub enum Fault {
 }
 
 /// All faults by name.
-pub const FAULTS: [(&str, Fault); 12] = [
+pub const FAULTS: [(&str, Fault); 13] = [
     ("number-before-check", Fault::NumberBeforeCheck),
+    ("right-as-written", Fault::RightAsWritten),
     ("byte-after-rows", Fault::ByteAfterRows),
     ("more-when-full", Fault::MoreWhenFull),
     ("new-variables-first", Fault::NewVariablesFirst),
@@ -162,6 +166,7 @@ impl Fault {
                     answer.number = Refusal::BlockNumber.number();
                 }
             }
+            (Fault::RightAsWritten, Ask::Read { .. }) => give_right_as_written(answer),
             (Fault::ByteAfterRows, Ask::Rows) => clear_byte_after_rows(question, answer),
             (Fault::MoreWhenFull, Ask::Page { .. }) if answer.number == 0 => {
                 answer.figures[1] = u32::from(answer.figures[0] as usize == question.ask.wanted());
@@ -245,6 +250,12 @@ fn vectors_up_to_largest(rows: &[Row], places: usize) -> Vec<Row> {
         vectors = vectors.iter().flat_map(longer).collect();
     }
     vectors
+}
+
+/// Numbers the right side's variables as the block has them.
+fn give_right_as_written(answer: &mut Answer) {
+    let right = answer.second.iter_mut().take(answer.figures[1] as usize);
+    right.filter(|atom| **atom < FIRST_CONSTANT).for_each(|atom| *atom -= APART);
 }
 
 /// Sets the byte after the written rows to 0, if there is one.

@@ -1,7 +1,7 @@
 //! Libraries for the nightly text.
 
 use crate::block::{Sides, BLOCK};
-use crate::blocks::{block_sides, damage, good_block};
+use crate::blocks::{block_sides, damage, good_block, written};
 use crate::chance::Chance;
 use crate::examples::{
     AROUND_A_PAGE, AT_LIMITS, BY_HAND, HIGHEST, LONGEST_LIST, LONGEST_VALUE, MOST_ROW_BYTES, PUBLISHED,
@@ -43,7 +43,7 @@ fn named_sides() -> Vec<Sides> {
     let published = PUBLISHED.map(|(left, right, _)| (left, right));
     let extreme = [HIGHEST, LONGEST_LIST, MOST_ROW_BYTES, LONGEST_VALUE];
     let named = BY_HAND.iter().chain(&AT_LIMITS).chain(&AROUND_A_PAGE).chain(&published).chain(&extreme);
-    named.map(|(left, right)| sides(left, right)).filter(fits_a_block).collect()
+    named.map(|(left, right)| sides(left, right)).filter(fits_a_block).map(as_written).collect()
 }
 
 /// Whether terms over both sides can stand in a block.
@@ -53,13 +53,19 @@ fn fits_a_block(sides: &Sides) -> bool {
         .all(|side| (1..=64).contains(&side.len()) && side.iter().all(|&byte| byte < 128))
 }
 
+/// The two sides as they are written.
+fn as_written(sides: Sides) -> Sides {
+    let side = |side: Vec<u8>| side.into_iter().map(written).collect();
+    Sides { left: side(sides.left), right: side(sides.right) }
+}
+
 /// A block with the named pair or, without one, with a random pair and now and then damaged.
 fn next_block(chance: &mut Chance, number: u16, named: Option<Sides>) -> Vec<u8> {
     if let Some(sides) = named {
         return good_block(chance, number, &sides);
     }
     let random = random_sides(chance);
-    let sides = if fits_a_block(&random) { random } else { block_sides(chance) };
+    let sides = if fits_a_block(&random) { as_written(random) } else { block_sides(chance) };
     let mut block = good_block(chance, number, &sides);
     if chance.one_in(6) {
         damage(chance, &mut block);

@@ -13,7 +13,7 @@ const LONGEST_BLOCK: usize = 600;
 impl Questions {
     /// Asks about a good block of every length, with every buffer and with damage at every place.
     pub fn ask_fixed_reads(&mut self) {
-        let good = good_block(&mut self.chance, NUMBER, &sides("v0+v1+c0", "c1+v63+c63"));
+        let good = good_block(&mut self.chance, NUMBER, &sides("v0+v31+c0", "c1+v31+c63"));
         self.ask_with_each_buffer(Ask::Read { expected: NUMBER }, &only(good.clone()));
         for expected in [0, NUMBER - 1, NUMBER + 1, NUMBER.swap_bytes(), u16::MAX] {
             self.ask(Ask::Read { expected }, &only(good.clone()));

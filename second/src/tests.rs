@@ -1,7 +1,7 @@
 //! Document 01's pairs 1 to 17 and its nightly example, the published counts, Fages' rows, and the list
 //! against itself.
 
-use crate::block::{read, seal, BLOCK};
+use crate::block::{read, seal, BLOCK, PLUS};
 use crate::chance::Chance;
 use crate::examples::{
     AROUND_A_PAGE, AT_LIMITS, HIGHEST, LONGEST_LIST, LONGEST_VALUE, MOST_ROW_BYTES, PUBLISHED,
@@ -265,6 +265,23 @@ fn read_number(change: impl Fn(&mut Vec<u8>)) -> u8 {
     read(&changed, 0x0102).map_or_else(Refusal::number, |_| 0)
 }
 
+/// The text of a block whose terms are one atom or two.
+fn text_of(left: &[u8], right: &[u8]) -> String {
+    let lengths = [left, right].map(|term| term.len() as u8);
+    let mut block = block(&[&[0, 0], &lengths[..], left, right].concat(), [0, 0]);
+    seal(&mut block);
+    text(&block).lines().take_while(|line| !line.starts_with("blocks")).collect::<Vec<_>>().join(" / ")
+}
+
+#[test]
+fn patterns_have_separate_variables() {
+    let overlap = "block 0 rows 1 2 / v3=c1 v35=c0 / v3=c1+n0 v35=c0+n0 / end 2";
+    assert_eq!(text_of(&[PLUS, 3, 64], &[PLUS, 3, 65]), overlap);
+    assert_eq!(text_of(&[0], &[0]), "block 0 rows 1 0 / v0=n0 v32=n0 / end 1");
+    assert_eq!(text_of(&[0], &[PLUS, 0, 1]), "block 0 rows 2 0 / v0=n0+n1 v32=n1 v33=n0 / end 1");
+    assert_eq!(text_of(&[31], &[31]), "block 0 rows 1 0 / v31=n0 v63=n0 / end 1");
+}
+
 #[test]
 fn blocks_are_refused_by_the_lowest_number() {
     assert_eq!(read_number(|_| ()), 0);
@@ -277,6 +294,11 @@ fn blocks_are_refused_by_the_lowest_number() {
     assert_eq!(read_number(|block| block[3] = 2), 5);
     assert_eq!(read_number(|block| block[4] = 129), 5);
     assert_eq!(read_number(|block| block[5] = 128), 5);
+    assert_eq!(read_number(|block| block[5] = 31), 0);
+    assert_eq!(read_number(|block| block[5] = 32), 5);
+    assert_eq!(read_number(|block| block[7] = 63), 5);
+    assert_eq!(read_number(|block| block[8] = 32), 6);
+    assert_eq!(read_number(|block| (block[7], block[8]) = (32, 1)), 5);
     assert_eq!(read_number(|block| block[8] = 1), 6);
     assert_eq!(read_number(|block| block[509] = 255), 6);
     assert_eq!(read(&[0; BLOCK], 0).err(), Some(Refusal::Check));

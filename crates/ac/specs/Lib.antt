@@ -2,6 +2,7 @@ pub mod Lists
 pub mod Term
 pub mod Limits
 pub mod Pair
+pub mod Apart
 pub mod Rows
 pub mod Equation
 pub mod Budgets

@@ -1,14 +1,15 @@
 -- The term that some bytes begin with: which bytes begin with one, and with which.
-use Prim.Native.Nat.{ℕ, _<_}
+use Prim.Native.Nat.{ℕ}
 use mathlib.Core.Path.{_≡_, refl, ap, sym, _∙_}
+use mathlib.Core.Logic.{inl, inr}
 use mathlib.Core.List.{List, [], _∷_, _++_, append-assoc, append-nil}
 use native.Mathlib.Omega.{arith}
 use lib.ListN.{length}
 use Rattle.ac.specs.Term.{Term, atom, plus}
 use Rattle.block.specs.Front.{encode, MayBeWritten, Writable, one, two, Writes}
 use Rattle.block.specs.Table.{NoTerm}
-use Rattle.block.specs.Inner.{Begins}
-use Rattle.block.proofs.Terms.{plus-is-no-atom, one-reading}
+use Rattle.block.specs.Inner.{BeginsNoTerm, Begins}
+use Rattle.block.proofs.Terms.{atom-below, plus-is-no-atom, one-reading}
 
 -- a term has at least a byte
 pub empty-begins-not : {bytes : List ℕ} → length bytes ≡ 0 → (t : Term) → Begins bytes t → ⊥
@@ -19,13 +20,23 @@ empty-begins-not e (plus s t) b = omega (arith, ap length (b .splits))
 pub atom-begins : {a : ℕ} (rest : List ℕ) → MayBeWritten a → Begins (a ∷ rest) (atom a)
 atom-begins rest m = record { rest = rest; splits = refl; writable = one m }
 
--- a byte 129 to 255 is no term
-pub above-begins-not : {a : ℕ} {rest : List ℕ} → 128 < a → (t : Term) → Begins (a ∷ rest) t → ⊥
-above-begins-not {a} h (atom b) i = go (i .writable) (let e : a ≡ b = cc (i .splits) in e)
+-- a byte 32 to 63 or 129 to 255 is no atom, and no plus either
+pub no-atom : {b : ℕ} → BeginsNoTerm b → MayBeWritten b → ⊥
+no-atom (inl between) (inl variable) = omega arith
+no-atom (inl between) (inr constant) = omega arith
+no-atom (inr above) m = omega (arith, atom-below m)
+
+no-plus : {b : ℕ} → BeginsNoTerm b → b ≡ 128 → ⊥
+no-plus (inl between) e = omega arith
+no-plus (inr above) e = omega arith
+
+-- so bytes that it stands first in begin with no term
+pub stray-begins-not : {a : ℕ} {rest : List ℕ} → BeginsNoTerm a → (t : Term) → Begins (a ∷ rest) t → ⊥
+stray-begins-not {a} h (atom b) i = go (i .writable) (let e : a ≡ b = cc (i .splits) in e)
   where
     go : Writable (atom b) → a ≡ b → ⊥
-    go (one m) e = omega arith
-above-begins-not {a} h (plus s t) i = let e : a ≡ 128 = cc (i .splits) in omega arith
+    go (one m) e = no-atom h (rw e m)
+stray-begins-not {a} h (plus s t) i = no-plus h (let e : a ≡ 128 = cc (i .splits) in e)
 
 -- after 128 stand two terms
 pub plus-begins : {bytes : List ℕ} {s t : Term} (b : Begins bytes s) → Begins (b .rest) t

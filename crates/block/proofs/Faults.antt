@@ -1,13 +1,13 @@
 -- Number 5 in document 01's words: bytes are no term exactly if the term ends early, has bytes left over or
 -- holds a byte that is neither 128 nor an atom that may be written.
-use Prim.Native.Nat.{ℕ, zero, suc, _<_}
+use Prim.Native.Nat.{ℕ, zero, suc, _≤_, _<_}
 use mathlib.Core.Path.{_≡_, refl, ap, sym, _∙_}
 use mathlib.Core.List.{List, [], _∷_, _++_, List·Memᴰ, List·Memᴰ·head, List·Memᴰ·tail, List·Memᴰ·append-cases, append-assoc, append-nil}
 use mathlib.Core.Logic.{_⊎_, inl, inr, ⊎-elim}
-use native.Mathlib.Decide.{decLt, ℕ-discrete}
+use native.Mathlib.Decide.{decLe, decLt, ℕ-discrete}
 use native.Mathlib.Omega.{arith}
 use lib.ListN.{length, replicate}
-use Rattle.ac.specs.Term.{Term}
+use Rattle.ac.specs.Term.{Term, atom}
 use Rattle.block.specs.Front.{encode, MayBeWritten, Writable, one, two, Writes}
 use Rattle.block.specs.Table.{NoTerm}
 use Rattle.block.proofs.Terms.{one-reading}
@@ -23,7 +23,7 @@ pub data Fault (bytes : List ℕ) : Type 0 where
   ends-early : (b : ℕ) (more : List ℕ) (t : Term) → Writes (bytes ++ b ∷ more) t → Fault bytes
   -- it has bytes left over
   left-over : (b : ℕ) (rest : List ℕ) (t : Term) → Writable t → bytes ≡ encode t ++ b ∷ rest → Fault bytes
-  -- it holds a byte above 128
+  -- it holds a byte above 128 or a byte 32 to 63
   stray-byte : (b : ℕ) → List·Memᴰ b bytes → Stray b → Fault bytes
 
 -- every byte of a term is 128 or an atom that may be written
@@ -48,15 +48,29 @@ fault-is-no-term (left-over b rest t w e) s v =
     no-more (one-reading {x = []} (v .writable) w (append-nil (encode s) ∙ sym (v .exactly) ∙ e) .1)
 fault-is-no-term (stray-byte b m s) t v = no-stray (v .writable) (rw (v .exactly) at m) s
 
+-- whether an atom may be written is decided by its range
+may-be-written : (a : ℕ) → Dec (MayBeWritten a)
+may-be-written a = go (decLt a 32) (decLe 64 a) (decLt a 128)
+  where
+    go : Dec (a < 32) → Dec (64 ≤ a) → Dec (a < 128) → Dec (MayBeWritten a)
+    go (yes variable) l h = yes (inl variable)
+    go (no v) (yes l) (yes h) = yes (inr (l, h))
+    go (no v) (no l) h = no (⊎-elim v (λ constant. l (constant .0)))
+    go (no v) (yes l) (no h) = no (⊎-elim v (λ constant. h (constant .1)))
+
 -- the bytes are k terms, one after the other
 data Terms : ℕ → List ℕ → Type 0 where
   none : Terms 0 []
   next : {k : ℕ} {t : Term} {bytes : List ℕ} → Writable t → Terms k bytes → Terms (suc k) (encode t ++ bytes)
 
--- the variable v0, k times, is k terms
+-- v0 may be written
+v0 : Writable (atom 0)
+v0 = one {a = 0} (inl (omega arith))
+
+-- v0, k times, is k terms
 variables : (k : ℕ) → Terms k (replicate k 0)
 variables zero = none
-variables (suc k) = next (one {a = 0} (omega arith)) (variables k)
+variables (suc k) = next v0 (variables k)
 
 -- 128 and two terms are one
 join : {k : ℕ} {bytes : List ℕ} → Terms (suc (suc k)) bytes → Terms (suc k) (128 ∷ bytes)
@@ -85,11 +99,11 @@ after-plus (stray b i s) = stray b (List·Memᴰ·tail i) s
 -- bytes read from their front, with the number of terms still looked for
 look : (bytes : List ℕ) (k : ℕ) → Found k bytes
 look [] zero = whole [] [] none refl
-look [] (suc k) = early 0 (replicate k 0) (next (one {a = 0} (omega arith)) (variables k))
+look [] (suc k) = early 0 (replicate k 0) (next v0 (variables k))
 look (a ∷ bytes) zero = whole [] (a ∷ bytes) none refl
-look (a ∷ bytes) (suc k) = go (decLt a 128) (ℕ-discrete a 128) (look bytes)
+look (a ∷ bytes) (suc k) = go (may-be-written a) (ℕ-discrete a 128) (look bytes)
   where
-    go : Dec (a < 128) → Dec (a ≡ 128) → ((j : ℕ) → Found j bytes) → Found (suc k) (a ∷ bytes)
+    go : Dec (MayBeWritten a) → Dec (a ≡ 128) → ((j : ℕ) → Found j bytes) → Found (suc k) (a ∷ bytes)
     go (yes m) p later = after-atom m (later k)
     go (no m) (yes e) later = rw e (after-plus (later (suc (suc k))))
     go (no m) (no p) later = stray a (List·Memᴰ·head refl) (record { no-plus = p; no-atom = m })

@@ -14,7 +14,7 @@ use Rattle.ac.specs.Lists.{receives}
 use Rattle.ac.specs.Term.{Term, atom, plus, flatten}
 use Rattle.block.specs.Front.{encode, MayBeWritten, Writes}
 use Rattle.block.specs.Table.{NoTerm}
-use Rattle.block.specs.Inner.{Classified, variable, constant, refused, Begins, Flattens, found, nothing, TakesTermApart, atoms}
+use Rattle.block.specs.Inner.{BeginsNoTerm, Classified, variable, constant, refused, Begins, Flattens, found, nothing, TakesTermApart, atoms}
 use Rattle.block.specs.declared.term.ByteKind.{ByteKind}
 use Rattle.block.specs.declared.term.ByteKind.the-variants.{Plus, Refused}
 use Rattle.block.specs.declared.term.Flattened.{Flattened}
@@ -33,8 +33,8 @@ later-kind above (inr e) = omega arith
 -- a variable or a constant may be written
 pub atom-may-be-written : {b : ℕ} {kind : ByteKind} → Classified b kind → OneOf (0 ∷ 1 ∷ []) (tagOf the-type kind)
     → MayBeWritten b
-atom-may-be-written (variable h) first-two = omega arith
-atom-may-be-written (constant l h) first-two = h
+atom-may-be-written (variable h) first-two = inl h
+atom-may-be-written (constant l h) first-two = inr (l, h)
 atom-may-be-written (Classified.plus e) first-two = absurd (later-kind (omega arith) first-two)
 atom-may-be-written (refused h) first-two = absurd (later-kind (omega arith) first-two)
 
@@ -45,9 +45,9 @@ plus-is-128 (constant l h) e = apart (cc e)
 plus-is-128 (Classified.plus is) e = is
 plus-is-128 (refused h) e = apart (cc e)
 
--- a byte that is refused is above 128
-pub refused-is-above : {b : ℕ} → Classified b Refused → 128 < b
-refused-is-above (refused h) = h
+-- a byte that is refused is no term
+pub refused-is-no-term : {b : ℕ} → Classified b Refused → BeginsNoTerm b
+refused-is-no-term (refused h) = h
 
 -- what is found where the first byte was looked at is found in the whole
 pub after-first-byte : {bytes buffer after : List ℕ} {r : Flattened} → 0 < length bytes

@@ -3,18 +3,18 @@ use Prim.Native.Nat.{ℕ, zero, suc, _+_, _-_, _≤_}
 use mathlib.Core.Path.{_≡_, refl, ap, sym, _∙_}
 use mathlib.Core.Bool.{Bool, true, false, not}
 use mathlib.Core.Logic.{inl, inr}
-use mathlib.Core.List.{List, [], _∷_, _++_, map-id}
+use mathlib.Core.List.{List, [], _∷_, _++_, map}
 use native.Mathlib.Nat.{sub-zero}
 use native.Mathlib.Omega.{arith}
 use borrow.Author.Tests.{not-true, not-false}
-use lib.ListN.{length, take, drop, length-append, length-take}
+use lib.ListN.{length, take, drop, length-append, length-take, length-map}
 use lib.Seq.{slice, take-nil, take-at, take-length}
 use Rattle.ac.specs.Lists.{receives}
 use Rattle.ac.specs.Term.{Term, flatten}
 use Rattle.numbers.specs.First.{also}
 use Rattle.numbers.specs.declared.Refusal.{Refusal}
 use Rattle.numbers.specs.declared.Refusal.the-variants as refusal
-use Rattle.block.specs.Front.{Writes, rightSide}
+use Rattle.block.specs.Front.{Writes, onTheRight, leftSide, rightSide}
 use Rattle.block.specs.Block.{leftTerm, rightTerm, filler}
 use Rattle.block.specs.Table.{NoTerm}
 use Rattle.numbers.specs.Outcome.{given, is-given}
@@ -80,6 +80,16 @@ pub when-no-term : {bytes buffer after : List ℕ} {s : TakenApart} → TakesTer
 when-no-term (atoms w) e = apart (cc e)
 when-no-term (no-term none) e = none
 
+-- the first atoms that are renamed are the first atoms, renamed
+take-map : (n : ℕ) (side : List ℕ) → take n (map onTheRight side) ≡ map onTheRight (take n side)
+take-map zero side = refl
+take-map (suc n) [] = refl
+take-map (suc n) (a ∷ side) = ap {B = List ℕ} (λ l. onTheRight a ∷ l) (take-map n side)
+
+-- what a buffer holds into which atoms are copied
+abbrev copied : List ℕ → List ℕ → List ℕ
+copied side lent = take (length side) side ++ drop (length side) lent
+
 module _ {bytes after : List ℕ} {count : ℕ} (f : SideTerm bytes count after) where
   pub count-within : count ≤ length after
   count-within = omega (arith, simp length-append at (ap length (f .after-is)), f .count-is)
@@ -93,16 +103,21 @@ module _ {bytes after : List ℕ} {count : ℕ} (f : SideTerm bytes count after)
   pub count-fits : length bytes ≤ 127 → count ≤ 64
   count-fits short = omega (arith, f .count-is, atoms-of-term (f .writes) short)
 
-  -- a buffer into which the atoms are copied receives the side
-  pub copied :
-      (lent : List ℕ) →
-      take (length (take count after)) (take count after) ++ drop (length (take count after)) lent
-      ≡ receives lent (flatten (f .term))
-  copied lent = rw (side-is, take-length)
+  -- a buffer into which the atoms are copied receives the left side
+  pub left-copied : (lent : List ℕ) → copied (take count after) lent ≡ receives lent (leftSide (f .term))
+  left-copied lent = rw (side-is, take-length)
 
--- the right term's atoms are themselves
-right-side-is : (t : Term) → rightSide t ≡ flatten t
-right-side-is t = map-id (flatten t)
+  -- renamed they are as many
+  pub renamed-within : {renamed : List ℕ} → renamed ≡ map onTheRight after → count ≤ length renamed
+  renamed-within is = omega (arith, ap length is, length-map after onTheRight, count-within)
+
+  -- and a buffer into which they are copied renamed receives the right side
+  pub right-copied : {renamed : List ℕ} → renamed ≡ map onTheRight after → (lent : List ℕ)
+      → copied (take count renamed) lent ≡ receives lent (rightSide (f .term))
+  right-copied {renamed} is lent =
+      let front : take count renamed ≡ rightSide (f .term) =
+      ap (take count) is ∙ take-map count after ∙ ap (map onTheRight) side-is in
+      rw (front, take-length)
 
 -- the parts of a block that are lent, for terms of these lengths: the left term, the right term and the filler
 module _ (block : List ℕ) (l r : ℕ) where
@@ -173,11 +188,11 @@ module _ {block : List ℕ} {number l r : ℕ} (h : HeaderLengths block number l
           64 ≤ length right →
           z ≡ allZero (fillerPart block l r) →
           not z ≡ false →
-          left-exit ≡ receives left (flatten (f .term)) →
-          right-exit ≡ receives right (flatten (g .term)) →
+          left-exit ≡ receives left (leftSide (f .term)) →
+          right-exit ≡ receives right (rightSide (g .term)) →
           ReadPromise block number left right (given (record { left = m; right = n })) left-exit right-exit
       sides-read {z} {left} {right} left-fits right-fits e t left-is right-is =
-          rw (f .count-is, g .count-is, left-is, right-is, ← right-side-is (g .term))
+          rw (f .count-is, g .count-is ∙ sym (length-map (flatten (g .term)) onTheRight), left-is, right-is)
           (is-given
           (also (not-16 left-fits right-fits)
           (none-given (h .good) left-writes right-writes (rw filler-part-is at (sym e ∙ not-false z t)) left right))

@@ -1,15 +1,21 @@
 -- Front notation is read in one way at most, and n bytes are (n + 1) / 2 atoms.
-use Prim.Native.Nat.{ℕ, _+_, _*_, _≤_}
+use Prim.Native.Nat.{ℕ, _+_, _*_, _≤_, _<_}
 use mathlib.Core.Path.{_≡_, refl, ap, sym, _∙_}
+use mathlib.Core.Logic.{inl, inr}
 use mathlib.Core.List.{List, [], _++_, append-assoc}
 use native.Mathlib.Omega.{arith}
 use lib.ListN.{length, length-append}
 use Rattle.ac.specs.Term.{Term, atom, plus, flatten}
 use Rattle.block.specs.Front.{encode, MayBeWritten, Writable, one, two, Writes}
 
+-- an atom that may be written is below 128
+pub atom-below : {a : ℕ} → MayBeWritten a → a < 128
+atom-below (inl variable) = omega arith
+atom-below (inr constant) = omega arith
+
 -- 128 stands for +, and is no atom
 pub plus-is-no-atom : {a : ℕ} → MayBeWritten a → a ≡ 128 → ⊥
-plus-is-no-atom m e = omega arith
+plus-is-no-atom m e = omega (arith, atom-below m)
 
 -- Two terms at the start of the same bytes are the same term, and the same bytes follow.
 pub one-reading : {s t : Term} {x y : List ℕ} → Writable s → Writable t → encode s ++ x ≡ encode t ++ y

@@ -25,12 +25,16 @@ use Rattle.block.specs.declared.term.Flattened.the-variants.{Found, Noth
 use Rattle.block.specs.declared.term.TakenApart.{TakenApart}
 use Rattle.block.specs.declared.term.TakenApart.the-variants as side
 
--- 0 to 63 are variables, 64 to 127 are constants, 128 is followed by two terms, and a byte 129 to 255 is no term.
+-- A byte 32 to 63 or 129 to 255 is no term.
+abbrev pub BeginsNoTerm : ℕ → Type 0
+BeginsNoTerm byte = ((32 ≤ byte) × (byte < 64)) ⊎ (128 < byte)
+
+-- 0 to 31 are variables, 64 to 127 are constants, 128 is followed by two terms, and every other byte is no term.
 pub data Classified (byte : ℕ) : ByteKind → Type 0 where
-  variable : byte < 64 → Classified byte Variable
+  variable : byte < 32 → Classified byte Variable
   constant : 64 ≤ byte → byte < 128 → Classified byte Constant
   plus : byte ≡ 128 → Classified byte Plus
-  refused : 128 < byte → Classified byte Refused
+  refused : BeginsNoTerm byte → Classified byte Refused
 
 -- The bytes begin with this term.
 pub record Begins (bytes : List ℕ) (t : Term) : Type 0 where

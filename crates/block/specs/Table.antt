@@ -12,8 +12,8 @@ use Rattle.block.specs.Block.{blockNumber, leftLength, rightLength, left
 abbrev pub NoLength : ℕ → Type 0
 NoLength n = (n ≡ 0) ⊎ (127 < n)
 
--- bytes that are no term, since it ends early, has bytes left over or holds a byte above 128
--- (`proofs/Faults.antt`: exactly then)
+-- bytes that are no term, since it ends early, has bytes left over or holds a byte above 128 or, by document 02,
+-- R-1, a byte 32 to 63 (`proofs/Faults.antt`: exactly then)
 abbrev pub NoTerm : List ℕ → Type 0
 NoTerm bytes = (t : Term) → Writes bytes t → ⊥
 
@@ -27,7 +27,7 @@ pub data ReadGiven (block : List ℕ) (number : ℕ) (left right : List ℕ) : �
   block-number : (blockNumber block ≡ number → ⊥) → ReadGiven block number left right 3
   -- a term length is 0 or above 127
   term-length : NoLength (leftLength block) ⊎ NoLength (rightLength block) → ReadGiven block number left right 4
-  -- a term ends early, has bytes left over or holds a byte above 128
+  -- a term ends early, has bytes left over or holds a byte above 128 or a byte 32 to 63
   no-term : NoTerm (leftTerm block) ⊎ NoTerm (rightTerm block) → ReadGiven block number left right 5
   -- a filler byte isn't 0
   filler-byte : (b : ℕ) → List·Memᴰ b (filler block) → (b ≡ 0 → ⊥) → ReadGiven block number left right 6

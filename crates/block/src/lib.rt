@@ -1,4 +1,4 @@
-// Library blocks: the question Read (document 01, "A library block" and "The questions").
+// Library blocks: the question Read (document 01, "A library block" and "The questions"; document 02, R-1).
 mod header;
 mod term;
 
@@ -42,7 +42,7 @@ pub fn read(block: &[u8], number: u16, left: &mut [u8], right: &mut [u8]) -> Rea
 }
 
 // Reads the terms of a block of the right length, and the filler after them. The terms are flattened into two
-// arrays, and the buffers are written once nothing can be refused any more.
+// arrays, the right one's variables are renamed, and the buffers are written once nothing can be refused any more.
 fn read_terms(
     block: &[u8],
     left_length: usize,
@@ -71,6 +71,7 @@ fn read_terms(
         return ReadAnswer::Refused(Refusal::Filler);
     }
     bytes::copy(&left_atoms[..left_count], left);
+    term::rename(&mut right_atoms);
     bytes::copy(&right_atoms[..right_count], right);
     ReadAnswer::Sides {
         left: left_count,

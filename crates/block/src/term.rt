@@ -1,8 +1,10 @@
-// Terms in front notation (document 01, "A library block"): a byte's kind, and flattening by recursion.
+// Terms in front notation (document 01, "A library block"): a byte's kind, flattening by recursion, and the right
+// term's variables renamed (document 02, R-1).
 ghost use Prim.Native.Nat.{ℕ, _+_, _*_, _<_};
-ghost use mathlib.Core.List.{List, _∷_};
+ghost use mathlib.Core.Path.{_≡_};
+ghost use mathlib.Core.List.{List, _∷_, map};
 ghost use lib.ListN.{length};
-ghost use Rattle.block.specs.Front.{MayBeWritten};
+ghost use Rattle.block.specs.Front.{MayBeWritten, onTheRight};
 ghost use Rattle.block.specs.Inner.{Classified, Flattens, TakesTermApart};
 
 // What a byte stands for where a term begins.
@@ -18,7 +20,7 @@ pub fn classify(byte: u8) -> ByteKind
     ensures { λ r. ⌜ Classified byte r ⌝ }
 {
     match byte {
-        0..=63 => ByteKind::Variable,
+        0..=31 => ByteKind::Variable,
         64..=127 => ByteKind::Constant,
         128 => ByteKind::Plus,
         _ => ByteKind::Refused,
@@ -100,4 +102,20 @@ pub fn take_apart(bytes: &[u8], buffer: &mut [u8]) -> TakenApart
         return TakenApart::NoTerm;
     }
     TakenApart::Atoms(atoms)
+}
+
+// Makes each of the right term's atoms what it becomes.
+pub fn rename(atoms: &mut [u8])
+    ensures { λ r. ⌜ now (atoms .exit) ≡ map onTheRight (now (atoms .entry)) ⌝ }
+{
+    for i in 0..atoms.len() {
+        atoms[i] = on_the_right(atoms[i]);
+    }
+}
+
+// What an atom of the right term becomes: a variable gets the number 32 higher, and a constant stays.
+fn on_the_right(atom: u8) -> u8
+    ensures { λ r. ⌜ r ≡ onTheRight atom ⌝ }
+{
+    if atom < 64 { atom + 32 } else { atom }
 }

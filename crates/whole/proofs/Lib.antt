@@ -8,3 +8,4 @@ pub mod Exist
 pub mod OnPages
 pub mod Substitutions
 pub mod Unifiers
+pub mod Apart

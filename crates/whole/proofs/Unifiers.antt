@@ -78,7 +78,7 @@ module _ {M : Mode} (some : M .empties ≡ false) (s t : Term) where
           none-alike (fine .left-side) (fine .right-side)
 
 -- flattening keeps the atoms' order under other names
-flatten-renamed : (name : ℕ → ℕ) (t : Term) → flatten (renamed name t) ≡ map name (flatten t)
+pub flatten-renamed : (name : ℕ → ℕ) (t : Term) → flatten (renamed name t) ≡ map name (flatten t)
 flatten-renamed name (atom a) = refl
 flatten-renamed name (plus s t) =
     ap₂ {C = List ℕ} (λ x y. x ++ y) (flatten-renamed name s) (flatten-renamed name t)
@@ -86,12 +86,12 @@ flatten-renamed name (plus s t) =
 
 module _ {block left right : List ℕ} where
   -- where Read gives sides, the block has two terms
-  its-terms : {lengths : SideLengths} {exit : List ℕ × List ℕ} → ReadGives block left right lengths exit
+  pub its-terms : {lengths : SideLengths} {exit : List ℕ × List ℕ} → ReadGives block left right lengths exit
       → (s t : Term) × Writes (leftTerm block) s × Writes (rightTerm block) t
   its-terms (sides {s = s} {t = t} of-left of-right) = (s, t, of-left, of-right)
 
   -- and what Read wrote are these terms flattened
-  read-sides : {lengths : SideLengths} {exit : List ℕ × List ℕ} {s t : Term}
+  pub read-sides : {lengths : SideLengths} {exit : List ℕ × List ℕ} {s t : Term}
       → ReadGives block left right lengths exit → Writes (leftTerm block) s → Writes (rightTerm block) t
       → (take (lengths .left) (exit .0) ≡ flatten s)
       × (take (lengths .right) (exit .1) ≡ flatten (renamed onTheRight t))

@@ -1,13 +1,13 @@
 -- The words in which the answers to a block are unifiers of its two terms as source document 000 has them
 -- (Fages, RR-0287). The terms are trees, and a substitution is read back from the bytes of Values alone.
-use Prim.Native.Nat.{ℕ}
+use Prim.Native.Nat.{ℕ, _-_}
 use mathlib.Core.Bool.{cond}
 use mathlib.Core.List.{List, map}
 use lib.Dec.{ltb}
 use Rattle.ac.specs.Term.{Term, atom, plus}
 use Rattle.ac.specs.Pair.{Mode, count}
 use Rattle.ac.specs.Values.{Binding}
-use Rattle.ac.specs.Fages.{Substitution, ACUnifier, tree}
+use Rattle.ac.specs.Fages.{Substitution, apply, _=AC_, ACUnifier, tree}
 use Rattle.whole.specs.Whole.{takenApart, readBack}
 
 -- the term with another name for each of its atoms
@@ -27,3 +27,12 @@ readSubstitution bytes x = cond (ltb 0 (count x (variablesIn bytes))) (tree (rea
 -- no substitution is a unifier of the two terms
 abbrev pub NoUnifierOf : Mode → Term → Term → Type 0
 NoUnifierOf M s t = (σ : Substitution) → ACUnifier M s t σ → ⊥
+
+-- Two patterns have separate variables (document 02, R-1): they overlap where one substitution of the first and another
+-- of the second make them equal.
+abbrev pub NoOverlap : Mode → Term → Term → Type 0
+NoOverlap M s t = (σ τ : Substitution) → apply (M .moves) σ s =AC apply (M .moves) τ t → ⊥
+
+-- The two joined to one: σ for v0 to v31, and for each variable that is 32 higher what τ has for it.
+abbrev pub joinedSubstitution : Substitution → Substitution → Substitution
+joinedSubstitution σ τ x = cond (ltb x 32) (σ x) (τ (x - 32))

@@ -3,6 +3,7 @@ pub mod Answering
 pub mod Worked
 pub mod Document
 pub mod Reading
+pub mod Overlap
 pub mod Wrong
 pub mod WrongReads
 pub mod WrongRows

@@ -54,7 +54,7 @@ module _ (L R : List ℕ) (passes : all (tests L R) ≡ true) where
       }
 
   -- what holds of the groups is what is answered
-  printed : (what : Printed) → Holds L R (groups unifying L R) what → AnswersPrinted L R what
+  pub printed : (what : Printed) → Holds L R (groups unifying L R) what → AnswersPrinted L R what
   printed (how-many k) e = (list L R, computed .the-list, e)
   printed (rows rs) e = (groups unifying L R, groups-exist unifying L R, e, computed .the-rows)
   printed (balanced-rows k) e = (groups unifying L R, groups-exist unifying L R, e, computed .the-rows)

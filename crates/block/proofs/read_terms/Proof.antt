@@ -4,9 +4,9 @@ use Prim.Native.Nat.{_+_, _-_, _≤_}
 use mathlib.Core.Path.{_∙_}
 use native.Mathlib.Omega.{arith}
 use borrow.Author.Needs.{needs}
-use lib.ListN.{take, drop, length-take}
+use lib.ListN.{length, take, drop, length-take}
 use Rattle.block.proofs.Settled.{promised-refusal}
-use Rattle.block.proofs.Sides.{SideTerm, when-atoms, when-no-term, left-short, right-short, left-missing, right-missing, filler-wrong, count-within, count-fits, copied, sides-read}
+use Rattle.block.proofs.Sides.{SideTerm, when-atoms, when-no-term, left-short, right-short, left-missing, right-missing, filler-wrong, count-within, count-fits, renamed-within, left-copied, right-copied, sides-read}
 use Rattle.block.proofs.read_terms.Statement.{statement}
 use Rattle.block.proofs.read_terms.Tie as tie
 
@@ -50,6 +50,14 @@ right-fits c =
     let a = entry (left-known c) .args in
     count-fits (right-term c) (right-short (a .block .now) (a .left-length) (a .right-length)
     (entry (left-known c) .pre .0 .2))
+
+-- where the right term's atoms are renamed, there are as many of them
+abbrev right-known : tie.After-right-atoms4 → tie.After-known-told2
+right-known c = c .before .before .before .before .before .before .before .before .before .before .before
+
+right-within : (c : tie.After-right-atoms4)
+    → right-known c .before .right-side .given .0 .0 ≤ length (c .before .rename .last .0)
+right-within c = renamed-within (right-term (right-known c)) (c .before .rename .ensures)
 
 add-left-end : tie.Need-add-left-end
 add-left-end c = search needs
@@ -142,19 +150,21 @@ copy-requires c κs =
     let at-left = left-known (c .before .before .before .before .before) in
     simp length-take (omega (arith, left-fits at-left, entry at-left .pre .1))
 
+slice-aggregate-rename : tie.Need-slice-aggregate-rename
+slice-aggregate-rename c = search needs
+
+rename-requires : tie.Need-rename-requires
+rename-requires c κs = search needs
+
 array-share-prefix-right-atoms : tie.Need-array-share-prefix-right-atoms
-array-share-prefix-right-atoms c =
-    let at-right = c .before .before .before .before .before .before .before .before in
-    omega (arith, count-within (right-term at-right))
+array-share-prefix-right-atoms c = right-within c
 
 slice-aggregate-copy-2 : tie.Need-slice-aggregate-copy-2
-slice-aggregate-copy-2 c =
-    let at-right = c .before .before .before .before .before .before .before .before .before in
-    simp length-take (omega (arith, count-within (right-term at-right)))
+slice-aggregate-copy-2 c = simp length-take (omega (arith, right-within (c .before)))
 
 copy-requires-2 : tie.Need-copy-requires-2
 copy-requires-2 c κs =
-    let at-right = c .before .before .before .before .before .before .before .before .before .before in
+    let at-right = right-known (c .before .before) in
     simp length-take (omega (arith, right-fits at-right, entry (left-known at-right) .pre .1))
 
 same-length : tie.Need-same-length
@@ -165,16 +175,17 @@ same-length-2 c = search needs
 
 returns-4 : tie.Need-returns-4
 returns-4 c number lengths =
-    let at-copies = c .before .before .before .before .before .before .before .before .before .before in
-    let at-right = at-copies .before .before .before in
+    let at-renamed = c .before .before .before .before .before in
+    let at-copies = at-renamed .before .before .before .before .before .before .before .before in
+    let at-right = right-known at-renamed in
     let at-left = left-known at-right in
     let start = entry at-left in
     sides-read lengths (left-term at-left) (right-term at-right) (start .pre .1 .0) (start .pre .1 .1)
     (at-copies .before .all-zero .ensures)
     (at-copies .if1 .left)
-    (c .before .before .before .before .before .before .before .copy .ensures .1
-    ∙ copied (left-term at-left) (start .args .left .now))
-    (c .before .before .copy2 .ensures .1 ∙ copied (right-term at-right) (start .args .right .now))
+    (at-renamed .before .before .before .before .before .copy .ensures .1 ∙ left-copied (left-term at-left) (start .args .left .now))
+    (c .before .before .copy2 .ensures .1
+    ∙ right-copied (right-term at-right) (at-renamed .before .rename .ensures) (start .args .right .now))
 
 pub read-terms-spec : {M : Type 1} → statement M
 read-terms-spec =
@@ -206,6 +217,8 @@ read-terms-spec =
     array-share-prefix-left-atoms
     slice-aggregate-copy
     copy-requires
+    slice-aggregate-rename
+    rename-requires
     array-share-prefix-right-atoms
     slice-aggregate-copy-2
     copy-requires-2

@@ -10,8 +10,8 @@ use borrow.Rule.Slice.PartAt.{part-to-end}
 use lib.ListN.{length, drop, length-drop}
 use Rattle.block.specs.Inner.{Flattens, nothing}
 use Rattle.block.specs.declared.term.Flattened.{Flattened}
-use Rattle.block.proofs.Begins.{empty-begins-not, above-begins-not, first-missing}
-use Rattle.block.proofs.Flattens.{after-first-byte, atom-may-be-written, plus-is-128, refused-is-above, FoundTerm, when-found, when-nothing, found-sizes, filled-within, left-for-second, room-for-second, second-nothing, both-sizes, found-both}
+use Rattle.block.proofs.Begins.{empty-begins-not, stray-begins-not, first-missing}
+use Rattle.block.proofs.Flattens.{after-first-byte, atom-may-be-written, plus-is-128, refused-is-no-term, FoundTerm, when-found, when-nothing, found-sizes, filled-within, left-for-second, room-for-second, second-nothing, both-sizes, found-both}
 use Rattle.block.proofs.term.flatten.Reads as flatten
 use Rattle.block.proofs.term.flatten.Kinds as flatten-kinds
 use Rattle.block.proofs.term.+flatten.Lts-flatten as flatten-lts
@@ -157,8 +157,8 @@ module _ (t : ℕ) where
 
   flatten-returns-3 : Here flatten-lts.Need-returns-3
   flatten-returns-3 c =
-      let above = refused-is-above (rw (c .enum-told2 .given .1) at (c .before .before .classify .ensures)) in
-      after-first-byte (some-bytes (c .before .before)) (nothing (above-begins-not above))
+      let stray = refused-is-no-term (rw (c .enum-told2 .given .1) at (c .before .before .classify .ensures)) in
+      after-first-byte (some-bytes (c .before .before)) (nothing (stray-begins-not stray))
 
   flatten-returns-4 : Here flatten-lts.Need-returns-4
   flatten-returns-4 c =

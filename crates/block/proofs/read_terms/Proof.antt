@@ -157,7 +157,7 @@ rename-requires : tie.Need-rename-requires
 rename-requires c κs = search needs
 
 array-share-prefix-right-atoms : tie.Need-array-share-prefix-right-atoms
-array-share-prefix-right-atoms c = right-within c
+array-share-prefix-right-atoms c = omega (arith, right-within c)
 
 slice-aggregate-copy-2 : tie.Need-slice-aggregate-copy-2
 slice-aggregate-copy-2 c = simp length-take (omega (arith, right-within (c .before)))

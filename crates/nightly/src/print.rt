@@ -38,7 +38,7 @@ fn put_key(table: Table, key: Key, output: &mut [u8], at: usize) -> usize
     ensures { λ r. ⌜ KeyPut table key (now (output .entry)) at r (now (output .exit)) ⌝ }
 {
     let mut bytes = [0u8; ROOM];
-    let answer = solver::values::write(table, key, &mut bytes);
+    let answer = solver::values::write_values(table, key, &mut bytes);
     let ValuesAnswer::Values { length } = answer else {
         return at;
     };

@@ -25,7 +25,7 @@ use Rattle.list.specs.List.{LookedUp}
 use Rattle.list.specs.declared.Lookup.{Lookup}
 use Rattle.list.specs.declared.Lookup.the-variants as lookup
 use Rattle.list.proofs.Finding.{told-listed, told-refused}
-use Rattle.solver.specs.Rows.{rowsBuffer, size, sizesOf, allRows, bytesOf, RowsPromise}
+use Rattle.solver.specs.Rows.{rowsBuffer, sizesAs, size, sizesOf, allRows, bytesOf, RowsPromise}
 use Rattle.solver.specs.Rows as its-rows
 use Rattle.solver.specs.Page.{wantedCount, PageWritten, PagePromise, next}
 use Rattle.solver.specs.Values.{valuesBuffer, ValuesPromise}
@@ -54,28 +54,13 @@ module _ {M : Mode} {L R : List ℕ} {t : Table} (of : TableOf M L R t)
       → first ≡ size (groupsIn t) 0 → second ≡ size (groupsIn t) 1 → third ≡ size (groupsIn t) 2
       → fourth ≡ size (groupsIn t) 3
       → RowsPromise M L R out
-      (given (record {
-        balanced = getD (t .sizes) 0 0;
-        constants = t .unbalanced;
-        first = first;
-        second = second;
-        third = third;
-        fourth = fourth;
-      }))
-      after
+      (given (sizesAs (getD (t .sizes) 0 0) (t .unbalanced) first second third fourth)) after
   rows-promised {out} {after} {put} {first} {second} {third} {fourth} long written within e₁ e₂ e₃ e₄ =
       subst₂ (λ sizes after. RowsPromise M L R out (given sizes) after) sizes
       (sym (put-received written (omega arith)))
       (is-given (none-of-sides rows-made long none) (its-rows.rows (of .the-groups)))
     where
-      sizes : sizesOf (groupsIn t) ≡ record {
-        balanced = getD (t .sizes) 0 0;
-        constants = t .unbalanced;
-        first = first;
-        second = second;
-        third = third;
-        fourth = fourth;
-      }
+      sizes : sizesOf (groupsIn t) ≡ sizesAs (getD (t .sizes) 0 0) (t .unbalanced) first second third fourth
       sizes = cc (length-groupAt t 0, how-many-constants t (of .within), e₁, e₂, e₃, e₄)
 
   module _ {begin : Beginning} {wanted : ℕ} {out : List ℕ} (enough : wantedCount wanted ≤ length out)

@@ -34,18 +34,22 @@ pub record GroupSizes : Type 0 where
   pub third : ℕ
   pub fourth : ℕ
 
--- document 01's number and values for each case of the answer
-abbrev pub toldRows : RowsAnswer → Outcome GroupSizes
-toldRows (answer.Groups balanced constants first second third fourth) =
-    given
-    (record {
+-- the sizes, by their numbers
+abbrev pub sizesAs : ℕ → ℕ → ℕ → ℕ → ℕ → ℕ → GroupSizes
+sizesAs balanced constants first second third fourth =
+    record {
       balanced = balanced;
       constants = constants;
       first = first;
       second = second;
       third = third;
       fourth = fourth;
-    })
+    }
+
+-- document 01's number and values for each case of the answer
+abbrev pub toldRows : RowsAnswer → Outcome GroupSizes
+toldRows (answer.Groups balanced constants first second third fourth) =
+    given (sizesAs balanced constants first second third fourth)
 toldRows (answer.Refused refusal) = refused (saidOf refusal)
 
 -- the size of a constant's group, by the constant's place among the unbalanced ones

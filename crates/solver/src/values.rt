@@ -153,7 +153,7 @@ fn put_bindings(
 }
 
 // The values of a key on the list, unless one would be too long.
-pub fn write(table: Table, key: Key, out: &mut [u8]) -> ValuesAnswer
+pub fn write_values(table: Table, key: Key, out: &mut [u8]) -> ValuesAnswer
     requires { ⌜ InRoom table ⌝ }
     requires { ⌜ valuesBuffer ≤ length (now out) ⌝ }
     ensures { λ r. ⌜ ValuesWritten table key (now (out .entry)) (toldValues r) (now (out .exit)) ⌝ }
@@ -179,7 +179,7 @@ pub fn values_of(table: Table, key: Key, out: &mut [u8]) -> ValuesAnswer
     let found = find_key(masks, key);
     match found {
         Lookup::Refused(refusal) => ValuesAnswer::Refused(refusal),
-        Lookup::Listed => write(table, key, out),
+        Lookup::Listed => write_values(table, key, out),
     }
 }
 

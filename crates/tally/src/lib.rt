@@ -54,7 +54,7 @@ pub fn tally(counts: Totals, read: ReadAnswer, rows: RowsAnswer, page: PageAnswe
     ensures { λ r. ⌜ Tallies counts (toldBlock read rows page) r ⌝ }
 {
     let line = line_of(read, rows, page);
-    let after = count(counts, line);
+    let after = count_line(counts, line);
     Tallied {
         place: counts.blocks,
         line,
@@ -122,7 +122,7 @@ fn sum(a: u64, b: u64) -> u64
 }
 
 // The counts after a block with this line: each is counted by its own kind of line.
-fn count(counts: Totals, line: Line) -> Totals
+fn count_line(counts: Totals, line: Line) -> Totals
     ensures { λ r. ⌜ r ≡ counted counts line ⌝ }
 {
     let mut after = counts;

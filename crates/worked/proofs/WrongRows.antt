@@ -7,24 +7,12 @@ use mathlib.Core.List.{List, [], _∷_}
 use lib.ListN.{length, getD, replicate}
 use Rattle.numbers.specs.Outcome.{given}
 use Rattle.numbers.proofs.Promises.{same-values}
-use Rattle.solver.specs.Rows.{GroupSizes, rowsBuffer}
+use Rattle.solver.specs.Rows.{sizesAs, rowsBuffer}
 use Rattle.worked.specs.Questions.{SidesAsked, rowsQuestion}
 use Rattle.worked.specs.Answers.{RowsAnswers, numbered, ofPair}
 use Rattle.worked.specs.Programs.{Program, MeetsAt, RefusesEverything, ConstantResult, WritesNothing}
 use Rattle.worked.proofs.Worked.{worked-groups}
 use Rattle.worked.proofs.Wrong as wrong
-
--- the sizes of the groups
-abbrev sizes : ℕ → ℕ → ℕ → ℕ → ℕ → ℕ → GroupSizes
-sizes balanced constants first second third fourth =
-    record {
-      balanced = balanced;
-      constants = constants;
-      first = first;
-      second = second;
-      third = third;
-      fourth = fourth;
-    }
 
 -- the pair of that number
 abbrev asked : ℕ → SidesAsked (Unit {0})
@@ -32,12 +20,12 @@ asked n = ofPair n tt
 
 -- pair 2: rows 0101, 0110, 1001, 1010
 four-rows : RowsAnswers (numbered 2 .left) (numbered 2 .right)
-    (sizes 4 0 0 0 0 0) ((0 ∷ 1 ∷ 0 ∷ 1 ∷ []) ∷ (0 ∷ 1 ∷ 1 ∷ 0 ∷ []) ∷ (1 ∷ 0 ∷ 0 ∷ 1 ∷ []) ∷
+    (sizesAs 4 0 0 0 0 0) ((0 ∷ 1 ∷ 0 ∷ 1 ∷ []) ∷ (0 ∷ 1 ∷ 1 ∷ 0 ∷ []) ∷ (1 ∷ 0 ∷ 0 ∷ 1 ∷ []) ∷
     (1 ∷ 0 ∷ 1 ∷ 0 ∷ []) ∷ [])
 four-rows = worked-groups 2 (omega arith) (omega arith) .the-rows
 
 -- pair 10: c0 has two rows
-two-rows : RowsAnswers (numbered 10 .left) (numbered 10 .right) (sizes 0 1 2 0 0 0) ((0 ∷ 1 ∷ []) ∷ (1 ∷ 0 ∷ []) ∷ [])
+two-rows : RowsAnswers (numbered 10 .left) (numbered 10 .right) (sizesAs 0 1 2 0 0 0) ((0 ∷ 1 ∷ []) ∷ (1 ∷ 0 ∷ []) ∷ [])
 two-rows = worked-groups 10 (omega arith) (omega arith) .the-rows
 
 module _ (program : Program rowsQuestion) where
@@ -54,8 +42,8 @@ module _ (program : Program rowsQuestion) where
 
     -- It invents row counts: pair 10 has no balanced row and one unbalanced constant, which has two.
     pub invented-sizes-fail : (balanced constants first second third fourth : ℕ)
-        → program (asked 10) out .outcome ≡ given (sizes balanced constants first second third fourth)
-        → (sizes balanced constants first second third fourth ≡ sizes 0 1 2 0 0 0 → ⊥)
+        → program (asked 10) out .outcome ≡ given (sizesAs balanced constants first second third fourth)
+        → (sizesAs balanced constants first second third fourth ≡ sizesAs 0 1 2 0 0 0 → ⊥)
         → MeetsAt program (asked 10) out → ⊥
     invented-sizes-fail balanced constants first second third fourth returns others =
         wrong.other-outcome-fails program (two-rows out enough) (λ e. others (cc (e, returns)))

@@ -8,15 +8,15 @@ use Rattle.tally.proofs.tally.Tie as tie
 line-of-requires : tie.Need-line-of-requires
 line-of-requires c κs = search needs
 
-count-requires : tie.Need-count-requires
-count-requires c κs = search needs
+count-line-requires : tie.Need-count-line-requires
+count-line-requires c κs = search needs
 
 returns : tie.Need-returns
 returns c = record {
   the-place = refl;
   the-line = c .before .line-of .ensures;
-  the-counts = c .count .ensures ∙ ap (counted (c .before .before .args .counts)) (c .before .line-of .ensures);
+  the-counts = c .count-line .ensures ∙ ap (counted (c .before .before .args .counts)) (c .before .line-of .ensures);
 }
 
 pub tally-spec : {M : Type 1} → statement M
-tally-spec = tie.close (tie.spec line-of-requires count-requires returns)
+tally-spec = tie.close (tie.spec line-of-requires count-line-requires returns)

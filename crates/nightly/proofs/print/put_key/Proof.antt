@@ -15,11 +15,11 @@ use borrow.Author.Needs.{needs}
 use Rattle.nightly.proofs.print.put_key.Statement.{statement}
 use Rattle.nightly.proofs.print.put_key.Tie as tie
 
-slice-aggregate-write : tie.Need-slice-aggregate-write
-slice-aggregate-write c = search needs
+slice-aggregate-write-values : tie.Need-slice-aggregate-write-values
+slice-aggregate-write-values c = search needs
 
-write-requires : tie.Need-write-requires
-write-requires c κs = search needs
+write-values-requires : tie.Need-write-values-requires
+write-values-requires c κs = search needs
 
 enum-known-answer : tie.Need-enum-known-answer
 enum-known-answer c = search needs
@@ -33,7 +33,7 @@ returns c = (
   λ L R solved listed.
       absurd
       (not-long (solved .none-given) (solved .the-table .the-groups) listed
-      (refused-is-long (c .before .before .before .write .ensures unifying L R refl (solved .the-table) listed)
+      (refused-is-long (c .before .before .before .write-values .ensures unifying L R refl (solved .the-table) listed)
       (ap toldValues (c .enum-told .given .1)))),
 )
 
@@ -46,16 +46,16 @@ array-share-prefix-bytes c = search needs
 slice-aggregate-put-substitution-line : tie.Need-slice-aggregate-put-substitution-line
 slice-aggregate-put-substitution-line c =
     let at-write = c .before .before .before .before .before .before .before in
-    let w = at-write .write in
+    let w = at-write .write-values in
     let within : c .before .before .least .result ≤ length (w .last .1 .1 .0) =
     omega (arith, c .before .before .least .ensures, w .kept .1 .1 .0) in
-    sym (length-take-le (c .before .before .least .result) (at-write .write .last .1 .1 .0) within)
+    sym (length-take-le (c .before .before .least .result) (at-write .write-values .last .1 .1 .0) within)
 
 put-substitution-line-requires : tie.Need-put-substitution-line-requires
 put-substitution-line-requires c κs =
     let at-write = c .before .before .before .before .before .before .before in
     let l = c .before .before .least in
-    omega (arith, l .ensures, length-take (l .result) (at-write .write .last .1 .1 .0))
+    omega (arith, l .ensures, length-take (l .result) (at-write .write-values .last .1 .1 .0))
 
 same-length : tie.Need-same-length
 same-length c = search needs
@@ -67,7 +67,7 @@ returns-2 c =
     let at-write = at-answer .before .before .before in
     let entry = at-write .before .before .before in
     let a = entry .args in
-    let w = at-write .write in
+    let w = at-write .write-values in
     let l = at-least .least in
     let bytes = w .last .1 .1 .0 in
     let all : min (at-answer .answer .given .0 .0) (length bytes) ≡ l .result = omega (arith, l .ensures, w .kept .1 .1 .0) in
@@ -83,8 +83,8 @@ pub put-key-spec : {M : Type 1} → statement M
 put-key-spec =
     tie.close
     (tie.spec
-    slice-aggregate-write
-    write-requires
+    slice-aggregate-write-values
+    write-values-requires
     enum-known-answer
     enum-told
     returns

@@ -23,8 +23,8 @@ enum-known-found c = search needs
 enum-told : tie.Need-enum-told
 enum-told c = search needs
 
-write-requires : tie.Need-write-requires
-write-requires c κs = search needs
+write-values-requires : tie.Need-write-values-requires
+write-values-requires c κs = search needs
 
 returns-2 : tie.Need-returns-2
 returns-2 c = λ M L R of none full.
@@ -42,7 +42,7 @@ returns-3 c = λ M L R of none full.
     values-promised of none (omega arith)
     (asked .find-key .ensures _ (asked .before .masks-of .ensures .0) M L R full of)
     (found .enum-told .given .1)
-    (c .before .before .write .ensures M L R full of)
+    (c .before .before .write-values .ensures M L R full of)
 
 pub values-of-spec : {M : Type 1} → statement M
 values-of-spec =
@@ -53,7 +53,7 @@ values-of-spec =
     find-key-requires
     enum-known-found
     enum-told
-    write-requires
+    write-values-requires
     returns-2
     same-length
     returns-3)

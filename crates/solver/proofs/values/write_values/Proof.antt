@@ -1,12 +1,12 @@
--- `solver::values::write` meets its contract: what is counted and put of the selection are the values of the listed
+-- `solver::values::write_values` meets its contract: what is counted and put of the selection are the values of the listed
 -- key. Assumes nothing.
 use native.Mathlib.Omega.{arith}
 use mathlib.Core.Path.{sym, subst, _∙_}
 use borrow.Author.Needs.{needs}
 use Rattle.list.specs.Runs.{Fit}
 use Rattle.solver.proofs.ValuesWritten.{writes-long, writes-values}
-use Rattle.solver.proofs.values.write.Statement.{statement}
-use Rattle.solver.proofs.values.write.Tie as tie
+use Rattle.solver.proofs.values.write_values.Statement.{statement}
+use Rattle.solver.proofs.values.write_values.Tie as tie
 
 selection-of-requires : tie.Need-selection-of-requires
 selection-of-requires c κs = search needs
@@ -43,8 +43,8 @@ returns-2 c = λ M L R full of listed.
     writes-values of listed (tested .before .before .before .before .selection-of .ensures)
     (sym (tested .if1 .left) ∙ tested .before .too-long .ensures) (omega (arith, put .1)) (put .0)
 
-pub write-spec : {M : Type 1} → statement M
-write-spec =
+pub write-values-spec : {M : Type 1} → statement M
+write-values-spec =
     tie.close
     (tie.spec
     selection-of-requires

@@ -1,7 +1,7 @@
--- `tally::count` meets its contract: each arm raises B and the count of its own kind of line. Assumes nothing.
+-- `tally::count_line` meets its contract: each arm raises B and the count of its own kind of line. Assumes nothing.
 use borrow.Author.Needs.{needs}
-use Rattle.tally.proofs.count.Statement.{statement}
-use Rattle.tally.proofs.count.Tie as tie
+use Rattle.tally.proofs.count_line.Statement.{statement}
+use Rattle.tally.proofs.count_line.Tie as tie
 
 one-more-requires : tie.Need-one-more-requires
 one-more-requires c κs = search needs
@@ -36,8 +36,8 @@ returns-3 : tie.Need-returns-3
 returns-3 c =
     simp (c .before .enum-told3 .given .1, c .before .before .before .one-more .ensures, c .one-more4 .ensures)
 
-pub count-spec : {M : Type 1} → statement M
-count-spec =
+pub count-line-spec : {M : Type 1} → statement M
+count-line-spec =
     tie.close
     (tie.spec
     one-more-requires

@@ -33,6 +33,6 @@ def given(returned, *buffers):
     return struct.pack(">x6I", *returned, *[0] * (6 - len(returned))) + b"".join(buffers)
 
 
-def refused(number, *lent):
-    """The answer of a question that is refused: its number, and buffers of these lengths as they were."""
-    return struct.pack(">B24x", number) + b"".join(map(buffer, lent))
+def refused(number, *lent, atom=0):
+    """The answer of a question that is refused: its number, the atom that 10 names, and buffers of these lengths as they were."""
+    return struct.pack(">BI20x", number, atom) + b"".join(map(buffer, lent))

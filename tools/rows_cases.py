@@ -1,7 +1,7 @@
 """Cases of Rows for the program probe, from tests/rows.txt: worked by hand from document 01's definitions.
 
 A case is a line `name: left = right`, and below it, further in, the groups of rows, each behind its name (`balanced` or
-the constant's), or `refused` and the number. A row is a digit for each variable; a group without rows is `none`. The lent
+the constant's), or `refused`, the number and the atom that it names. A row is a digit for each variable; a group without rows is `none`. The lent
 buffer has 512 bytes, or as many as a line says that ends `in 480 bytes`. A side without atoms is `nothing`; a number in a
 side stands for that byte.
 """
@@ -36,7 +36,7 @@ def side(text):
 def answer(words, lent):
     """The sizes of the groups and the buffer with the rows in front, or the number."""
     if words[0] == "refused":
-        return refused(int(words[1]), lent)
+        return refused(int(words[1]), lent, atom=side(words[2])[0] if words[2:] else 0)
     groups = []
     for word in words:
         if word.isdigit():

@@ -45,6 +45,8 @@ class Second:
         sides = map(flattened, pair(text))
         asked = question(PAGE, *sides, wanted or 200, number=after or 0, after=after is not None, wanted=wanted)
         answer = self.ask(f"Page of {text}, {begin}, {wanted} wanted", asked)
+        if answer[0]:
+            return (), False
         written, more = struct.unpack(">2I", answer[1:9])
         return struct.unpack(f">{written}I", answer[25 : 25 + 4 * written]), more == 1
 

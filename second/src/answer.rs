@@ -19,7 +19,7 @@ struct Given {
 pub fn answer(question: &Question, solve: impl Fn(&Sides) -> Result<Solved, Refusal>) -> Answer {
     let (number, given) = match give(question, solve) {
         Ok(given) => (0, given),
-        Err(refusal) => (refusal.number(), Given::default()),
+        Err(refusal) => (refusal.number(), Given { figures: named(refusal), ..Given::default() }),
     };
     Answer {
         number,
@@ -27,6 +27,13 @@ pub fn answer(question: &Question, solve: impl Fn(&Sides) -> Result<Solved, Refu
         first: buffer(question.fill, question.first_bytes(), &given.first),
         second: buffer(question.fill, usize::from(question.second_buffer), &given.second),
     }
+}
+
+/// What is returned beside a refusal's number: the atom that it names, if any.
+fn named(refusal: Refusal) -> [u32; FIGURES] {
+    let mut figures = [0; FIGURES];
+    figures[0] = refusal.atom().map_or(0, u32::from);
+    figures
 }
 
 /// A buffer full of one byte, after the given bytes have been written to its beginning.

@@ -1,11 +1,11 @@
 //! Planted faults: answers that are wrong in one known way, to show that the comparison can fail. One for
-//! each question, one for the variables of a right term, one for each plausible error of document 01, and two
-//! in the nightly text.
+//! each question, one for the variables of a right term, two for the atom that 10 names, one for each plausible
+//! error of document 01, and two in the nightly text.
 
 use crate::answer::answer;
 use crate::block::{Sides, APART};
 use crate::list::{stages, List};
-use crate::pair::{Pair, FIRST_CONSTANT};
+use crate::pair::{net_counts, Pair, FIRST_CONSTANT, FURTHEST_NET_COUNT};
 use crate::question::{Answer, Ask, Question};
 use crate::refusal::Refusal;
 use crate::rows::{at_or_below, weight, Groups, Row, MOST_ROWS};
@@ -39,6 +39,10 @@ pub enum Fault {
     HalfSumsLeftOut,
     /// A new vector is compared only with the row found last.
     LastRowOnly,
+    /// A net count too far from 0 is told with the highest such atom.
+    HighestAtom,
+    /// The atom named is the first that stands too often and not the lowest.
+    FirstAtom,
     /// The nightly text says `more` for a list of exactly 200.
     TextMore,
     /// The nightly text counts blocks without unifier as refused.
@@ -46,7 +50,7 @@ pub enum Fault {
 }
 
 /// All faults by name.
-pub const FAULTS: [(&str, Fault); 13] = [
+pub const FAULTS: [(&str, Fault); 15] = [
     ("number-before-check", Fault::NumberBeforeCheck),
     ("right-as-written", Fault::RightAsWritten),
     ("byte-after-rows", Fault::ByteAfterRows),
@@ -58,6 +62,8 @@ pub const FAULTS: [(&str, Fault); 13] = [
     ("constants-mixed", Fault::ConstantsMixed),
     ("half-sums-left-out", Fault::HalfSumsLeftOut),
     ("last-row-only", Fault::LastRowOnly),
+    ("highest-atom", Fault::HighestAtom),
+    ("first-atom", Fault::FirstAtom),
     ("text-more", Fault::TextMore),
     ("text-counts", Fault::TextCounts),
 ];
@@ -172,9 +178,22 @@ impl Fault {
                 answer.figures[1] = u32::from(answer.figures[0] as usize == question.ask.wanted());
             }
             (Fault::NewVariablesFirst, Ask::Values { .. }) => put_new_variables_first(answer),
+            (Fault::HighestAtom | Fault::FirstAtom, _) if answer.number == Refusal::NetCount(0).number() => {
+                let far = far_atoms(&question.sides);
+                let first =
+                    question.sides.left.iter().chain(&question.sides.right).find(|atom| far.contains(atom));
+                let atom = if self == Fault::HighestAtom { far.last() } else { first };
+                answer.figures[0] = atom.map_or(0, |&atom| u32::from(atom));
+            }
             _ => (),
         }
     }
+}
+
+/// The atoms whose net counts are too far from 0, ascending.
+fn far_atoms(sides: &Sides) -> Vec<u8> {
+    let far = net_counts(sides).into_iter().filter(|count| count.net.abs() > FURTHEST_NET_COUNT);
+    far.map(|count| count.atom).collect()
 }
 
 /// Does the same to the balanced rows and to those of each constant.

@@ -10,7 +10,8 @@ pub const FIRST_CONSTANT: u8 = 64;
 pub const LAST_ATOM: u8 = 127;
 const MOST_ATOMS: usize = 64;
 const MOST_VARIABLES: usize = 6;
-const FURTHEST_NET_COUNT: i32 = 8;
+/// How far from 0 a net count may be.
+pub const FURTHEST_NET_COUNT: i32 = 8;
 const MOST_CONSTANTS: usize = 4;
 
 /// An atom with its occurrences on the left minus those on the right.
@@ -41,8 +42,10 @@ impl Pair {
         if variables.len() > MOST_VARIABLES {
             return Err(Refusal::Variables);
         }
-        if variables.iter().chain(&constants).any(|count| count.net.abs() > FURTHEST_NET_COUNT) {
-            return Err(Refusal::NetCount);
+        let too_frequent =
+            variables.iter().chain(&constants).filter(|count| count.net.abs() > FURTHEST_NET_COUNT);
+        if let Some(lowest) = too_frequent.min_by_key(|count| count.atom) {
+            return Err(Refusal::NetCount(lowest.atom));
         }
         constants.retain(|count| count.net != 0);
         if constants.len() > MOST_CONSTANTS {

@@ -6,6 +6,8 @@ use crate::rows::MOST_ROWS;
 
 /// The refusals that must be met: 17 never happens in the base.
 const MET_REFUSALS: usize = 16;
+/// The refusal that names an atom.
+const TOO_FREQUENT: u8 = 10;
 /// All refusals, and 0 for none.
 const NUMBERS: usize = 18;
 
@@ -22,6 +24,8 @@ pub struct Seen {
     without_variables: usize,
     net_count_zero: usize,
     balanced_constant: usize,
+    named_variable: usize,
+    named_constant: usize,
     balanced_sizes: [usize; MOST_ROWS + 1],
     constant_sizes: [usize; MOST_ROWS + 1],
 }
@@ -40,6 +44,8 @@ impl Seen {
             (0, Ask::Rows) => self.note_rows(question, answer),
             (0, Ask::Page { .. }) if answer.figures[1] == 1 => self.more += 1,
             (0, Ask::Page { .. }) => self.no_more += 1,
+            (TOO_FREQUENT, _) if answer.figures[0] < u32::from(FIRST_CONSTANT) => self.named_variable += 1,
+            (TOO_FREQUENT, _) => self.named_constant += 1,
             _ => (),
         }
     }
@@ -73,6 +79,8 @@ impl Seen {
             ("pair without variables", self.without_variables),
             ("variable of net count 0", self.net_count_zero),
             ("balanced constant", self.balanced_constant),
+            ("10 that names a variable", self.named_variable),
+            ("10 that names a constant", self.named_constant),
         ];
         wanted.extend(others.map(|(what, times)| (what.to_string(), times)));
         wanted

@@ -161,6 +161,16 @@ fn limits_are_refused_by_the_lowest_number() {
     }
 }
 
+#[test]
+fn ten_names_the_lowest_atom() {
+    let named = |left, right| Solved::of(&sides(left, right)).err().map(|why| (why.number(), why.atom()));
+    assert_eq!(named("9v0", "v1"), Some((10, Some(0))));
+    assert_eq!(named("10c0", "c0"), Some((10, Some(64))));
+    assert_eq!(named("9c0+9v0", "v1"), Some((10, Some(0))));
+    assert_eq!(named("v0", "9v39"), Some((10, Some(39))));
+    assert_eq!(named("v0+v1+v2+v3+v4+v5", "9v6"), Some((9, None)));
+}
+
 /// The list of a pair is ascending, as long as inclusion and exclusion count, and goes on after each of its
 /// keys.
 fn list_agrees_with_itself(pair: &Solved) {
@@ -248,8 +258,10 @@ fn library_has_every_kind_of_line() {
     let mut library = Vec::new();
     Library { seed: 1, blocks: 1000, zeros: 5 }.write(&mut library).expect("memory can be written");
     let text = text(&library);
-    let refused = [1, 2, 3, 4, 5, 6, 9, 10, 11, 12].map(|number| format!(" refused {number}\n"));
-    let others = [" none\n", "\nmore\n", "\nend 199\n", "\nend 200\n", "\n-\n"].map(str::to_string);
+    let refused = [1, 2, 3, 4, 5, 6, 9, 11, 12].map(|number| format!(" refused {number}\n"));
+    let others =
+        [" refused 10 v", " refused 10 c", " none\n", "\nmore\n", "\nend 199\n", "\nend 200\n", "\n-\n"]
+            .map(str::to_string);
     for line in refused.iter().chain(&others) {
         assert!(text.contains(line.as_str()), "{line}");
     }

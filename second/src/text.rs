@@ -67,7 +67,8 @@ fn write_block(text: &mut impl Write, place: u64, block: &[u8], counts: &mut Cou
         }
         Err(refusal) => {
             counts.refused += 1;
-            writeln!(text, "block {place} refused {}", refusal.number())
+            let atom = refusal.atom().map_or(String::new(), |atom| format!(" {}", name(atom)));
+            writeln!(text, "block {place} refused {}{atom}", refusal.number())
         }
     }
 }

@@ -19,8 +19,8 @@ use Rattle.numbers.proofs.Carried.{and-true}
 use Rattle.block.specs.Front.{Writes}
 use Rattle.block.specs.Block.{blockNumber, leftLength, rightLength, leftTerm, rightTerm, filler, check, checkOfBytes}
 use Rattle.block.specs.Table.{ReadGiven, block-length, check-differs, block-number, term-length, no-term, filler-byte, short-buffer, NoLength, NoTerm}
-use Rattle.numbers.specs.Outcome.{refused}
-use Rattle.numbers.proofs.Promises.{refuse}
+use Rattle.numbers.specs.Outcome.{refused, is-refused}
+use Rattle.numbers.proofs.Said.{refuses-alone}
 use Rattle.block.specs.Read.{ReadPromise}
 use Rattle.block.specs.Inner.{IsLength, TermLengths, within, outside, allZero, BlockRefuses, GoodHeader}
 use Rattle.block.proofs.Apart.{apart}
@@ -159,7 +159,9 @@ shorter-is-short m n h = go (decLt m 64)
 module _ {block : List ℕ} {number : ℕ} {left right : List ℕ} where
   pub short-buffer-first : min (length left) (length right) < 64
       → ReadPromise block number left right (refused (saidOf refusal.ShortBuffer)) left right
-  short-buffer-first h = refuse (here (short-buffer (shorter-is-short (length left) (length right) h)))
+  short-buffer-first h =
+      is-refused (refuses-alone refl refusal.ShortBuffer
+      (here (short-buffer (shorter-is-short (length left) (length right) h))))
 
   module _ (left-fits : 64 ≤ length left) (right-fits : 64 ≤ length right) where
     -- both buffers are long enough
@@ -170,4 +172,4 @@ module _ {block : List ℕ} {number : ℕ} {left right : List ℕ} where
     -- the block's own number, where 16 is not given
     pub promised-refusal : {why : Refusal} → BlockRefuses block number why
         → ReadPromise block number left right (refused (saidOf why)) left right
-    promised-refusal r = refuse (later not-16 (r .first left right))
+    promised-refusal {why} r = is-refused (refuses-alone refl why (later not-16 (r .first left right)))

@@ -6,7 +6,7 @@ use Rattle.ac.specs.Lists.{receives}
 use Rattle.ac.specs.Term.{Term}
 use Rattle.numbers.specs.Numbers.{saidOf}
 use Rattle.numbers.specs.Order.{readNumbers}
-use Rattle.numbers.specs.Outcome.{Outcome, refused, given, Promise}
+use Rattle.numbers.specs.Outcome.{Outcome, refused, given, NamesNone, Promise}
 use Rattle.block.specs.Front.{Writes, leftSide, rightSide}
 use Rattle.block.specs.Block.{leftTerm, rightTerm}
 use Rattle.block.specs.Table.{ReadGiven}
@@ -33,5 +33,5 @@ pub data ReadGives (block left right : List ℕ) : SideLengths → List ℕ × L
 -- What Read promises of its outcome and of the two lent buffers at exit.
 abbrev pub ReadPromise : List ℕ → ℕ → List ℕ → List ℕ → Outcome SideLengths → List ℕ → List ℕ → Type 0
 ReadPromise block number left right outcome left′ right′ =
-    Promise (ReadGiven block number left right) readNumbers (ReadGives block left right) (left, right) outcome
-    (left′, right′)
+    Promise (ReadGiven block number left right) NamesNone readNumbers (ReadGives block left right) (left, right)
+    outcome (left′, right′)

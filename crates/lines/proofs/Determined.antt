@@ -10,7 +10,7 @@ use Rattle.ac.proofs.Groups.{groups-unique}
 use Rattle.numbers.specs.Outcome.{Said, Outcome, refused, given}
 use Rattle.numbers.proofs.Promises.{outcome-determined, refused-not-given, same-values}
 use Rattle.block.specs.Read.{SideLengths}
-use Rattle.block.proofs.Determined.{one-result}
+use Rattle.block.proofs.Determined.{one-read}
 use Rattle.solver.specs.Rows.{GroupSizes}
 use Rattle.solver.specs.Page.{PageWritten}
 use Rattle.solver.proofs.Determined.{one-rows, one-page}
@@ -66,15 +66,15 @@ pair-determined {L} {R} (a-page {sizes = z} {page = w} {keys = keys} {G = G} f p
 -- what a block comes to
 pub found-determined : {block : List ℕ} {number : ℕ} {r r′ : Outcome BlockFound} {p p′ : List (List Binding)}
     → Returns block number r p → Returns block number r′ p′ → SameFound r r′ p p′
-found-determined (read-refused f) (read-refused g) = same-refusal (outcome-determined one-result f g .0)
+found-determined (read-refused f) (read-refused g) = same-refusal (outcome-determined one-read f g .0)
 found-determined (read-refused f) (sides g pair) =
-    absurd (refused-not-given (outcome-determined one-result f g .0))
+    absurd (refused-not-given (outcome-determined one-read f g .0))
 found-determined (sides f pair) (read-refused g) =
-    absurd (refused-not-given (outcome-determined one-result g f .0))
+    absurd (refused-not-given (outcome-determined one-read g f .0))
 found-determined {r = r} {r′} {p} {p′}
     (sides {lengths = n} {left = left} {right = right} f pair)
     (sides {lengths = n′} {left = left′} {right = right′} g pair′) =
-    let same = outcome-determined one-result f g in
+    let same = outcome-determined one-read f g in
     let lengths : n ≡ n′ = same-values (same .0) in
     let left-length = ap (λ (n : SideLengths). n .left) lengths in
     let right-length = ap (λ (n : SideLengths). n .right) lengths in

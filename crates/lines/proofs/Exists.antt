@@ -23,9 +23,10 @@ use Rattle.list.specs.Given.{ListGiven}
 use Rattle.ac.specs.Limits.{limits}
 use Rattle.pair.specs.Given.{PairGiven}
 use Rattle.numbers.specs.Order.{readNumbers, sidesNumbers, beginningNumbers}
-use Rattle.numbers.specs.Outcome.{Outcome, given, is-given}
+use Rattle.numbers.specs.Outcome.{Outcome, given, is-refused, is-given}
 use Rattle.numbers.proofs.Parts.{first-of-sides, none-of-sides}
-use Rattle.numbers.proofs.Promises.{refuse}
+use Rattle.numbers.proofs.Said.{refuses-carried, number-alone, something-said}
+use Rattle.pair.proofs.NetCounts.{lowest-exists}
 use Rattle.solver.specs.Rows.{rowsBuffer, RowsPromise, sizesOf, allRows, bytesOf, rows}
 use Rattle.solver.specs.Page.{next}
 use Rattle.solver.proofs.Given.{rows-made, page-first, page-none}
@@ -61,7 +62,9 @@ module _ (L R : List ℕ) {G : Groups} (of : GroupsOf unifying L R G) where
             record {
               returned = _;
               page = [];
-              found = page-refused rows-given (refuse (page-first of none (omega arith) first));
+              found =
+                  page-refused rows-given
+                  (is-refused (refuses-carried (page-first of none (omega arith)) (number-alone refl first)));
             }
         by-list (settled-none nothing) =
             record {
@@ -75,10 +78,11 @@ module _ (L R : List ℕ) {G : Groups} (of : GroupsOf unifying L R G) where
     where
       by-sides : Settled (PairGiven limits unifying L R) sidesNumbers → SomePair L R
       by-sides (settled-given first) =
+          let said = something-said lowest-exists first in
           record {
             returned = _;
             page = [];
-            found = rows-refused (refuse (first-of-sides rows-made (omega arith) [] first));
+            found = rows-refused (is-refused (refuses-carried (first-of-sides rows-made (omega arith) []) (said .1)));
           }
       by-sides (settled-none none) = some-page none
 
@@ -95,7 +99,8 @@ some-found block number = by-read (read-settled block number (lent 64) (lent 64)
     a-term {bytes} some = ⊎-elim (λ term. term) (λ fault. absurd (some (fault-is-no-term fault))) (term-or-fault bytes)
 
     by-read : Settled (ReadGiven block number (lent 64) (lent 64)) readNumbers → SomeFound block number
-    by-read (settled-given first) = record { returned = _; page = []; found = read-refused (refuse first) }
+    by-read (settled-given first) =
+        record { returned = _; page = []; found = read-refused (is-refused (number-alone refl first)) }
     by-read (settled-none none) =
         let five : List·Memᴰ 5 readNumbers = its-member readNumbers refl in
         let left = a-term (λ no-left. none-given none five (no-term (inl no-left))) in

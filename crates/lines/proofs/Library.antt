@@ -12,7 +12,7 @@ use Rattle.tally.specs.Line.{BlockFound, lineOf}
 use Rattle.numbers.specs.Outcome.{Outcome}
 use Rattle.tally.specs.Counts.{counted}
 use Rattle.tally.specs.declared.Line.{Line}
-use Rattle.tally.specs.declared.Line.the-variants.{Listed, NoUnifier, Refused}
+use Rattle.tally.specs.declared.Line.the-variants.{Listed, NoUnifier, Refused, RefusedNaming}
 use Rattle.tally.specs.declared.Totals.{Totals}
 use Rattle.lines.specs.Lines.{blockLines}
 use Rattle.lines.specs.Library.{Returns, BlocksText, no-more, one-more, isListed, isNone, isRefused, howMany, countsOf}
@@ -84,6 +84,16 @@ counts-more lines line few = go line
     all : (line : Line) → length (lines ++ (line ∷ [])) ≡ length lines + 1
     all line = length-append lines (line ∷ [])
 
+    -- a line that is refused, with an atom or without
+    one-refused : (line : Line) → howMany isListed (line ∷ []) ≡ 0 → howMany isNone (line ∷ []) ≡ 0
+        → howMany isRefused (line ∷ []) ≡ 1
+        → counted (countsOf lines) line ≡ counted (countsOf lines) (Refused 0)
+        → counted (countsOf lines) line ≡ countsOf (lines ++ (line ∷ []))
+    one-refused line unlisted some refuses counts =
+        counts ∙ same-counts (omega (arith, all line)) (omega (arith, many-more isListed lines line, unlisted))
+        (omega (arith, many-more isNone lines line, some))
+        (omega (arith, many-more isRefused lines line, many-within isRefused lines, refuses))
+
     go : (line : Line) → counted (countsOf lines) line ≡ countsOf (lines ++ (line ∷ []))
     go (Listed H K N more) =
         let line = Listed H K N more in
@@ -93,8 +103,5 @@ counts-more lines line few = go line
         same-counts (omega (arith, all NoUnifier)) (omega (arith, many-more isListed lines NoUnifier))
         (omega (arith, many-more isNone lines NoUnifier, many-within isNone lines))
         (omega (arith, many-more isRefused lines NoUnifier))
-    go (Refused X) =
-        let line = Refused X in
-        same-counts (omega (arith, all line)) (omega (arith, many-more isListed lines line))
-        (omega (arith, many-more isNone lines line))
-        (omega (arith, many-more isRefused lines line, many-within isRefused lines))
+    go (Refused X) = one-refused (Refused X) refl refl refl refl
+    go (RefusedNaming X atom) = one-refused (RefusedNaming X atom) refl refl refl refl

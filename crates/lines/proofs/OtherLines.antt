@@ -1,4 +1,4 @@
--- The lines that document 01's example does not have, as the document prints them.
+-- The lines that document 01's example does not have, as the documents print them.
 use Prim.Native.Nat.{ℕ}
 use mathlib.Core.Path.{_≡_, refl}
 use mathlib.Core.Bool.{true}
@@ -7,7 +7,7 @@ use Rattle.ac.specs.Values.{Binding}
 use Rattle.text.specs.Ascii.{ascii}
 use Rattle.text.specs.Decimal.{decimal}
 use Rattle.tally.specs.declared.Line.{Line}
-use Rattle.tally.specs.declared.Line.the-variants.{Listed, Refused}
+use Rattle.tally.specs.declared.Line.the-variants.{Listed, Refused, RefusedNaming}
 use Rattle.tally.specs.declared.Totals.{Totals}
 use Rattle.tally.specs.declared.Closing.the-variants.{NothingRead, TooLong}
 use Rattle.lines.specs.Lines.{blockLine, substitutionLine, endLine, closingLines}
@@ -48,6 +48,15 @@ where-more-follow = refl
 pub where-refused : blockLine 65_536 (Refused 16) ++ endLine (Refused 16) ≡ ascii "block 65536 refused 16\n"
 unfolding decimal
 where-refused = refl
+
+-- Where it names an atom, the atom follows: `block P refused 10 v7` (document 02, R-2), and a constant is `c3`.
+pub where-named : blockLine 3 (RefusedNaming 10 7) ++ endLine (RefusedNaming 10 7) ≡ ascii "block 3 refused 10 v7\n"
+unfolding decimal
+where-named = refl
+
+pub where-a-constant-is-named : blockLine 0 (RefusedNaming 10 67) ≡ ascii "block 0 refused 10 c3\n"
+unfolding decimal
+where-a-constant-is-named = refl
 
 -- as many blocks as are read at most
 abbrev most : Totals

@@ -19,7 +19,7 @@ use Rattle.output.specs.Step.{linesJoined}
 use Rattle.tally.specs.Line.{BlockFound, constantsRows, lineOf}
 use Rattle.tally.specs.Counts.{closingOf}
 use Rattle.tally.specs.declared.Line.{Line}
-use Rattle.tally.specs.declared.Line.the-variants.{Listed, NoUnifier, Refused}
+use Rattle.tally.specs.declared.Line.the-variants.{Listed, NoUnifier, Refused, RefusedNaming}
 use Rattle.tally.specs.declared.Totals.{Totals}
 use Rattle.lines.specs.Lines.{blockLines, closingLines}
 
@@ -86,16 +86,19 @@ abbrev pub isListed : Line → Bool
 isListed (Listed H K N more) = true
 isListed NoUnifier = false
 isListed (Refused X) = false
+isListed (RefusedNaming X atom) = false
 
 abbrev pub isNone : Line → Bool
 isNone (Listed H K N more) = false
 isNone NoUnifier = true
 isNone (Refused X) = false
+isNone (RefusedNaming X atom) = false
 
 abbrev pub isRefused : Line → Bool
 isRefused (Listed H K N more) = false
 isRefused NoUnifier = false
 isRefused (Refused X) = true
+isRefused (RefusedNaming X atom) = true
 
 -- how many lines are of a kind
 abbrev pub howMany : (Line → Bool) → List Line → ℕ

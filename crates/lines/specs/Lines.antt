@@ -6,9 +6,9 @@ use mathlib.Core.List.{List, [], _∷_, _++_, map}
 use Rattle.ac.specs.Values.{Binding}
 use Rattle.text.specs.Ascii.{ascii}
 use Rattle.text.specs.Decimal.{decimal}
-use Rattle.text.specs.Text.{substitution}
+use Rattle.text.specs.Text.{name, substitution}
 use Rattle.tally.specs.declared.Line.{Line}
-use Rattle.tally.specs.declared.Line.the-variants.{Listed, NoUnifier, Refused}
+use Rattle.tally.specs.declared.Line.the-variants.{Listed, NoUnifier, Refused, RefusedNaming}
 use Rattle.tally.specs.declared.Totals.{Totals}
 use Rattle.tally.specs.declared.Closing.{Closing}
 use Rattle.tally.specs.declared.Closing.the-variants.{NothingRead, Counted, TooLong}
@@ -25,15 +25,23 @@ rowsLine P H K = labelled (ascii "block ") P ++ labelled (ascii " rows ") H ++ l
 abbrev pub noneLine : ℕ → List ℕ
 noneLine P = labelled (ascii "block ") P ++ ascii " none\n"
 
--- .. any other number `block P refused X`.
+-- .. any other number `block P refused X`, ..
+abbrev pub refusal : ℕ → ℕ → List ℕ
+refusal P X = labelled (ascii "block ") P ++ labelled (ascii " refused ") X
+
 abbrev pub refusedLine : ℕ → ℕ → List ℕ
-refusedLine P X = labelled (ascii "block ") P ++ labelled (ascii " refused ") X ++ ascii "\n"
+refusedLine P X = refusal P X ++ ascii "\n"
+
+-- .. and where it names an atom, the atom follows: `block P refused 10 v7` (document 02, R-2).
+abbrev pub namingLine : ℕ → ℕ → ℕ → List ℕ
+namingLine P X atom = refusal P X ++ (ascii " " ++ name atom) ++ ascii "\n"
 
 -- the line that a block has, whatever was found
 abbrev pub blockLine : ℕ → Line → List ℕ
 blockLine P (Listed H K N more) = rowsLine P H K
 blockLine P NoUnifier = noneLine P
 blockLine P (Refused X) = refusedLine P X
+blockLine P (RefusedNaming X atom) = namingLine P X atom
 
 -- then the first page, one substitution a line
 abbrev pub substitutionLine : List Binding → List ℕ
@@ -48,6 +56,7 @@ abbrev pub endLine : Line → List ℕ
 endLine (Listed H K N more) = pageEnd N more
 endLine NoUnifier = []
 endLine (Refused X) = []
+endLine (RefusedNaming X atom) = []
 
 -- the lines of a block at its place in the file, of which the page may have none
 abbrev pub blockLines : ℕ → Line → List (List Binding) → List (List ℕ)

@@ -4,16 +4,19 @@
 // of a block takes at most 128 bytes, that of the counts 112: words, and numbers of at most 20 digits.
 ghost use Prim.Native.Nat.{_+_, _*_, _≤_};
 ghost use mathlib.Core.Path.{_≡_};
-ghost use mathlib.Core.List.{List};
+ghost use mathlib.Core.List.{List, _++_};
 ghost use lib.ListN.{length};
 ghost use Rattle.ac.specs.Values.{Binding, laidOut};
 ghost use Rattle.buffer.specs.Put.{Put};
+ghost use Rattle.text.specs.Ascii.{ascii};
+ghost use Rattle.text.specs.Text.{name};
 ghost use Rattle.lines.specs.Putting.{PutWithin};
-ghost use Rattle.lines.specs.Lines.{labelled, rowsLine, noneLine, refusedLine, blockLine, pageEnd, endLine, substitutionLine, countsLine, closingLines};
+ghost use Rattle.lines.specs.Lines.{labelled, rowsLine, noneLine, refusal, refusedLine, namingLine, blockLine, pageEnd, endLine, substitutionLine, countsLine, closingLines};
 use buffer::put_bytes;
 use tally::Closing;
 use tally::Line;
 use tally::Totals;
+use text::put_name;
 use text::put_number;
 use text::put_substitution;
 
@@ -47,13 +50,40 @@ fn put_none(out: &mut [u8], at: usize, place: u64) -> usize
     put_bytes(out, next, b" none\n")
 }
 
+// `block P refused X`, without the line's end.
+fn put_refusal(out: &mut [u8], at: usize, place: u64, number: u8) -> usize
+    requires { ⌜ at + 64 ≤ length (now out) ⌝ }
+    ensures { λ r. ⌜ PutWithin 64 (now (out .entry)) at (refusal place number) r (now (out .exit)) ⌝ }
+{
+    let next = put_labelled(out, at, b"block ", place);
+    put_labelled(out, next, b" refused ", number as u64)
+}
+
 // `block P refused X`.
 fn put_refused(out: &mut [u8], at: usize, place: u64, number: u8) -> usize
     requires { ⌜ at + 128 ≤ length (now out) ⌝ }
     ensures { λ r. ⌜ PutWithin 128 (now (out .entry)) at (refusedLine place number) r (now (out .exit)) ⌝ }
 {
-    let next = put_labelled(out, at, b"block ", place);
-    let next = put_labelled(out, next, b" refused ", number as u64);
+    let next = put_refusal(out, at, place, number);
+    put_bytes(out, next, b"\n")
+}
+
+// A space and the name of an atom, which has at most four bytes.
+fn put_named(out: &mut [u8], at: usize, atom: u8) -> usize
+    requires { ⌜ at + 25 ≤ length (now out) ⌝ }
+    ensures { λ r. ⌜ PutWithin 5 (now (out .entry)) at (ascii " " ++ name atom) r (now (out .exit)) ⌝ }
+{
+    let next = put_bytes(out, at, b" ");
+    put_name(out, next, atom)
+}
+
+// `block P refused X`, and behind it the name of the atom.
+fn put_naming(out: &mut [u8], at: usize, place: u64, number: u8, atom: u8) -> usize
+    requires { ⌜ at + 128 ≤ length (now out) ⌝ }
+    ensures { λ r. ⌜ PutWithin 128 (now (out .entry)) at (namingLine place number atom) r (now (out .exit)) ⌝ }
+{
+    let next = put_refusal(out, at, place, number);
+    let next = put_named(out, next, atom);
     put_bytes(out, next, b"\n")
 }
 
@@ -71,6 +101,7 @@ pub fn put_block_line(out: &mut [u8], at: usize, place: u64, line: Line) -> usiz
         } => put_rows(out, at, place, balanced, of_constants),
         Line::NoUnifier => put_none(out, at, place),
         Line::Refused(number) => put_refused(out, at, place, number),
+        Line::RefusedNaming { number, atom } => put_naming(out, at, place, number, atom),
     }
 }
 
@@ -100,6 +131,7 @@ pub fn put_end_line(out: &mut [u8], at: usize, line: Line) -> usize
         } => put_page_end(out, at, lines, more),
         Line::NoUnifier => at,
         Line::Refused(_) => at,
+        Line::RefusedNaming { number: _, atom: _ } => at,
     }
 }
 

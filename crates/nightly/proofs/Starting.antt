@@ -2,6 +2,8 @@
 use Prim.Native.Nat.{ℕ, _%_, _≤_}
 use native.Mathlib.Omega.{arith}
 use mathlib.Core.Path.{_≡_, refl, ap, subst, _∙_}
+use mathlib.Core.Option.{Option}
+use mathlib.Core.Option as option
 use mathlib.Core.Bool.{Bool, true, false, cond}
 use mathlib.Core.List.{List, [], map, List·Memᴰ, List·Memᴰ·not-nil, Memᴰ·append-left}
 use lib.Dec.{eqb}
@@ -26,7 +28,7 @@ use Rattle.solver.specs.declared.page.PageAnswer.the-variants.{Page}
 use Rattle.solver.specs.declared.page.PageAnswer.the-variants as page
 use Rattle.table.specs.Table.{groupsIn}
 use Rattle.table.specs.declared.Table.{Table}
-use Rattle.tally.specs.Line.{BlockFound, toldBlock, lineOfNumber}
+use Rattle.tally.specs.Line.{BlockFound, toldBlock, lineWith, lineOfSaid}
 use Rattle.tally.specs.Counts.{Tallies, counted}
 use Rattle.tally.specs.declared.Line.the-variants.{Listed, NoUnifier, Refused}
 use Rattle.tally.specs.declared.Totals.{Totals}
@@ -64,9 +66,10 @@ page-listed {L} {R} {out} of (is-given none (keyed.next {G = H} groups)) key m =
     on-page : List·Memᴰ key (take 200 list)
     on-page = subst (List·Memᴰ key) (take-append-seam (take 200 list) (drop (length (take 200 list)) out)) m
 
--- under the line of a number no keys are printed
-number-count : (n : ℕ) → keyCount (lineOfNumber n) ≡ 0
-number-count n = go (eqb n 13)
+-- under the line of a refusal no keys are printed
+no-keys : (atom : Option ℕ) (n : ℕ) → keyCount (lineWith atom n) ≡ 0
+no-keys (option.some atom) n = refl
+no-keys option.none n = go (eqb n 13)
   where
     go : (b : Bool) → keyCount (cond b NoUnifier (Refused n)) ≡ 0
     go true = refl
@@ -75,10 +78,10 @@ number-count n = go (eqb n 13)
 module _ {block : List ℕ} {c : Totals} {l : Listing} {after : Totals} (same-place : l .place ≡ c .blocks) where
   -- a block without a page
   starts-refused : {said : Said} → Returns block (c .blocks % 65536) (refused said) []
-      → l .line ≡ lineOfNumber (said .number)
-      → after ≡ counted c (lineOfNumber (said .number)) → StartsBlock block c l after
+      → l .line ≡ lineOfSaid said
+      → after ≡ counted c (lineOfSaid said) → StartsBlock block c l after
   starts-refused {said} found same-line counts =
-      let none : keyCount (l .line) ≡ 0 = ap keyCount same-line ∙ number-count (said .number) in
+      let none : keyCount (l .line) ≡ 0 = ap keyCount same-line ∙ no-keys (said .atom) (said .number) in
       let no-page = ap (λ (k : ℕ). map (bindingsOf [] [] (groupsIn (l .table))) (take k (l .keys))) none in
       record {
         left = [];

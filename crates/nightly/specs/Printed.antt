@@ -14,7 +14,7 @@ use Rattle.tally.specs.Line.{BlockFound, lineOf}
 use Rattle.numbers.specs.Outcome.{Outcome}
 use Rattle.tally.specs.Counts.{counted}
 use Rattle.tally.specs.declared.Line.{Line}
-use Rattle.tally.specs.declared.Line.the-variants.{Listed, NoUnifier, Refused}
+use Rattle.tally.specs.declared.Line.the-variants.{Listed, NoUnifier, Refused, RefusedNaming}
 use Rattle.tally.specs.declared.Totals.{Totals}
 use Rattle.output.specs.Step.{linesJoined}
 use Rattle.output.specs.Room.{HasRoom, StillHeld}
@@ -30,6 +30,7 @@ abbrev pub keyCount : Line → ℕ
 keyCount (Listed H K N more) = N
 keyCount NoUnifier = 0
 keyCount (Refused X) = 0
+keyCount (RefusedNaming X atom) = 0
 
 -- one line for each key, the block's own before them, and what stands after the page
 abbrev pub lineCount : Listing → ℕ

@@ -59,6 +59,7 @@ fn key_count(line: Line) -> usize
         } => lines as usize,
         Line::NoUnifier => 0,
         Line::Refused(_) => 0,
+        Line::RefusedNaming { number: _, atom: _ } => 0,
     }
 }
 

@@ -114,3 +114,9 @@ first-past (m ∷ ms) ns {n} e (here given) =
     absurd (eqb-false n n (not-true (eqb n n) (and-true (not (eqb n n)) (elsewhere n ms) e .0)) refl)
 first-past (m ∷ ms) ns {n} e (later skip first) =
     also skip (first-past ms ns (and-true (not (eqb n m)) (elsewhere n ms) e .1) first)
+
+-- a number is the first of a list exactly where it is given and none before it is
+pub first-exactly : {Given : ℕ → Type 0} (ms ns : List ℕ) {n : ℕ} → elsewhere n ms ≡ true
+    → First Given (ms ++ n ∷ ns) n ↔ (NoneOf Given ms × Given n)
+first-exactly ms ns e =
+    (λ first. (first-past ms _ e first, first-given first), λ both. first-after (both .0) (here (both .1)))

@@ -2,6 +2,8 @@
 -- one of its own.
 use mathlib.Core.Path.{_≡_, refl}
 use mathlib.Core.List.{List, [], _∷_, List·Memᴰ, List·Memᴰ·head, List·Memᴰ·tail}
+use mathlib.Core.Option.{Option, some}
+use mathlib.Core.Option as option
 use Prim.Native.Nat.{ℕ}
 use lib.ListN.{getD}
 use Rattle.numbers.specs.Numbers.{saidOf}
@@ -10,7 +12,7 @@ use Rattle.numbers.specs.declared.Refusal.{Refusal}
 use Rattle.numbers.specs.declared.Refusal.the-variants.{BlockLength, Check, BlockNumber, TermLength, Term, Filler, SideLength, NoAtom, Variables, NetCount, Constants, Rows, NoUnifier, NotListed, LastKey, ShortBuffer, LongValue}
 use Rattle.numbers.specs.First.{First, NoneOf, here, later, also}
 
--- the refusals in the table's order; no row has the number 0
+-- the refusals in the table's order; no row has the number 0, and what 10 names is said beside it
 rows : List Refusal
 rows =
     BlockLength
@@ -23,7 +25,7 @@ rows =
     ∷ SideLength
     ∷ NoAtom
     ∷ Variables
-    ∷ NetCount
+    ∷ NetCount 0
     ∷ Constants
     ∷ Rows
     ∷ NoUnifier
@@ -33,13 +35,18 @@ rows =
     ∷ LongValue
     ∷ []
 
--- the refusal that says this: the one in the row of its number
+-- the refusal with this atom beside its number: the one in the row of its number, or the one that names an atom
+refusalWith : Option ℕ → ℕ → Refusal
+refusalWith option.none number = getD rows number BlockLength
+refusalWith (some atom) number = NetCount atom
+
+-- the refusal that says this
 pub refusalOf : Said → Refusal
-refusalOf said = getD rows (said .number) BlockLength
+refusalOf said = refusalWith (said .atom) (said .number)
 
 -- each refusal is told by what it says
 pub refusalOf-saidOf : (r : Refusal) → refusalOf (saidOf r) ≡ r
-unfolding rows refusalOf
+unfolding rows refusalWith refusalOf
 refusalOf-saidOf BlockLength = refl
 refusalOf-saidOf Check = refl
 refusalOf-saidOf BlockNumber = refl
@@ -49,7 +56,7 @@ refusalOf-saidOf Filler = refl
 refusalOf-saidOf SideLength = refl
 refusalOf-saidOf NoAtom = refl
 refusalOf-saidOf Variables = refl
-refusalOf-saidOf NetCount = refl
+refusalOf-saidOf (NetCount atom) = refl
 refusalOf-saidOf Constants = refl
 refusalOf-saidOf Rows = refl
 refusalOf-saidOf NoUnifier = refl

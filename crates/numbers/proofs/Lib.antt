@@ -1,5 +1,6 @@
 pub mod Laws
 pub mod Carried
+pub mod Said
 pub mod Parts
 pub mod Promises
 pub mod Verdicts

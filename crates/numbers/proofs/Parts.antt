@@ -8,13 +8,13 @@ use mathlib.Core.List.{List, [], _∷_, _++_, List·Memᴰ, List·Memᴰ·head}
 use Rattle.numbers.specs.First.{First, NoneOf, here, later, also}
 use Rattle.numbers.specs.Numbers.{saidOf}
 use Rattle.numbers.specs.Order.{sidesNumbers, beginningNumbers, lengthNumbers}
-use Rattle.numbers.specs.Outcome.{refused, Promise}
+use Rattle.numbers.specs.Outcome.{refused, Promise, is-refused}
 use Rattle.numbers.specs.Verdict.{Decides}
 use Rattle.numbers.specs.declared.Refusal.{Refusal}
 use Rattle.numbers.specs.declared.Refusal.the-variants.{ShortBuffer}
 use Rattle.numbers.specs.declared.Verdict.{Verdict}
 use Rattle.numbers.specs.declared.Verdict.the-variants.{Refused}
-use Rattle.numbers.proofs.Promises.{refuse}
+use Rattle.numbers.proofs.Said.{refuses-carried, refuses-alone}
 use Rattle.numbers.proofs.Carried.{not-both, first-carried, none-carried, first-before, first-after, none-after}
 
 -- what a row speaks of, where a lent buffer has a size and has to have room
@@ -110,15 +110,16 @@ module _ {Given OfSides OfList : ℕ → Type 0} {size room : ℕ} {Long : Type 
 
 -- What a question on two sides promises where it is refused, step by step: 16, then what a verdict on the
 -- sides refuses, then the list's numbers.
-module _ {Given OfSides OfList : ℕ → Type 0} {size room : ℕ} {Long : Type 0}
+module _ {Given Names OfSides OfList : ℕ → Type 0} {size room : ℕ} {Long : Type 0}
     (made : MadeOf Given OfSides OfList size room Long) {Values Buffers : Type 0}
     {Gives : Values → Buffers → Type 0} {entry : Buffers} where
   pub short-promised : {ns : List ℕ} → size < room
-      → Promise Given (16 ∷ ns) Gives entry (refused (saidOf ShortBuffer)) entry
-  short-promised short = refuse (first-short made short)
+      → Promise Given Names (16 ∷ ns) Gives entry (refused (saidOf ShortBuffer)) entry
+  short-promised short =
+      is-refused (refuses-carried (first-before _) (refuses-alone {numbers = 16 ∷ []} refl ShortBuffer (first-short made short)))
 
   module _ (enough : room ≤ size) {So : Type 0} {verdict : Verdict}
-      (decided : Decides OfSides sidesNumbers So verdict) where
+      (decided : Decides OfSides Names sidesNumbers So verdict) where
     pub verdict-promised : (others : List ℕ) {why : Refusal} → verdict ≡ Refused why
-        → Promise Given (16 ∷ (sidesNumbers ++ others)) Gives entry (refused (saidOf why)) entry
-    verdict-promised others e = refuse (first-of-sides made enough others (decided .refused _ e .first))
+        → Promise Given Names (16 ∷ (sidesNumbers ++ others)) Gives entry (refused (saidOf why)) entry
+    verdict-promised others e = is-refused (refuses-carried (first-of-sides made enough others) (decided .refused _ e))

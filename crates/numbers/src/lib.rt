@@ -5,7 +5,7 @@ pub mod limits;
 ghost use mathlib.Core.Path.{_≡_};
 ghost use Rattle.numbers.specs.Numbers.{numberOf};
 
-// Why a question was refused: a variant for each row of the table, in its order.
+// Why a question was refused: a variant for each row of the table, in its order. A net count has its atom beside it.
 pub enum Refusal {
     BlockLength,
     Check,
@@ -16,7 +16,7 @@ pub enum Refusal {
     SideLength,
     NoAtom,
     Variables,
-    NetCount,
+    NetCount(u8),
     Constants,
     Rows,
     NoUnifier,
@@ -46,7 +46,7 @@ pub fn number(refusal: Refusal) -> u8
         Refusal::SideLength => 7,
         Refusal::NoAtom => 8,
         Refusal::Variables => 9,
-        Refusal::NetCount => 10,
+        Refusal::NetCount(_) => 10,
         Refusal::Constants => 11,
         Refusal::Rows => 12,
         Refusal::NoUnifier => 13,

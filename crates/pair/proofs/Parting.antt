@@ -1,5 +1,5 @@
 -- The ways out of taking a pair apart, each from the facts that its test leaves.
-use mathlib.Core.Path.{_≡_}
+use mathlib.Core.Path.{_≡_, subst}
 use mathlib.Core.Bool.{Bool, _||_}
 use mathlib.Core.Logic.{_⊎_, inl, inr, ⊎-elim}
 use mathlib.Core.List.{List}
@@ -9,11 +9,14 @@ use lib.Dec.{ltb}
 use lib.ListN.{length}
 use Rattle.ac.specs.Pair.{Mode, variables, unbalanced}
 use Rattle.ac.specs.Limits.{limits}
-use Rattle.pair.specs.Given.{SideOf, left, right, WrongLength, WrongByte, PairGiven, side-length, no-atom, many-variables, many-constants}
+use Rattle.pair.specs.Given.{SideOf, left, right, WrongLength, WrongByte, LowestFar, PairGiven, side-length, no-atom, many-variables, many-constants}
 use Rattle.numbers.specs.Tells.{Tells}
+use Rattle.pair.specs.Counts.{SettlesTen, a-far-one, all-near}
 use Rattle.pair.specs.Gathered.{HeldIfRoom}
 use Rattle.pair.specs.Parted.{PairOf}
 use Rattle.pair.specs.declared.Pair.{Pair}
+use Rattle.pair.specs.declared.limits.NetCounts.{NetCounts}
+use Rattle.pair.specs.declared.limits.NetCounts.the-variants.{Far, Near}
 use Rattle.pair.proofs.Telling.{tells-less, tells-either, tells-same, at-most}
 
 -- a number that is given where a side is wrong, by a test of each side
@@ -63,6 +66,17 @@ module _ {M : Mode} {L R : List ℕ} where
   pub tells-11 : {number : ℕ} → number ≡ length (unbalanced M L R)
       → Tells (PairGiven limits M L R 11) (ltb (limits .constants) number)
   tells-11 = tells-many (unbalanced M L R) many-constants more-constants
+
+  -- what was found of the net counts: an atom is the lowest that is far, and where none was found 10 is not given
+  pub far-found : {found : NetCounts} {atom : ℕ} → SettlesTen M L R found → found ≡ Far atom
+      → LowestFar limits L R atom
+  far-found {atom = atom} (a-far-one {atom = found} lowest) e =
+      let same : found ≡ atom = cc e in subst (LowestFar limits L R) same lowest
+  far-found (all-near not-given) e = absurd (let z : _≡_ {A = ℕ} 0 1 = cc e in omega arith)
+
+  pub near-found : {found : NetCounts} → SettlesTen M L R found → found ≡ Near → PairGiven limits M L R 10 → ⊥
+  near-found (a-far-one lowest) e = absurd (let z : _≡_ {A = ℕ} 0 1 = cc e in omega arith)
+  near-found (all-near not-given) e = not-given
 
   -- where no number refuses, all that was found is held
   pub pair-held : {pair : Pair} → HeldIfRoom L R (variables M L R) (pair .variables)

@@ -7,9 +7,10 @@ use mathlib.Core.List.{List}
 use lib.ListN.{length, getD}
 use Rattle.ac.specs.Pair.{Mode, atoms, count}
 use Rattle.ac.specs.Limits.{limits}
-use Rattle.numbers.specs.Tells.{Tells}
-use Rattle.pair.specs.Given.{PairGiven}
+use Rattle.pair.specs.Given.{LowestFar, PairGiven}
 use Rattle.pair.specs.declared.counting.AtomCounts.{AtomCounts}
+use Rattle.pair.specs.declared.limits.NetCounts.{NetCounts}
+use Rattle.pair.specs.declared.limits.NetCounts.the-variants.{Far, Near}
 
 -- the table has the occurrences of each atom on the side
 pub record Occurrences (side table : List ℕ) : Type 0 where
@@ -26,6 +27,11 @@ pub record CountsOf (M : Mode) (L R : List ℕ) (counts : AtomCounts) : Type 0 w
   pub on-left : Occurrences L (counts .left)
   pub on-right : Occurrences R (counts .right)
 
--- it says whether number 10 is given of the sides whose atoms were counted: a net count further than 8 from 0
-abbrev pub TellsFar : AtomCounts → Bool → Type 0
-TellsFar counts told = (M : Mode) (L R : List ℕ) → CountsOf M L R counts → Tells (PairGiven limits M L R 10) told
+-- it is the lowest atom whose net count is further than 8 from 0, or number 10 is not given
+pub data SettlesTen (M : Mode) (L R : List ℕ) : NetCounts → Type 0 where
+  a-far-one : {atom : ℕ} → LowestFar limits L R atom → SettlesTen M L R (Far atom)
+  all-near : (PairGiven limits M L R 10 → ⊥) → SettlesTen M L R Near
+
+-- so it is of the sides whose atoms were counted
+abbrev pub FindsFar : AtomCounts → NetCounts → Type 0
+FindsFar counts found = (M : Mode) (L R : List ℕ) → CountsOf M L R counts → SettlesTen M L R found

@@ -1,4 +1,5 @@
--- The numbers 7 to 12 (document 01, "Numbers given in place of a result"): when each is given, of any two sides.
+-- The numbers 7 to 12 (document 01, "Numbers given in place of a result"): when each is given, of any two sides,
+-- and which atom 10 names.
 use Prim.Native.Nat.{ℕ, _<_}
 use mathlib.Core.Logic.{_⊎_}
 use mathlib.Core.List.{List, List·Memᴰ}
@@ -26,6 +27,11 @@ pub record WrongByte (limits : Limits) (side : List ℕ) : Type 0 where
 -- the atom's net count is further than 8 from 0
 abbrev pub Far : Limits → List ℕ → List ℕ → ℕ → Type 0
 Far limits L R atom = limits .net-count < natAbs (net L R atom)
+
+-- the lowest atom whose net count is further than 8 from 0 (document 02, R-2): variables are the lower bytes
+pub record LowestFar (limits : Limits) (L R : List ℕ) (atom : ℕ) : Type 0 where
+  pub far : Far limits L R atom
+  pub lowest : (lower : ℕ) → lower < atom → Far limits L R lower → ⊥
 
 -- more than 16 balanced rows, or more than 16 for one constant
 pub data ManyRows (limits : Limits) (G : Groups) : Type 0 where

@@ -6,7 +6,7 @@ use Rattle.ac.specs.Pair.{Mode, variables, unbalanced}
 use Rattle.numbers.specs.Order.{countedNumbers, partingNumbers}
 use Rattle.numbers.specs.Verdict.{Decides}
 use Rattle.ac.specs.Limits.{limits}
-use Rattle.pair.specs.Given.{PairGiven}
+use Rattle.pair.specs.Given.{LowestFar, PairGiven}
 use Rattle.pair.specs.Counts.{CountsOf}
 use Rattle.pair.specs.Gathered.{Held}
 use Rattle.pair.specs.declared.Pair.{Pair}
@@ -22,7 +22,7 @@ pub record PairOf (M : Mode) (L R : List ℕ) (pair : Pair) : Type 0 where
 -- the sides.
 abbrev pub PartedOf : List ℕ → Mode → List ℕ → List ℕ → Parted → Type 0
 PartedOf numbers M L R parted =
-    Decides (PairGiven limits M L R) numbers (PairOf M L R (parted .pair)) (parted .verdict)
+    Decides (PairGiven limits M L R) (LowestFar limits L R) numbers (PairOf M L R (parted .pair)) (parted .verdict)
 
 -- of the sides whose atoms were counted the pair is made, or the first of the numbers 9 to 11 is given
 abbrev pub Parts : AtomCounts → Parted → Type 0

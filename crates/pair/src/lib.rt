@@ -3,10 +3,11 @@
 // given.
 mod counting;
 mod gathering;
-mod limits;
+pub mod limits;
 
 use counting::AtomCounts;
 use gathering::AtomKind;
+use limits::NetCounts;
 use numbers::Refusal;
 use numbers::Verdict;
 use numbers::limits::CONSTANTS;
@@ -64,13 +65,13 @@ fn part(counts: AtomCounts) -> Parted
     let variables = gathering::gather(AtomKind::Variable, counts);
     let constants = gathering::gather(AtomKind::Constant, counts);
     let many_variables = VARIABLES < variables.count;
-    let far_net_count = limits::far_net_count(counts);
+    let net_counts = limits::lowest_far(counts);
     let many_constants = CONSTANTS < constants.count;
     if many_variables {
         return refused(Refusal::Variables);
     }
-    if far_net_count {
-        return refused(Refusal::NetCount);
+    if let NetCounts::Far(atom) = net_counts {
+        return refused(Refusal::NetCount(atom));
     }
     if many_constants {
         return refused(Refusal::Constants);

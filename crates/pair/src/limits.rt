@@ -11,7 +11,7 @@ ghost use Prim.Native.Nat.{_+_, _-_};
 ghost use Rattle.ac.specs.Limits.{limits};
 ghost use Rattle.pair.specs.Given.{WrongLength, WrongByte};
 ghost use Rattle.numbers.specs.Tells.{Tells};
-ghost use Rattle.pair.specs.Counts.{TellsFar};
+ghost use Rattle.pair.specs.Counts.{FindsFar};
 
 // Whether the side has too few atoms or too many.
 pub fn wrong_length(side: &[u8]) -> bool
@@ -41,16 +41,23 @@ fn distance(a: u8, b: u8) -> u8
     if a < b { b - a } else { a - b }
 }
 
-// Whether the net count of some atom is too far from 0.
-pub fn far_net_count(counts: AtomCounts) -> bool
-    ensures { λ r. ⌜ TellsFar counts r ⌝ }
+// The net counts: the lowest atom whose own is too far from 0, or that none is.
+pub enum NetCounts {
+    Far(u8),
+    Near,
+}
+
+// The lowest atom whose net count is too far from 0, if there is one: the atoms are gone through upwards, and the first
+// is it.
+pub fn lowest_far(counts: AtomCounts) -> NetCounts
+    ensures { λ r. ⌜ FindsFar counts r ⌝ }
 {
     let mut atom = 0;
     while atom < ATOMS {
         if NET_COUNT < distance(counts.left[atom], counts.right[atom]) {
-            return true;
+            return NetCounts::Far(atom as u8);
         }
         atom += 1;
     }
-    false
+    NetCounts::Near
 }

@@ -1,6 +1,7 @@
 // What a question returned: one byte, 0 or the refusal's number, and six numbers.
 use crate::room::put;
 use block::ReadAnswer;
+use buffer::wide;
 use numbers::Refusal;
 use solver::page::PageAnswer;
 use solver::rows::RowsAnswer;
@@ -71,10 +72,17 @@ fn given(a: usize, b: usize) -> Returned {
     }
 }
 
-// A refusal is returned, and no value.
+// A refusal is returned, and no value but the atom that it names.
 fn refused(refusal: Refusal) -> Returned {
+    let number = numbers::number(refusal);
+    if let Refusal::NetCount(atom) = refusal {
+        return Returned {
+            number,
+            values: [small(wide(atom)), 0, 0, 0, 0, 0],
+        };
+    }
     Returned {
-        number: numbers::number(refusal),
+        number,
         values: [0; 6],
     }
 }

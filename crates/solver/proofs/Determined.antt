@@ -1,19 +1,23 @@
 -- The contracts of Rows, Page and Values determine the answer and the buffer.
 use Prim.Native.Nat.{ℕ}
-use mathlib.Core.Path.{_≡_, refl, ap}
+use mathlib.Core.Path.{_≡_, refl, sym, ap, _∙_}
 use mathlib.Core.List.{List}
+use lib.ListN.{length}
 use Rattle.ac.specs.Lists.{receives}
+use Rattle.ac.specs.Limits.{limits}
 use Rattle.ac.specs.Pair.{Mode}
-use Rattle.ac.specs.Rows.{Groups}
+use Rattle.ac.specs.Rows.{Groups, GroupsOf}
 use Rattle.ac.specs.Keys.{Beginning}
 use Rattle.ac.proofs.Groups.{groups-unique}
 use Rattle.numbers.specs.Outcome.{Outcome, refused, given}
 use Rattle.numbers.proofs.Laws.{refusalOf, refusalOf-saidOf}
 use Rattle.numbers.proofs.Promises.{OneResult, answer-determined}
+use Rattle.pair.specs.Given.{LowestFar}
+use Rattle.pair.proofs.NetCounts.{lowest-unique}
 use Rattle.solver.specs.Rows.{GroupSizes, toldRows, sizesOf, allRows, bytesOf, RowsGives, RowsPromise}
 use Rattle.solver.specs.Rows as its-rows
-use Rattle.solver.specs.Page.{PageWritten, toldPage, PageGives, next, PagePromise}
-use Rattle.solver.specs.Values.{toldValues, ValuesGives, ValuesPromise}
+use Rattle.solver.specs.Page.{PageWritten, toldPage, nextKeys, moreFollow, PageGives, next, PagePromise}
+use Rattle.solver.specs.Values.{toldValues, valuesOf, ValuesGives, ValuesPromise}
 use Rattle.solver.specs.Values as its-values
 use Rattle.solver.specs.declared.rows.RowsAnswer.{RowsAnswer}
 use Rattle.solver.specs.declared.rows.RowsAnswer.the-variants as rows
@@ -51,22 +55,51 @@ unfolding valuesAnswer
 values-told (values.Values length) = refl
 values-told (values.Refused why) = ap values.Refused (refusalOf-saidOf why)
 
--- a pair has one set of groups, so each question has one result
+-- a pair has one lowest atom and one set of groups, so each question has one result
 module _ {M : Mode} {L R : List ℕ} where
-  pub one-rows : {out : List ℕ} → OneResult (RowsGives M L R out)
-  one-rows {out} _ _ _ _ (its-rows.rows of) (its-rows.rows of′) =
-      let same = groups-unique M L R of of′ in
-      (ap sizesOf same, ap (λ (G : Groups). receives out (bytesOf (allRows G))) same)
+  -- what groups give is one result
+  one-of-groups : {Values : Type 0} {Gives : Values → List ℕ → Type 0} (values : Groups → Values)
+      (bytes : Groups → List ℕ)
+      → ((v : Values) (b : List ℕ) → Gives v b → (G : Groups) × GroupsOf M L R G × (v ≡ values G) × (b ≡ bytes G))
+      → OneResult (LowestFar limits L R) Gives
+  one-of-groups values bytes of-groups =
+      record {
+        one-atom = lowest-unique;
+        one-result = λ v v′ b b′ gives gives′.
+            let found = of-groups v b gives in
+            let found′ = of-groups v′ b′ gives′ in
+            let same = groups-unique M L R (found .1) (found′ .1) in
+            (found .2 ∙ ap values same ∙ sym (found′ .2), found .3 ∙ ap bytes same ∙ sym (found′ .3));
+      }
 
-  pub one-page : {begin : Beginning} {wanted : ℕ} {out : List ℕ} → OneResult (PageGives M L R begin wanted out)
-  one-page _ _ _ _ (next {G = G} of) (next {G = H} of′) =
-      let same : G ≡ H = groups-unique M L R of of′ in
-      (cc same, cc same)
+  pub one-rows : {out : List ℕ} → OneResult (LowestFar limits L R) (RowsGives M L R out)
+  one-rows {out} = one-of-groups sizesOf (λ G. receives out (bytesOf (allRows G))) from
+    where
+      from : (v : GroupSizes) (b : List ℕ) → RowsGives M L R out v b
+          → (G : Groups) × GroupsOf M L R G × (v ≡ sizesOf G) × (b ≡ receives out (bytesOf (allRows G)))
+      from _ _ (its-rows.rows {G = G} of) = (G, of, refl, refl)
 
-  pub one-values : {key : ℕ} {out : List ℕ} → OneResult (ValuesGives M L R key out)
-  one-values _ _ _ _ (its-values.values {G = G} of) (its-values.values {G = H} of′) =
-      let same : G ≡ H = groups-unique M L R of of′ in
-      (cc same, cc same)
+  pub one-page : {begin : Beginning} {wanted : ℕ} {out : List ℕ}
+      → OneResult (LowestFar limits L R) (PageGives M L R begin wanted out)
+  one-page {begin} {wanted} {out} =
+      one-of-groups
+      (λ G. record { written = length (nextKeys M L R G begin wanted); more = moreFollow M L R G begin wanted })
+      (λ G. receives out (nextKeys M L R G begin wanted)) from
+    where
+      from : (v : PageWritten) (b : List ℕ) → PageGives M L R begin wanted out v b
+          → (G : Groups) × GroupsOf M L R G
+          × (v ≡ record { written = length (nextKeys M L R G begin wanted); more = moreFollow M L R G begin wanted })
+          × (b ≡ receives out (nextKeys M L R G begin wanted))
+      from _ _ (next {G = G} of) = (G, of, refl, refl)
+
+  pub one-values : {key : ℕ} {out : List ℕ} → OneResult (LowestFar limits L R) (ValuesGives M L R key out)
+  one-values {key} {out} =
+      one-of-groups (λ G. length (valuesOf M L R G key)) (λ G. receives out (valuesOf M L R G key)) from
+    where
+      from : (v : ℕ) (b : List ℕ) → ValuesGives M L R key out v b
+          → (G : Groups) × GroupsOf M L R G × (v ≡ length (valuesOf M L R G key))
+          × (b ≡ receives out (valuesOf M L R G key))
+      from _ _ (its-values.values {G = G} of) = (G, of, refl, refl)
 
   -- Two answers, each with its buffer, that meet the promise are identical.
   pub rows-determined : {out : List ℕ} {a a′ : RowsAnswer} {b b′ : List ℕ} → RowsPromise M L R out (toldRows a) b

@@ -27,13 +27,16 @@ use Rattle.ac.proofs.Theorems.{sound, complete, independent}
 use Rattle.numbers.specs.First.{First, NoneOf, here}
 use Rattle.numbers.specs.Order.{rowsNumbers, pageNumbers, beginningNumbers}
 use Rattle.numbers.specs.Outcome.{Outcome, refused, is-refused, is-given}
-use Rattle.numbers.proofs.Laws.{first-unique, first-not-none}
+use Rattle.numbers.specs.declared.Refusal.the-variants.{NoUnifier}
+use Rattle.numbers.proofs.Laws.{first-not-none}
+use Rattle.numbers.proofs.Said.{refuses-other}
 use Rattle.numbers.proofs.Carried.{first-after, none-front, first-given, none-given, its-member, elsewhere, first-past}
 use Rattle.pair.proofs.Lists.{member-at}
 use Rattle.list.specs.Given.{none-admissible}
 use Rattle.list.proofs.Given.{given-13}
 use Rattle.solver.specs.Page.{wantedCount, nextKeys, moreFollow, PageGiven, of-the-sides, of-the-list, PageWritten, next, PagePromise}
-use Rattle.numbers.proofs.Promises.{refused-not-given, same-values, same-number}
+use Rattle.numbers.proofs.Promises.{refused-not-given, same-values, same-number, said-unique}
+use Rattle.pair.proofs.NetCounts.{lowest-unique}
 use Rattle.solver.specs.Existence.{SomeUnifies, NoneUnifies, replacementOf, PageExistence}
 use Rattle.solver.proofs.Given.{page-given}
 use Rattle.solver.proofs.Limits.{WithinLimits, within-limits, sides-give-none}
@@ -193,8 +196,8 @@ pub page-existence : {M : Mode} {L R : List ℕ} {begin : Beginning} {wanted : �
 page-existence (is-refused refuses) =
     record {
       only-where-none = λ e. only-13 (refuses .first) (same-number e);
-      always-where-none = λ none nothing. ap (λ n. refused (record { number = n }))
-          (first-unique (refuses .first) (first-13 none nothing));
+      always-where-none = λ none nothing. ap refused
+          (said-unique lowest-unique refuses (refuses-other NoUnifier refl (first-13 none nothing)));
       unlisted-where-some = λ e. some-later (refuses .first) {m = 14} refl (same-number e);
       last-where-some = λ e. some-later (refuses .first) {m = 15} refl (same-number e);
       page-where-some = λ e. absurd (refused-not-given e);

@@ -1,7 +1,7 @@
 -- The questions' promises from their steps, of a table that is the pair's.
 use Prim.Native.Nat.{ℕ, _≤_}
 use native.Mathlib.Omega.{arith}
-use mathlib.Core.Path.{_≡_, sym, subst, subst₂}
+use mathlib.Core.Path.{_≡_, refl, sym, subst, subst₂}
 use mathlib.Core.List.{List, _∷_, List·Memᴰ}
 use lib.ListN.{length, getD}
 use Rattle.ac.specs.Limits.{limits}
@@ -12,9 +12,10 @@ use Rattle.buffer.proofs.Puts.{put-received}
 use Rattle.numbers.specs.Numbers.{numberOf, saidOf}
 use Rattle.numbers.specs.First.{First, NoneOf}
 use Rattle.numbers.specs.Order.{sidesNumbers, beginningNumbers}
-use Rattle.numbers.specs.Outcome.{Outcome, refused, given, is-given}
+use Rattle.numbers.specs.Outcome.{Outcome, refused, given, is-refused, is-given}
 use Rattle.numbers.specs.declared.Refusal.{Refusal}
-use Rattle.numbers.proofs.Promises.{refuse}
+use Rattle.numbers.specs.declared.Refusal.the-variants.{LongValue as TooLong}
+use Rattle.numbers.proofs.Said.{refuses-carried, refuses-alone, refuses-other}
 use Rattle.numbers.proofs.Parts.{none-of-sides}
 use Rattle.pair.specs.Given.{PairGiven}
 use Rattle.table.specs.Table.{TableOf, groupsIn}
@@ -68,8 +69,9 @@ module _ {M : Mode} {L R : List ℕ} {t : Table} (of : TableOf M L R t)
     -- Page: 13, 14 and 15 change no buffer
     pub page-refused : {why : Refusal} → settled ≡ Refused why
         → PagePromise M L R begin wanted out (refused (saidOf why)) out
-    page-refused e = refuse (page-first (of .the-groups) none enough
-        (settled-refusal (subst (SettledOf (keys M layout L R (groupsIn t)) begin) e told)))
+    page-refused {why} e =
+        is-refused (refuses-carried (page-first (of .the-groups) none enough)
+        (refuses-alone refl why (settled-refusal (subst (SettledOf (keys M layout L R (groupsIn t)) begin) e told))))
 
     -- a page is what was written of the keys that remain
     pub page-promised : {first : ℕ} {outcome : Outcome PageWritten} {out′ : List ℕ} → settled ≡ FirstKey first
@@ -88,7 +90,9 @@ module _ {M : Mode} {L R : List ℕ} {t : Table} (of : TableOf M L R t)
     -- Values: 13 and 14 change no buffer
     pub values-refused : {why : Refusal} → found ≡ lookup.Refused why
         → ValuesPromise M L R key out (refused (saidOf why)) out
-    values-refused e = refuse (values-first (of .the-groups) none enough (told-refused told e))
+    values-refused {why} e =
+        is-refused (refuses-carried (values-first (of .the-groups) none enough)
+        (refuses-alone refl why (told-refused told e)))
 
     -- of a listed key 17, or its values
     pub values-promised : found ≡ lookup.Listed → {outcome : Outcome ℕ} {out′ : List ℕ}
@@ -98,7 +102,9 @@ module _ {M : Mode} {L R : List ℕ} {t : Table} (of : TableOf M L R t)
       where
         go : {outcome : Outcome ℕ} {out′ : List ℕ} → WritesValues M L R (groupsIn t) key out outcome out′
             → ValuesPromise M L R key out outcome out′
-        go (too-long long) = refuse (values-long (of .the-groups) none enough (told-listed told e) long)
+        go (too-long long) =
+            is-refused (refuses-other TooLong refl
+            (values-long (of .the-groups) none enough (told-listed told e) long))
         go (fits short) =
             is-given (values-none (of .the-groups) none enough (told-listed told e) short)
             (its-values.values (of .the-groups))

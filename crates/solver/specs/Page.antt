@@ -12,7 +12,7 @@ use Rattle.ac.specs.Pages.{page, more}
 use Rattle.numbers.specs.Numbers.{saidOf}
 use Rattle.numbers.specs.Order.{pageNumbers}
 use Rattle.numbers.specs.Outcome.{Outcome, refused, given, Promise}
-use Rattle.pair.specs.Given.{PairGiven}
+use Rattle.pair.specs.Given.{LowestFar, PairGiven}
 use Rattle.list.specs.Given.{ListGiven}
 use Rattle.solver.specs.declared.page.Begin.{Begin}
 use Rattle.solver.specs.declared.page.Begin.the-variants.{Start, After}
@@ -69,4 +69,4 @@ pub data PageGives (M : Mode) (L R : List ℕ) (begin : Beginning) (wanted : ℕ
 -- What Page promises of its outcome and of the lent buffer at exit.
 abbrev pub PagePromise : Mode → List ℕ → List ℕ → Beginning → ℕ → List ℕ → Outcome PageWritten → List ℕ → Type 0
 PagePromise M L R begin wanted out =
-    Promise (PageGiven M L R begin wanted out) pageNumbers (PageGives M L R begin wanted out) out
+    Promise (PageGiven M L R begin wanted out) (LowestFar limits L R) pageNumbers (PageGives M L R begin wanted out) out

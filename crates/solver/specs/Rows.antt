@@ -9,7 +9,7 @@ use Rattle.ac.specs.Rows.{Group, Groups, GroupsOf}
 use Rattle.numbers.specs.Numbers.{saidOf}
 use Rattle.numbers.specs.Order.{rowsNumbers}
 use Rattle.numbers.specs.Outcome.{Outcome, refused, given, Promise}
-use Rattle.pair.specs.Given.{PairGiven}
+use Rattle.pair.specs.Given.{LowestFar, PairGiven}
 use Rattle.solver.specs.declared.rows.RowsAnswer.{RowsAnswer}
 use Rattle.solver.specs.declared.rows.RowsAnswer.the-variants as answer
 
@@ -83,4 +83,4 @@ pub data RowsGives (M : Mode) (L R out : List ℕ) : GroupSizes → List ℕ →
 
 -- What Rows promises of its outcome and of the lent buffer at exit.
 abbrev pub RowsPromise : Mode → List ℕ → List ℕ → List ℕ → Outcome GroupSizes → List ℕ → Type 0
-RowsPromise M L R out = Promise (RowsGiven M L R out) rowsNumbers (RowsGives M L R out) out
+RowsPromise M L R out = Promise (RowsGiven M L R out) (LowestFar limits L R) rowsNumbers (RowsGives M L R out) out

@@ -12,7 +12,7 @@ use Rattle.ac.specs.Values.{laidOut, bindings}
 use Rattle.numbers.specs.Numbers.{saidOf}
 use Rattle.numbers.specs.Order.{valuesNumbers}
 use Rattle.numbers.specs.Outcome.{Outcome, refused, given, Promise}
-use Rattle.pair.specs.Given.{PairGiven}
+use Rattle.pair.specs.Given.{LowestFar, PairGiven}
 use Rattle.list.specs.Given.{ListGiven}
 use Rattle.solver.specs.declared.values.ValuesAnswer.{ValuesAnswer}
 use Rattle.solver.specs.declared.values.ValuesAnswer.the-variants.{Values, Refused}
@@ -60,4 +60,5 @@ pub data ValuesGives (M : Mode) (L R : List ℕ) (key : ℕ) (out : List ℕ) : 
 
 -- What Values promises of its outcome and of the lent buffer at exit.
 abbrev pub ValuesPromise : Mode → List ℕ → List ℕ → ℕ → List ℕ → Outcome ℕ → List ℕ → Type 0
-ValuesPromise M L R key out = Promise (ValuesGiven M L R key out) valuesNumbers (ValuesGives M L R key out) out
+ValuesPromise M L R key out =
+    Promise (ValuesGiven M L R key out) (LowestFar limits L R) valuesNumbers (ValuesGives M L R key out) out

@@ -6,7 +6,7 @@ use Rattle.ac.specs.Pair.{Mode}
 use Rattle.numbers.specs.Order.{rowLimitNumbers, sidesNumbers}
 use Rattle.numbers.specs.Verdict.{Decides}
 use Rattle.ac.specs.Limits.{limits}
-use Rattle.pair.specs.Given.{PairGiven}
+use Rattle.pair.specs.Given.{LowestFar, PairGiven}
 use Rattle.pair.specs.Parted.{PairOf}
 use Rattle.pair.specs.declared.Pair.{Pair}
 use Rattle.table.specs.Table.{TableOf}
@@ -16,7 +16,7 @@ use Rattle.table.specs.declared.Solved.{Solved}
 -- the sides.
 abbrev pub SolvedOf : List ℕ → Mode → List ℕ → List ℕ → Solved → Type 0
 SolvedOf numbers M L R solved =
-    Decides (PairGiven limits M L R) numbers (TableOf M L R (solved .table)) (solved .verdict)
+    Decides (PairGiven limits M L R) (LowestFar limits L R) numbers (TableOf M L R (solved .table)) (solved .verdict)
 
 -- of the sides that were taken apart the table is made, or number 12 is given
 abbrev pub SolvesPair : Pair → Solved → Type 0

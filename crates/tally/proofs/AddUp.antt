@@ -4,7 +4,7 @@ use native.Mathlib.Omega.{arith}
 use mathlib.Core.Path.{_≡_}
 use Rattle.tally.specs.Counts.{counted}
 use Rattle.tally.specs.declared.Line.{Line}
-use Rattle.tally.specs.declared.Line.the-variants.{Listed, NoUnifier, Refused}
+use Rattle.tally.specs.declared.Line.the-variants.{Listed, NoUnifier, Refused, RefusedNaming}
 use Rattle.tally.specs.declared.Totals.{Totals}
 
 -- B is L, U and F together
@@ -16,3 +16,4 @@ pub counted-add-up : (c : Totals) (line : Line) → c .blocks < 2 ^ 64 - 1 → A
 counted-add-up c (Listed balanced constants lines more) few before = omega arith
 counted-add-up c NoUnifier few before = omega arith
 counted-add-up c (Refused n) few before = omega arith
+counted-add-up c (RefusedNaming n atom) few before = omega arith

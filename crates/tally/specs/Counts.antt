@@ -6,7 +6,7 @@ use lib.Dec.{eqb}
 use Rattle.numbers.specs.Outcome.{Outcome}
 use Rattle.tally.specs.Line.{BlockFound, lineOf}
 use Rattle.tally.specs.declared.Line.{Line}
-use Rattle.tally.specs.declared.Line.the-variants.{Listed, NoUnifier, Refused}
+use Rattle.tally.specs.declared.Line.the-variants.{Listed, NoUnifier, Refused, RefusedNaming}
 use Rattle.tally.specs.declared.Totals.{Totals}
 use Rattle.tally.specs.declared.Tallied.{Tallied}
 use Rattle.tally.specs.declared.Closing.{Closing}
@@ -23,6 +23,8 @@ counted c (Listed balanced constants lines more) =
 counted c NoUnifier =
     record { blocks = oneMore (c .blocks); listed = c .listed; none = oneMore (c .none); refused = c .refused }
 counted c (Refused n) =
+    record { blocks = oneMore (c .blocks); listed = c .listed; none = c .none; refused = oneMore (c .refused) }
+counted c (RefusedNaming n atom) =
     record { blocks = oneMore (c .blocks); listed = c .listed; none = c .none; refused = oneMore (c .refused) }
 
 -- What is said of a block, from the counts so far and what the questions returned for it.

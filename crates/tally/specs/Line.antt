@@ -1,9 +1,10 @@
 -- A block's line (document 01, "The nightly program"), from what Read, Rows and Page returned for the block.
 use Prim.Native.Nat.{ℕ, _+_, _-_, _^_, min}
 use mathlib.Core.Bool.{Bool, cond}
+use mathlib.Core.Option.{Option, none, some}
 use lib.Dec.{eqb}
 use Rattle.numbers.specs.Numbers.{saidOf}
-use Rattle.numbers.specs.Outcome.{Outcome, refused, given}
+use Rattle.numbers.specs.Outcome.{Said, Outcome, refused, given}
 use Rattle.block.specs.declared.ReadAnswer.{ReadAnswer}
 use Rattle.block.specs.declared.ReadAnswer.the-variants.{Sides}
 use Rattle.block.specs.declared.ReadAnswer.the-variants as read
@@ -14,7 +15,7 @@ use Rattle.solver.specs.declared.page.PageAnswer.{PageAnswer}
 use Rattle.solver.specs.declared.page.PageAnswer.the-variants.{Page}
 use Rattle.solver.specs.declared.page.PageAnswer.the-variants as page
 use Rattle.tally.specs.declared.Line.{Line}
-use Rattle.tally.specs.declared.Line.the-variants.{Listed, NoUnifier, Refused}
+use Rattle.tally.specs.declared.Line.the-variants.{Listed, NoUnifier, Refused, RefusedNaming}
 
 -- What the questions return for a block that none of them refuses: the balanced rows, the rows of all
 -- constants, the number of keys that Page wrote and whether more follow.
@@ -44,12 +45,17 @@ toldBlock (Sides left right) (Groups balanced constants first second third fourt
       more = more;
     })
 
--- No unifier gives `block P none`; any other number `block P refused X`.
-abbrev pub lineOfNumber : ℕ → Line
-lineOfNumber n = cond (eqb n 13) NoUnifier (Refused n)
+-- No unifier gives `block P none`; any other number `block P refused X`, and where an atom is named beside it, the
+-- atom follows: `block P refused 10 v7` (document 02, R-2).
+abbrev pub lineWith : Option ℕ → ℕ → Line
+lineWith none n = cond (eqb n 13) NoUnifier (Refused n)
+lineWith (some atom) n = RefusedNaming n atom
+
+abbrev pub lineOfSaid : Said → Line
+lineOfSaid said = lineWith (said .atom) (said .number)
 
 -- `block P rows H K` (balanced rows, rows of all constants), then the page, then `end N` (lines printed) or
 -- `more`.
 abbrev pub lineOf : Outcome BlockFound → Line
-lineOf (refused said) = lineOfNumber (said .number)
+lineOf (refused said) = lineOfSaid said
 lineOf (given found) = Listed (found .balanced) (found .constants) (found .written) (found .more)

@@ -3,19 +3,16 @@
 // Every function here is for all inputs: none has a premise, and each contract determines what is given.
 ghost use mathlib.Core.Path.{_≡_};
 ghost use Prim.Native.Nat.{_+_, _-_, _%_, _^_, min};
-ghost use Rattle.numbers.specs.Numbers.{numberOf};
-ghost use Rattle.tally.specs.Line.{toldBlock, lineOf, lineOfNumber, constantsRows};
+ghost use Rattle.numbers.specs.Numbers.{saidOf};
+ghost use Rattle.tally.specs.Line.{toldBlock, lineOf, lineOfSaid, constantsRows};
 ghost use Rattle.tally.specs.Counts.{oneMore, counted, Tallies, closingOf};
 use block::ReadAnswer;
 use numbers::Refusal;
 use solver::page::PageAnswer;
 use solver::rows::RowsAnswer;
 
-// The number that says that there is no unifier.
-const NO_UNIFIER: u8 = 13;
-
 // What a block's line says beside its place, and what stands after its page: `end` and the number of lines
-// printed, or `more`.
+// printed, or `more`. A refusal is its number, and where it names an atom, the atom too.
 pub enum Line {
     Listed {
         balanced: u64,
@@ -25,6 +22,10 @@ pub enum Line {
     },
     NoUnifier,
     Refused(u8),
+    RefusedNaming {
+        number: u8,
+        atom: u8,
+    },
 }
 
 // How many blocks were read, and how many lines of each kind they have.
@@ -90,15 +91,15 @@ fn line_of(read: ReadAnswer, rows: RowsAnswer, page: PageAnswer) -> Line
     }
 }
 
-// The line of a refused block: 13 says that there is no unifier.
+// The line of a refused block: 13 says that there is no unifier, and 10 names an atom.
 fn refused_line(refusal: Refusal) -> Line
-    ensures { λ r. ⌜ r ≡ lineOfNumber (numberOf refusal) ⌝ }
+    ensures { λ r. ⌜ r ≡ lineOfSaid (saidOf refusal) ⌝ }
 {
     let number = numbers::number(refusal);
-    if number == NO_UNIFIER {
-        Line::NoUnifier
-    } else {
-        Line::Refused(number)
+    match refusal {
+        Refusal::NoUnifier => Line::NoUnifier,
+        Refusal::NetCount(atom) => Line::RefusedNaming { number, atom },
+        _ => Line::Refused(number),
     }
 }
 
@@ -140,6 +141,9 @@ fn count_line(counts: Totals, line: Line) -> Totals
             after.none = one_more(counts.none);
         }
         Line::Refused(_) => {
+            after.refused = one_more(counts.refused);
+        }
+        Line::RefusedNaming { number: _, atom: _ } => {
             after.refused = one_more(counts.refused);
         }
     }

@@ -3,6 +3,7 @@ pub mod Named
 pub mod Answered
 pub mod Whole
 pub mod Only
+pub mod Atoms
 pub mod Short
 pub mod Exist
 pub mod OnPages

@@ -31,11 +31,12 @@ use Rattle.numbers.specs.Numbers.{saidOf}
 use Rattle.numbers.specs.Order.{sidesNumbers, rowsNumbers, beginningNumbers}
 use Rattle.numbers.specs.Outcome.{Said, Outcome, refused, given, is-given}
 use Rattle.numbers.specs.declared.Refusal.the-variants.{ShortBuffer}
-use Rattle.numbers.proofs.Laws.{first-unique}
+use Rattle.numbers.proofs.Said.{refuses-other}
 use Rattle.numbers.proofs.Carried.{none-front, none-given, none-of}
 use Rattle.numbers.proofs.Parts.{first-short}
-use Rattle.numbers.proofs.Promises.{refused-not-given, refused-first, given-none, outcome-determined}
+use Rattle.numbers.proofs.Promises.{refused-not-given, refused-rightly, given-none, said-unique, outcome-determined}
 use Rattle.pair.specs.Given.{PairGiven}
+use Rattle.pair.proofs.NetCounts.{lowest-unique}
 use Rattle.list.specs.Given.{ListGiven, none-admissible, not-listed, last-listed}
 use Rattle.list.proofs.Given.{list-number, listed-after, list-gives-none}
 use Rattle.solver.specs.Page.{wantedCount, nextKeys, PageWritten, PagePromise, of-the-sides, of-the-list, next}
@@ -178,5 +179,5 @@ module _ {M : Mode} {L R : List ℕ} {begin : Beginning} {wanted written : ℕ} 
         go : Dec (wantedCount wanted′ ≤ length lent) → said ≡ saidOf ShortBuffer
         go (yes enough) = absurd (refused-not-given (asked-on enough promise .1))
         go (no short) =
-            ap (λ n. record { number = n })
-            (first-unique (refused-first promise) (first-short (page-made (groups-exist M L R)) (omega arith)))
+            said-unique lowest-unique (refused-rightly promise)
+            (refuses-other ShortBuffer refl (first-short (page-made (groups-exist M L R)) (omega arith)))

@@ -26,9 +26,10 @@ use Rattle.numbers.proofs.Carried.{first-after, first-given, first-past, its-me
 use Rattle.numbers.proofs.Parts.{given-list}
 use Rattle.numbers.specs.Numbers.{saidOf}
 use Rattle.numbers.specs.Order.{rowsNumbers, keyNumbers, beginningNumbers, lengthNumbers, valuesNumbers}
-use Rattle.numbers.specs.Outcome.{Outcome, refused}
+use Rattle.numbers.specs.Outcome.{Outcome, refused, is-refused}
 use Rattle.numbers.specs.declared.Refusal.the-variants.{NoUnifier}
-use Rattle.numbers.proofs.Promises.{refuse, refused-first, outcome-determined}
+use Rattle.numbers.proofs.Promises.{refused-first, outcome-determined}
+use Rattle.numbers.proofs.Said.{refuses-other}
 use Rattle.list.specs.Given.{none-admissible}
 use Rattle.list.proofs.Given.{given-13}
 use Rattle.solver.specs.Page.{PageGiven, PageWritten, PagePromise}
@@ -94,5 +95,6 @@ module _ {M : Mode} {L R : List ℕ} {key : ℕ} {out : List ℕ} where
       ↔ (NoneOf (ValuesGiven M L R key out) rowsNumbers × NoneUnifies M L R)
   values-none-at-all {out′ = out′} promise = (
     λ e. first-13 (refused-first (subst (λ o. ValuesPromise M L R key out o out′) e promise)),
-    λ none. outcome-determined one-values promise (refuse (next-13 (none .0) (none .1))) .0,
+    λ none. outcome-determined one-values promise
+        (is-refused (refuses-other NoUnifier refl (next-13 (none .0) (none .1)))) .0,
   )

@@ -23,9 +23,11 @@ use Rattle.numbers.proofs.Carried.{none-of}
 use Rattle.ac.specs.Limits.{limits}
 use Rattle.pair.specs.Given.{PairGiven}
 use Rattle.numbers.specs.Order.{sidesNumbers, beginningNumbers}
-use Rattle.numbers.specs.Outcome.{given, is-given}
+use Rattle.numbers.specs.Outcome.{given, is-refused, is-given}
 use Rattle.numbers.proofs.Parts.{none-of-sides}
-use Rattle.numbers.proofs.Promises.{refuse, outcome-determined}
+use Rattle.numbers.specs.declared.Refusal.the-variants.{NoUnifier}
+use Rattle.numbers.proofs.Promises.{outcome-determined}
+use Rattle.numbers.proofs.Said.{refuses-other}
 use Rattle.solver.specs.Rows.{sizesOf, allRows, rows}
 use Rattle.list.specs.Given.{none-admissible}
 use Rattle.list.proofs.Given.{start-not-after, list-gives-none}
@@ -77,7 +79,8 @@ module _ {L R : List ℕ} {G : Groups}
   -- a list of at most 200 keys is one page; an empty one is 13
   pub page-of-list : (ks : List ℕ) → keys unifying layout L R G ≡ ks → length ks ≤ 200 → PageAnswers L R ks
   page-of-list [] e few out enough =
-      let met = refuse (page-first groups nothing enough (here (none-admissible e))) in
+      let first = page-first groups nothing enough (here (none-admissible e)) in
+      let met = is-refused (refuses-other NoUnifier refl first) in
       record { meets = met; alone = λ other exit p. outcome-determined one-page p met }
   page-of-list (key ∷ others) e few out enough =
       page-from start (λ k same. absurd (start-not-after same)) key others e few out enough

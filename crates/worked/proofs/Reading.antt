@@ -15,7 +15,7 @@ use Rattle.numbers.specs.Outcome.{is-given}
 use Rattle.numbers.proofs.Promises.{outcome-determined}
 use Rattle.block.specs.Read.{sides}
 use Rattle.block.proofs.Settled.{not-16, none-given}
-use Rattle.block.proofs.Determined.{one-result}
+use Rattle.block.proofs.Determined.{one-read}
 use Rattle.worked.specs.Answers.{ReadAnswers}
 use Rattle.worked.specs.Example.{block-0, block-1, overlapping}
 
@@ -30,7 +30,7 @@ block-gives good left right zeros lent left-fits right-fits =
     record {
       meets = met;
       alone = λ other exit p.
-          let same = outcome-determined one-result p met in
+          let same = outcome-determined one-read p met in
           (same .0, ap (λ b. record { left = b .0; right = b .1 }) (same .1));
     }
 

@@ -24,6 +24,12 @@ enum-known-line-2 c = search needs
 put-refused-requires : tie.Need-put-refused-requires
 put-refused-requires c κs = search needs
 
+enum-known-line-3 : tie.Need-enum-known-line-3
+enum-known-line-3 c = search needs
+
+put-naming-requires : tie.Need-put-naming-requires
+put-naming-requires c κs = search needs
+
 same-length : tie.Need-same-length
 same-length c = search needs
 
@@ -51,6 +57,15 @@ returns-3 c =
     within-as (sym (ap (blockLine (at-told .before .before .before .args .place)) (at-told .line2 .given .1)))
     (c .before .before .put-refused .ensures)
 
+same-length-4 : tie.Need-same-length-4
+same-length-4 c = search needs
+
+returns-4 : tie.Need-returns-4
+returns-4 c =
+    let at-told = c .before .before .before .before .before in
+    within-as (sym (ap (blockLine (at-told .before .before .before .args .place)) (at-told .line3 .given .1)))
+    (c .before .before .put-naming .ensures)
+
 pub put-block-line-spec : {M : Type 1} → statement M
 put-block-line-spec =
     tie.close
@@ -61,9 +76,13 @@ put-block-line-spec =
     put-none-requires
     enum-known-line-2
     put-refused-requires
+    enum-known-line-3
+    put-naming-requires
     same-length
     returns
     same-length-2
     returns-2
     same-length-3
-    returns-3)
+    returns-3
+    same-length-4
+    returns-4)

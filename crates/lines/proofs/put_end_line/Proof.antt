@@ -18,6 +18,9 @@ enum-told c = search needs
 enum-told-2 : tie.Need-enum-told-2
 enum-told-2 c = search needs
 
+enum-told-3 : tie.Need-enum-told-3
+enum-told-3 c = search needs
+
 same-length : tie.Need-same-length
 same-length c = search needs
 
@@ -32,6 +35,9 @@ returns-2 c = within-as (sym (ap endLine (c .enum-told .given .1))) (within-noth
 returns-3 : tie.Need-returns-3
 returns-3 c = within-as (sym (ap endLine (c .enum-told2 .given .1))) (within-nothing _ _ _)
 
+returns-4 : tie.Need-returns-4
+returns-4 c = within-as (sym (ap endLine (c .enum-told3 .given .1))) (within-nothing _ _ _)
+
 pub put-end-line-spec : {M : Type 1} → statement M
 put-end-line-spec =
     tie.close
@@ -40,7 +46,9 @@ put-end-line-spec =
     put-page-end-requires
     enum-told
     enum-told-2
+    enum-told-3
     same-length
     returns
     returns-2
-    returns-3)
+    returns-3
+    returns-4)

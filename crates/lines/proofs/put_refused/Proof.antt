@@ -1,21 +1,12 @@
 -- `lines::put_refused` meets its contract: its parts are put one behind the other. Assumes nothing.
-use Rattle.lines.proofs.Putting.{within-length, within-more, within-then}
 use native.Mathlib.Omega.{arith}
+use Rattle.lines.proofs.Putting.{within-length, within-more, within-then}
 use borrow.Author.Needs.{needs}
 use Rattle.lines.proofs.put_refused.Statement.{statement}
 use Rattle.lines.proofs.put_refused.Tie as tie
 
-slice-aggregate-put-labelled : tie.Need-slice-aggregate-put-labelled
-slice-aggregate-put-labelled c = search needs
-
-put-labelled-requires : tie.Need-put-labelled-requires
-put-labelled-requires c κs = search needs
-
-slice-aggregate-put-labelled-2 : tie.Need-slice-aggregate-put-labelled-2
-slice-aggregate-put-labelled-2 c = search needs
-
-put-labelled-requires-2 : tie.Need-put-labelled-requires-2
-put-labelled-requires-2 c κs = search needs
+put-refusal-requires : tie.Need-put-refusal-requires
+put-refusal-requires c κs = search needs
 
 slice-aggregate-put-bytes : tie.Need-slice-aggregate-put-bytes
 slice-aggregate-put-bytes c = search needs
@@ -28,19 +19,14 @@ same-length c = search needs
 
 returns : tie.Need-returns
 returns c =
-    let second = c .before .before .before .before .before .before .before in
-    let first = second .before .before .before .before .before in
-    let numbers = within-then (first .put-labelled .ensures) (second .put-labelled2 .ensures) in
-    within-more (within-then numbers (within-length (c .before .before .put-bytes .ensures))) (omega arith)
+    within-more (within-then (c .before .before .before .before .before .before .before .put-refusal .ensures)
+    (within-length (c .before .before .put-bytes .ensures))) (omega arith)
 
 pub put-refused-spec : {M : Type 1} → statement M
 put-refused-spec =
     tie.close
     (tie.spec
-    slice-aggregate-put-labelled
-    put-labelled-requires
-    slice-aggregate-put-labelled-2
-    put-labelled-requires-2
+    put-refusal-requires
     slice-aggregate-put-bytes
     put-bytes-requires
     same-length

@@ -1,5 +1,6 @@
 -- `pair::take_apart` meets its contract: two flags tell whether 7 and 8 are given; where neither is, the
 -- counts settle the rest. Assumes nothing.
+use mathlib.Core.Path.{refl}
 use mathlib.Core.Bool.{_||_}
 use mathlib.Core.List.{List}
 use Prim.Native.Nat.{ℕ}
@@ -10,6 +11,7 @@ use Rattle.numbers.proofs.Verdicts.{decides-refused, decides-after}
 use Rattle.ac.specs.Limits.{limits}
 use Rattle.pair.specs.Given.{PairGiven, side-length, no-atom, left, right}
 use Rattle.numbers.specs.Tells.{Tells}
+use Rattle.numbers.specs.declared.Refusal.the-variants.{SideLength, NoAtom}
 use Rattle.pair.proofs.Parting.{tells-7, tells-8}
 use Rattle.pair.proofs.take_apart.Statement.{statement}
 use Rattle.pair.proofs.take_apart.Tie as tie
@@ -53,7 +55,8 @@ refused-requires : tie.Need-refused-requires
 refused-requires c κs = tt
 
 returns : tie.Need-returns
-returns c = decides-refused (c .refused .ensures) (here (seven (c .before .before) .if-true (c .before .if1 .taken)))
+returns c = decides-refused {why = SideLength} (c .refused .ensures) refl
+    (here (seven (c .before .before) .if-true (c .before .if1 .taken)))
 
 refused-requires-2 : tie.Need-refused-requires-2
 refused-requires-2 c κs = tt
@@ -61,7 +64,7 @@ refused-requires-2 c κs = tt
 returns-2 : tie.Need-returns-2
 returns-2 c =
     let made = c .before .before .before in
-    decides-refused (c .refused2 .ensures)
+    decides-refused {why = NoAtom} (c .refused2 .ensures) refl
     (later (seven made .if-false (c .before .before .if1 .left))
     (here (eight made .if-true (c .before .if2 .taken))))
 

@@ -1,7 +1,8 @@
 -- `table::solve` meets its contract: 7 to 11, then 12. Assumes nothing.
 use Rattle.numbers.specs.Order.{rowLimitNumbers}
 use Rattle.numbers.proofs.Carried.{first-before}
-use Rattle.numbers.proofs.Verdicts.{decides-refused, decides-after}
+use Rattle.numbers.proofs.Verdicts.{decides-said, decides-after}
+use Rattle.numbers.proofs.Said.{refuses-carried}
 use Rattle.table.proofs.Solving.{pair-roomy}
 use borrow.Author.Needs.{needs}
 use Rattle.table.proofs.solve.Statement.{statement}
@@ -27,8 +28,8 @@ solve-pair-requires c κs =
 returns : tie.Need-returns
 returns c =
     let parted = c .before .before .before .before .before .take-apart .ensures in
-    decides-refused (c .refused .ensures)
-    (first-before rowLimitNumbers (parted .refused _ (c .before .before .verdict .given .1) .first))
+    decides-said (c .refused .ensures)
+    (refuses-carried (first-before rowLimitNumbers) (parted .refused _ (c .before .before .verdict .given .1)))
 
 returns-2 : tie.Need-returns-2
 returns-2 c =

@@ -3,6 +3,7 @@ use mathlib.Core.Path.{refl}
 use borrow.Author.Needs.{needs}
 use borrow.Author.Tests.{not-true, not-false}
 use Rattle.numbers.specs.First.{here, also, end}
+use Rattle.numbers.specs.declared.Refusal.the-variants.{Rows}
 use Rattle.numbers.proofs.Verdicts.{decides-refused, decides-accepted}
 use Rattle.table.proofs.Counting.{twelve-not-given}
 use Rattle.table.proofs.Accepting.{table-of}
@@ -18,7 +19,7 @@ refused-requires c κs = search needs
 returns : tie.Need-returns
 returns c M L R of =
     let found = c .before .before .before .find-groups .ensures M L R of in
-    decides-refused (c .refused .ensures) (here (found .if-false (not-true _ (c .before .if1 .taken))))
+    decides-refused {why = Rows} (c .refused .ensures) refl (here (found .if-false (not-true _ (c .before .if1 .taken))))
 
 first-four-requires : tie.Need-first-four-requires
 first-four-requires c κs = search needs

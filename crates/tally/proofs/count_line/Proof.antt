@@ -24,6 +24,12 @@ enum-told-3 c = search needs
 one-more-requires-4 : tie.Need-one-more-requires-4
 one-more-requires-4 c κs = search needs
 
+enum-told-4 : tie.Need-enum-told-4
+enum-told-4 c = search needs
+
+one-more-requires-5 : tie.Need-one-more-requires-5
+one-more-requires-5 c κs = search needs
+
 returns : tie.Need-returns
 returns c =
     simp (c .before .enum-told .given .1, c .before .before .before .one-more .ensures, c .one-more2 .ensures)
@@ -36,6 +42,10 @@ returns-3 : tie.Need-returns-3
 returns-3 c =
     simp (c .before .enum-told3 .given .1, c .before .before .before .one-more .ensures, c .one-more4 .ensures)
 
+returns-4 : tie.Need-returns-4
+returns-4 c =
+    simp (c .before .enum-told4 .given .1, c .before .before .before .one-more .ensures, c .one-more5 .ensures)
+
 pub count-line-spec : {M : Type 1} → statement M
 count-line-spec =
     tie.close
@@ -47,6 +57,9 @@ count-line-spec =
     one-more-requires-3
     enum-told-3
     one-more-requires-4
+    enum-told-4
+    one-more-requires-5
     returns
     returns-2
-    returns-3)
+    returns-3
+    returns-4)

@@ -1,12 +1,12 @@
--- `pair::limits::far_net_count` meets its contract. The loop's invariant: at no atom passed are the two
+-- `pair::limits::lowest_far` meets its contract. The loop's invariant: at no atom passed are the two
 -- counts too far apart. Assumes nothing.
 use Prim.Native.Nat.{ℕ, _≤_, _<_, _-_}
 use native.Mathlib.Omega.{arith}
 use borrow.Author.Count.{below-none, below-more}
-use Rattle.pair.proofs.Telling.{tells-true, tells-false}
-use Rattle.pair.proofs.NetCounts.{apart, far-given, near-not-given}
-use Rattle.pair.proofs.limits.far_net_count.Statement.{statement}
-use Rattle.pair.proofs.limits.far_net_count.Tie as tie
+use Rattle.pair.specs.Counts.{a-far-one, all-near}
+use Rattle.pair.proofs.NetCounts.{apart, far-lowest, near-not-given}
+use Rattle.pair.proofs.limits.lowest_far.Statement.{statement}
+use Rattle.pair.proofs.limits.lowest_far.Tie as tie
 
 abbrev Inv-loop : tie.InvT-loop
 Inv-loop counts atom₀ atom = (atom ≤ 128) × ((k : ℕ) → k < atom → apart counts k ≤ 8)
@@ -26,9 +26,13 @@ element-copy-out-distance-2 c = omega arith
 distance-requires : tie.Need-distance-requires Inv-loop μ-loop
 distance-requires c κs = tt
 
+cast-t12 : tie.Need-cast-t12 Inv-loop μ-loop
+cast-t12 c = omega arith
+
 returns : tie.Need-returns Inv-loop μ-loop
 returns c M L R counted =
-    tells-true (far-given counted (c .before .before .before .before .before .loop .atom) (omega arith))
+    let reached = c .before .before .before .before .before .loop in
+    a-far-one (far-lowest counted (reached .atom) (omega arith) (reached .inv .1))
 
 add-atom : tie.Need-add-atom Inv-loop μ-loop
 add-atom c = omega arith
@@ -41,10 +45,10 @@ loop-again c = (omega arith, below-more _ _ (c .before .before .before .before .
 
 returns-2 : tie.Need-returns-2 Inv-loop μ-loop
 returns-2 c M L R counted =
-    tells-false (near-not-given counted (λ k within. c .before .loop .inv .1 k (omega arith)))
+    all-near (near-not-given counted (λ k within. c .before .loop .inv .1 k (omega arith)))
 
-pub far-net-count-spec : {M : Type 1} → statement M
-far-net-count-spec =
+pub lowest-far-spec : {M : Type 1} → statement M
+lowest-far-spec =
     tie.close
     (tie.spec
     Inv-loop
@@ -53,6 +57,7 @@ far-net-count-spec =
     element-copy-out-distance
     element-copy-out-distance-2
     distance-requires
+    cast-t12
     returns
     add-atom
     loop-less

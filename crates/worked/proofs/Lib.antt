@@ -10,3 +10,5 @@ pub mod WrongRows
 pub mod WrongPages
 pub mod WrongValues
 pub mod WrongTallies
+pub mod TooFrequent
+pub mod WrongAtoms

@@ -32,7 +32,7 @@ each (test ∷ tests) passes zero = both test (all tests) passes .0
 each (test ∷ tests) passes (suc place) = each tests (both test (all tests) passes .1) place
 
 -- a side has 1 to 64 atoms, and none of them is above 127
-abbrev sideTests : List ℕ → List Bool
+abbrev pub sideTests : List ℕ → List Bool
 sideTests side = leb (limits .least-atoms) (length side) ∷ leb (length side) (limits .most-atoms) ∷ every (λ a. leb a (limits .highest-atom)) side ∷ []
 
 -- at most 16 balanced rows, and at most 16 for each constant
@@ -56,12 +56,12 @@ abbrev pub within : List ℕ → List ℕ → Bool
 within L R = all (pairTests L R)
 
 module _ (side : List ℕ) (passes : all (sideTests side) ≡ true) where
-  length-within : WrongLength limits side → ⊥
+  pub length-within : WrongLength limits side → ⊥
   length-within (inl few) = omega (arith, leb-true (limits .least-atoms) (length side) (each (sideTests side) passes 0))
   length-within (inr many) = omega (arith, leb-true (length side) (limits .most-atoms) (each (sideTests side) passes 1))
 
   -- every byte of a side that passes is at most 127
-  byte-within : {byte : ℕ} → List·Memᴰ byte side → byte ≤ limits .highest-atom
+  pub byte-within : {byte : ℕ} → List·Memᴰ byte side → byte ≤ limits .highest-atom
   byte-within {byte} m = leb-true byte (limits .highest-atom) (every-member (λ a. leb a (limits .highest-atom)) (each (sideTests side) passes 2) m)
 
 -- groups that pass have not too many rows

@@ -3,9 +3,9 @@ use Prim.Native.Nat.{ℕ}
 use mathlib.Core.Option.{Option, none, some}
 use Rattle.numbers.specs.Outcome.{Said}
 use Rattle.numbers.specs.declared.Refusal.{Refusal}
-use Rattle.numbers.specs.declared.Refusal.the-variants.{BlockLength, Check, BlockNumber, TermLength, Term, Filler, SideLength, NoAtom, Variables, NetCount, Constants, Rows, NoUnifier, NotListed, LastKey, ShortBuffer, LongValue}
+use Rattle.numbers.specs.declared.Refusal.the-variants.{BlockLength, Check, BlockNumber, TermLength, Term, Filler, SideLength, NoAtom, Variables, NetCount, Constants, Rows, NoUnifier, NotListed, LastKey, ShortBuffer, LongValue, WrongSide}
 
--- the column No. of the table, row by row
+-- the column No. of the table, row by row, and the rows that document 02 adds to it: 18 (R-3)
 abbrev pub numberOf : Refusal → ℕ
 numberOf BlockLength = 1
 numberOf Check = 2
@@ -24,6 +24,7 @@ numberOf NotListed = 14
 numberOf LastKey = 15
 numberOf ShortBuffer = 16
 numberOf LongValue = 17
+numberOf WrongSide = 18
 
 -- the atom that 10 names (document 02, R-2)
 abbrev pub atomOf : Refusal → Option ℕ
@@ -44,6 +45,7 @@ atomOf NotListed = none
 atomOf LastKey = none
 atomOf ShortBuffer = none
 atomOf LongValue = none
+atomOf WrongSide = none
 
 -- what a refusal says
 abbrev pub saidOf : Refusal → Said

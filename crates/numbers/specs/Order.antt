@@ -39,6 +39,10 @@ beginningNumbers = keyNumbers ++ (15 ∷ [])
 abbrev pub lengthNumbers : List ℕ
 lengthNumbers = 17 ∷ []
 
+-- the number that a variable's side decides, where a block is written (document 02, R-3)
+abbrev pub sideNumbers : List ℕ
+sideNumbers = 18 ∷ []
+
 -- the questions' numbers, in order
 abbrev pub readNumbers : List ℕ
 readNumbers = 16 ∷ blockNumbers
@@ -51,3 +55,7 @@ pageNumbers = 16 ∷ (sidesNumbers ++ beginningNumbers)
 
 abbrev pub valuesNumbers : List ℕ
 valuesNumbers = 16 ∷ (sidesNumbers ++ (keyNumbers ++ lengthNumbers))
+
+-- Write: "7, 8, then 18 for a variable on the wrong side; 16 first" (document 02, R-3)
+abbrev pub writeNumbers : List ℕ
+writeNumbers = 16 ∷ (uncountedNumbers ++ sideNumbers)

@@ -24,6 +24,7 @@ pub enum Refusal {
     LastKey,
     ShortBuffer,
     LongValue,
+    WrongSide,
 }
 
 // Whether something is refused, and why.
@@ -54,5 +55,6 @@ pub fn number(refusal: Refusal) -> u8
         Refusal::LastKey => 15,
         Refusal::ShortBuffer => 16,
         Refusal::LongValue => 17,
+        Refusal::WrongSide => 18,
     }
 }

@@ -37,7 +37,7 @@ pub fn read_header(block: &[u8], number: u16) -> Header
 }
 
 // 65,535 minus the sum of bytes 0 to 509, modulo 65,536.
-fn check_of(block: &[u8]) -> u16
+pub fn check_of(block: &[u8]) -> u16
     requires { ⌜ length (now block) ≡ 512 ⌝ }
     ensures { λ r. ⌜ r ≡ checkOfBytes (now (block .entry)) ⌝ }
 {

@@ -1,5 +1,5 @@
 // Library blocks: the question Read (document 01, "A library block" and "The questions"; document 02, R-1).
-mod header;
+pub mod header;
 mod term;
 
 use buffer::least;

@@ -56,6 +56,10 @@ put-as {out} {after} {at} {n} e p = subst (λ (l : List ℕ). Put out at l n aft
 pub put-at : {out after : List ℕ} {at m n : ℕ} {s : List ℕ} → m ≡ n → Put out at s m after → Put out at s n after
 put-at {out} {after} {at} {m} {n} {s} e p = subst (λ (k : ℕ). Put out at s k after) e p
 
+-- two bytes, one behind the other
+pub put-two : (out : List ℕ) (at a b : ℕ) → Put out at (a ∷ b ∷ []) (at + 2) (set (set out at a) (at + 1) b)
+put-two out at a b = put-at (omega arith) (put-then (put-byte out at a) (put-byte (set out at a) (at + 1) b))
+
 -- what is put from the front of a buffer that has room for it stands there, and what comes after it stays
 pub put-received : {out after bytes : List ℕ} {next : ℕ} → Put out 0 bytes next after → next ≤ length out
     → after ≡ bytes ++ drop (length bytes) out

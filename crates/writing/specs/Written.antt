@@ -1,0 +1,46 @@
+-- How a block is written (document 02, R-3), byte for byte as document 01 lays it out ("A library block").
+use Prim.Native.Nat.{ℕ, _+_, _-_, _/_, _%_}
+use mathlib.Core.Bool.{_&&_, cond}
+use mathlib.Core.List.{List, [], _∷_, _++_, map}
+use lib.Dec.{leb, ltb}
+use lib.ListN.{length, replicate}
+use Rattle.ac.specs.Lists.{sum}
+
+-- Each side as 128, first atom, rest, down to the last atom.
+abbrev pub front : List ℕ → List ℕ
+front [] = []
+front (a ∷ []) = a ∷ []
+front (a ∷ b ∷ rest) = 128 ∷ a ∷ front (b ∷ rest)
+
+-- The right side uses v32 to v63, written 32 lower; a constant stays.
+abbrev pub asWritten : ℕ → ℕ
+asWritten a = cond (leb 32 a && ltb a 64) (a - 32) a
+
+-- the terms that are written of the two sides
+abbrev pub leftWritten : List ℕ → List ℕ
+leftWritten left = front left
+
+abbrev pub rightWritten : List ℕ → List ℕ
+rightWritten right = front (map asWritten right)
+
+-- Numbers of two bytes have the high byte first.
+abbrev pub highFirst : ℕ → List ℕ
+highFirst n = n / 256 ∷ n % 256 ∷ []
+
+module _ (number : ℕ) (left right : List ℕ) where
+  -- Bytes 0 and 1: block number. Byte 2: length of the left term. Byte 3: length of the right term. From byte 4: the
+  -- left term, then the right term, ..
+  abbrev pub upToTerms : List ℕ
+  upToTerms =
+      highFirst number
+      ++ (length (leftWritten left) ∷ length (rightWritten right) ∷ [])
+      ++ leftWritten left
+      ++ rightWritten right
+
+  -- .. then zeros up to byte 509.
+  abbrev pub upToCheck : List ℕ
+  upToCheck = upToTerms ++ replicate (510 - length upToTerms) 0
+
+  -- Bytes 510 and 511: the check, 65,535 minus (the sum of bytes 0 to 509, modulo 65,536).
+  unfoldable pub blockOf : List ℕ
+  blockOf = upToCheck ++ highFirst (65535 - sum upToCheck % 65536)

@@ -1,1 +1,3 @@
 pub mod Written
+pub mod Table
+pub mod Write

@@ -1,12 +1,68 @@
 // Writing library blocks: the question Write (document 02, R-3).
 use block::header::check_of;
+use buffer::put_bytes;
 use buffer::put_repeated;
+use numbers::Refusal;
+use pair::limits::wrong_byte;
+use pair::limits::wrong_length;
 ghost use mathlib.Core.Path.{_≡_};
 ghost use Prim.Native.Nat.{_+_, _-_, _*_, _≤_, _<_};
 ghost use mathlib.Core.List.{map};
 ghost use lib.ListN.{length, take};
 ghost use Rattle.buffer.specs.Put.{Put};
-ghost use Rattle.writing.specs.Written.{front, asWritten, highFirst, blockOf};
+ghost use Rattle.numbers.specs.Tells.{Tells};
+ghost use Rattle.writing.specs.Written.{front, asWritten, highFirst, upToTerms, blockOf};
+ghost use Rattle.writing.specs.Table.{HoldsVariable};
+ghost use Rattle.writing.specs.Write.{toldWrite, WritePromise};
+
+// What Write answers: that the block is written, or why the sides are refused.
+pub enum WriteAnswer {
+    Written,
+    Refused(Refusal),
+}
+
+// The question Write: writes the block of two flattened sides that has this number into the buffer.
+pub fn write(left: &[u8], right: &[u8], number: u16, block: &mut [u8]) -> WriteAnswer
+    ensures { λ r. ⌜ WritePromise (now (left .entry)) (now (right .entry)) number (now (block .entry))
+        (toldWrite r) (now (block .exit)) ⌝ }
+{
+    let wrong_lengths = wrong_length(left) | wrong_length(right);
+    let wrong_bytes = wrong_byte(left) | wrong_byte(right);
+    let wrong_sides = holds_variable(left, 32, 63) | holds_variable(right, 0, 31);
+    if block.len() < 512 {
+        return WriteAnswer::Refused(Refusal::ShortBuffer);
+    }
+    if wrong_lengths {
+        return WriteAnswer::Refused(Refusal::SideLength);
+    }
+    if wrong_bytes {
+        return WriteAnswer::Refused(Refusal::NoAtom);
+    }
+    if wrong_sides {
+        return WriteAnswer::Refused(Refusal::WrongSide);
+    }
+    write_block(left, right, number, &mut block[..512]);
+    WriteAnswer::Written
+}
+
+// Whether the side holds a variable from the first number to the last.
+fn holds_variable(side: &[u8], first: u8, last: u8) -> bool
+    ensures { λ r. ⌜ Tells (HoldsVariable first last (now (side .entry))) r ⌝ }
+{
+    for i in 0..side.len() {
+        if is_between(side[i], first, last) {
+            return true;
+        }
+    }
+    false
+}
+
+// Whether the atom is one of those from the first number to the last.
+fn is_between(atom: u8, first: u8, last: u8) -> bool
+    ensures { λ r. ⌜ Tells ((first ≤ atom) × (atom ≤ last)) r ⌝ }
+{
+    first <= atom && atom <= last
+}
 
 // Writes the block of two sides that may be written, all its 512 bytes.
 fn write_block(left: &[u8], right: &[u8], number: u16, block: &mut [u8])
@@ -16,14 +72,26 @@ fn write_block(left: &[u8], right: &[u8], number: u16, block: &mut [u8])
     ensures { λ r. ⌜ now (block .exit) ≡ blockOf number (now (left .entry)) (now (right .entry)) ⌝ }
 {
     let right_atoms = lowered(right);
-    put_number(block, 0, number);
-    block[2] = term_length(left.len());
-    block[3] = term_length(right.len());
-    let left_end = put_term(block, 4, left);
-    let right_end = put_term(block, left_end, &right_atoms[..right.len()]);
-    put_repeated(block, right_end, 0, 510 - right_end);
+    let end = put_terms(left, &right_atoms[..right.len()], number, block);
+    put_repeated(block, end, 0, 510 - end);
     let check = check_of(block);
     put_number(block, 510, check);
+}
+
+// Puts what stands before the filler, for two sides as they are written: the number, the lengths of the terms, and the
+// terms.
+fn put_terms(left: &[u8], right: &[u8], number: u16, block: &mut [u8]) -> usize
+    requires { ⌜ (0 < length (now left)) × (length (now left) ≤ 64) ⌝ }
+    requires { ⌜ (0 < length (now right)) × (length (now right) ≤ 64) ⌝ }
+    requires { ⌜ length (now block) ≡ 512 ⌝ }
+    ensures { λ r. ⌜ Put (now (block .entry)) 0 (upToTerms number (front (now (left .entry))) (front (now (right .entry))))
+        r (now (block .exit)) ⌝ }
+{
+    let lengths = [term_length(left.len()), term_length(right.len())];
+    let number_end = put_number(block, 0, number);
+    let lengths_end = put_bytes(block, number_end, &lengths);
+    let left_end = put_term(block, lengths_end, left);
+    put_term(block, left_end, right)
 }
 
 // Puts a number of two bytes, the high one first.
@@ -31,9 +99,8 @@ fn put_number(out: &mut [u8], at: usize, number: u16) -> usize
     requires { ⌜ at + 2 ≤ length (now out) ⌝ }
     ensures { λ r. ⌜ Put (now (out .entry)) at (highFirst number) r (now (out .exit)) ⌝ }
 {
-    out[at] = (number / 256) as u8;
-    out[at + 1] = (number % 256) as u8;
-    at + 2
+    let bytes = [(number / 256) as u8, (number % 256) as u8];
+    put_bytes(out, at, &bytes)
 }
 
 // How many bytes a side of so many atoms is written in: each but the last has 128 before it.

@@ -1,46 +1,53 @@
+-- `writing::lowered` meets its contract. The loop's invariant: the atoms before place i stand in the array as they are
+-- written. Assumes nothing.
+use Prim.Native.Nat.{ℕ, _+_, _≤_, _-_}
+use native.Mathlib.Omega.{arith}
+use mathlib.Core.Path.{_≡_, refl}
+use mathlib.Core.List.{map}
+use lib.ListN.{length, take}
+use Rattle.buffer.specs.Put.{Put}
+use Rattle.buffer.proofs.Puts.{put-nothing, put-byte, put-then, put-as}
+use Rattle.writing.specs.Written.{asWritten}
+use Rattle.writing.proofs.Lower.{written-next, all-written}
 use Rattle.writing.proofs.lowered.Statement.{statement}
 use Rattle.writing.proofs.lowered.Tie as tie
-use Rattle.writing.proofs.lowered.Reads as reads
-use Rattle.writing.proofs.lowered.Lts as lts
-use Rattle.writing.proofs.as_written.Reads as as-written-reads
 
 abbrev Inv-loop : tie.InvT-loop
-Inv-loop right lowered₀ i₀ i-end lowered i = ?
+Inv-loop right lowered₀ i₀ i-end lowered i =
+    (i ≤ i-end) × (i-end ≡ length right) × Put lowered₀ 0 (map asWritten (take i right)) i lowered
 
 abbrev μ-loop : tie.MeasureT-loop
-μ-loop right lowered₀ i₀ i-end lowered i = ?
+μ-loop right lowered₀ i₀ i-end lowered i = i-end - i
 
--- src/lib.rt:70:5
 loop-holds : tie.Need-loop-holds Inv-loop μ-loop
-loop-holds c = ?
+loop-holds c = (omega arith, refl, put-nothing _ _)
 
--- src/lib.rt:71:33
 shared-slice-read-as-written : tie.Need-shared-slice-read-as-written Inv-loop μ-loop
-shared-slice-read-as-written c = ?
+shared-slice-read-as-written c = omega arith
 
--- src/lib.rt:71:22
 as-written-requires : tie.Need-as-written-requires Inv-loop μ-loop
-as-written-requires c κs = ?
+as-written-requires c κs = tt
 
--- src/lib.rt:71:9
 array-write-lowered : tie.Need-array-write-lowered Inv-loop μ-loop
-array-write-lowered c = ?
+array-write-lowered c = omega arith
 
--- src/lib.rt:70:9
 add-i : tie.Need-add-i Inv-loop μ-loop
-add-i c = ?
+add-i c = omega arith
 
--- src/lib.rt:70:5
 loop-less : tie.Need-loop-less Inv-loop μ-loop
-loop-less c = ?
+loop-less c = omega arith
 
--- src/lib.rt:70:5
 loop-again : tie.Need-loop-again Inv-loop μ-loop
-loop-again c = ?
+loop-again c =
+    let at-loop = c .before .before .before in
+    let right = at-loop .before .before .args .right .now in
+    let l = at-loop .loop in
+    let put = put-then (l .inv .2) (put-byte (l .lowered) (l .i) (c .as-written .result)) in
+    (omega arith, refl, put-as (written-next right (l .i) (omega arith) (c .as-written .ensures)) put)
 
--- src/lib.rt:65:1
 returns : tie.Need-returns Inv-loop μ-loop
-returns c = ?
+returns c =
+    all-written (c .before .before .before .args .right .now) (omega arith) (omega arith) (c .before .loop .inv .2)
 
 pub lowered-spec : {M : Type 1} → statement M
 lowered-spec =

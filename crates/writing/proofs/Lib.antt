@@ -3,3 +3,7 @@ pub mod Lower
 pub mod Blocks
 pub mod Sides
 pub mod Settled
+pub mod Shapes
+pub mod Laid
+pub mod Accepted
+pub mod ReadBack

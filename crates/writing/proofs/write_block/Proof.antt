@@ -34,7 +34,8 @@ within c =
 -- so both terms end before the check
 terms-end : (c : tie.After-put-terms) → length (upToTerms (entry c .args .number) (left-term c) (right-term c)) ≤ 258
 terms-end c =
-    terms-length (entry c .args .number) (left-term c) (right-term c) (left-fits (within c)) (right-fits (within c))
+    terms-length (entry c .args .number) (left-term c) (right-term c) (left-fits (within c) .1)
+    (right-fits (within c) .1)
 
 -- they are put behind the number and the lengths
 terms : (c : tie.After-put-terms)
@@ -101,8 +102,8 @@ returns c =
     let at-check = at-number .before .before in
     let at-zeros = at-check .before .before .before .before in
     let at-terms = at-zeros .before .before .before .before in
-    block-put (entry at-terms .args .number) (left-term at-terms) (right-term at-terms) (left-fits (within at-terms))
-    (right-fits (within at-terms))
+    block-put (entry at-terms .args .number) (left-term at-terms) (right-term at-terms) (left-fits (within at-terms) .1)
+    (right-fits (within at-terms) .1)
     (entry at-terms .pre .1 .1)
     (terms at-terms)
     (at-zeros .put-repeated .ensures)

@@ -4,3 +4,4 @@ pub mod Said
 pub mod Parts
 pub mod Promises
 pub mod Verdicts
+pub mod Decided

@@ -5,4 +5,5 @@ pub mod NetCounts
 pub mod Visited
 pub mod Parting
 pub mod Laws
+pub mod Decided
 mod Examples

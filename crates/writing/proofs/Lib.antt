@@ -7,3 +7,8 @@ pub mod Shapes
 pub mod Laid
 pub mod Accepted
 pub mod ReadBack
+pub mod WasRead
+pub mod Whole
+pub mod WrittenBack
+pub mod Determined
+pub mod Exists

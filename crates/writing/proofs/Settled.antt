@@ -26,18 +26,18 @@ use Rattle.writing.proofs.Sides.{Lengths}
 
 module _ {L R block : List ℕ} where
   -- what each number says
-  wrong-lengths : WriteGiven L R block 7 → WrongLength limits L ⊎ WrongLength limits R
+  pub wrong-lengths : WriteGiven L R block 7 → WrongLength limits L ⊎ WrongLength limits R
   wrong-lengths (side-length left wrong) = inl wrong
   wrong-lengths (side-length right wrong) = inr wrong
 
-  wrong-bytes : WriteGiven L R block 8 → WrongByte limits L ⊎ WrongByte limits R
+  pub wrong-bytes : WriteGiven L R block 8 → WrongByte limits L ⊎ WrongByte limits R
   wrong-bytes (no-atom left wrong) = inl wrong
   wrong-bytes (no-atom right wrong) = inr wrong
 
-  wrong-sides : WriteGiven L R block 18 → WrongSide L R
+  pub wrong-sides : WriteGiven L R block 18 → WrongSide L R
   wrong-sides (wrong-side wrong) = wrong
 
-  too-short : WriteGiven L R block 16 → length block < 512
+  pub too-short : WriteGiven L R block 16 → length block < 512
   too-short (short-buffer short) = short
 
   -- and what tells of it

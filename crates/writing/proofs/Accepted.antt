@@ -49,16 +49,22 @@ accepted {L} {R} {block} none =
         by-range (no not-low) (no constant) =
             inr (
               omega arith,
-              omega (arith, at-most a 127 (λ above. not-given 8 refl (no-atom left
-                  (record { byte = a; held = m; above = above })))),
+              omega (
+                arith,
+                at-most a 127 (λ above. not-given 8 refl (no-atom left
+                    (record { byte = a; held = m; above = above }))),
+              ),
             )
 
     on-the-right : (a : ℕ) → List·Memᴰ a R → OnTheRight a
     on-the-right a m = (
       at-most 32 a (λ low. not-given 18 refl (wrong-side (inr (record
           { variable = a; held = m; from-first = omega arith; to-last = omega arith })))),
-      omega (arith, at-most a 127 (λ above. not-given 8 refl (no-atom right
-          (record { byte = a; held = m; above = above })))),
+      omega (
+        arith,
+        at-most a 127 (λ above. not-given 8 refl (no-atom right
+            (record { byte = a; held = m; above = above }))),
+      ),
     )
 
 module _ {L R : List ℕ} (may : Acceptable L R) where

@@ -12,3 +12,4 @@ pub mod Whole
 pub mod WrittenBack
 pub mod Determined
 pub mod Exists
+pub mod Examples

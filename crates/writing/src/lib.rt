@@ -3,6 +3,7 @@ use block::header::check_of;
 use buffer::put_bytes;
 use buffer::put_repeated;
 use numbers::Refusal;
+use numbers::limits::MOST_ATOMS;
 use pair::limits::wrong_byte;
 use pair::limits::wrong_length;
 ghost use mathlib.Core.Path.{_≡_};
@@ -129,11 +130,11 @@ fn put_term(out: &mut [u8], at: usize, atoms: &[u8]) -> usize
 }
 
 // A right side's atoms as they are written, at the start of an array that is long enough for every side.
-fn lowered(right: &[u8]) -> [u8; 64]
+fn lowered(right: &[u8]) -> [u8; MOST_ATOMS]
     requires { ⌜ length (now right) ≤ 64 ⌝ }
     ensures { λ r. ⌜ take (length (now (right .entry))) r ≡ map asWritten (now (right .entry)) ⌝ }
 {
-    let mut lowered = [0u8; 64];
+    let mut lowered = [0u8; MOST_ATOMS];
     for i in 0..right.len() {
         lowered[i] = as_written(right[i]);
     }

@@ -12,3 +12,5 @@ pub mod WrongValues
 pub mod WrongTallies
 pub mod TooFrequent
 pub mod WrongAtoms
+pub mod Writing
+pub mod WrongWrites

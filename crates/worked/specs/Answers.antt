@@ -16,7 +16,7 @@ use Rattle.numbers.specs.declared.Refusal.the-variants.{NoUnifier}
 use Rattle.solver.specs.Rows.{GroupSizes, rowsBuffer, sizesOf, allRows, bytesOf}
 use Rattle.solver.specs.Page.{PageWritten}
 use Rattle.solver.specs.Values.{valuesBuffer, valuesOf}
-use Rattle.worked.specs.Questions.{Question, TwoBuffers, SidesAsked, readQuestion, rowsQuestion, pageQuestion, valuesQuestion}
+use Rattle.worked.specs.Questions.{Question, TwoBuffers, SidesAsked, readQuestion, rowsQuestion, pageQuestion, valuesQuestion, writeQuestion}
 
 -- The one answer to what is asked: this outcome with these buffers at exit meets the promise, and whatever
 -- meets it is this.
@@ -38,6 +38,11 @@ ReadAnswers block number left right = (lent : TwoBuffers) → 64 ≤ length (len
     → Answers readQuestion (record { block = block; number = number }) lent
     (given (record { left = length left; right = length right }))
     (record { left = receives (lent .left) left; right = receives (lent .right) right })
+
+-- Write gives this block of the two sides and the number.
+abbrev pub WriteAnswers : List ℕ → List ℕ → ℕ → List ℕ → Type 0
+WriteAnswers left right number block = (lent : List ℕ) → 512 ≤ length lent
+    → Answers writeQuestion (record { left = left; right = right; also = number }) lent (given tt) (receives lent block)
 
 module _ (L R : List ℕ) where
   -- Rows gives these sizes of the groups, and these rows.

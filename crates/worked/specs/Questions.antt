@@ -1,4 +1,4 @@
--- The questions of document 01 in one form: what is asked, what is lent, what it comes to, and what is promised.
+-- The questions of document 01, and Write of document 02, in one form: what is asked, what is lent, what it comes to, and what is promised.
 use Prim.Native.Nat.{ℕ}
 use mathlib.Core.List.{List}
 use Rattle.ac.specs.Pair.{unifying}
@@ -8,6 +8,7 @@ use Rattle.block.specs.Read.{SideLengths, ReadPromise}
 use Rattle.solver.specs.Rows.{GroupSizes, RowsPromise}
 use Rattle.solver.specs.Page.{PageWritten, PagePromise}
 use Rattle.solver.specs.Values.{ValuesPromise}
+use Rattle.writing.specs.Write.{WritePromise}
 
 -- a question: what is asked of it, what it is lent, what it comes to, and what it promises of that
 pub record Question : Type 1 where
@@ -74,3 +75,7 @@ pageQuestion =
 -- Values: and a key
 abbrev pub valuesQuestion : Question
 valuesQuestion = ofSides ℕ ℕ (λ L R key. ValuesPromise unifying L R key)
+
+-- Write: and the number that the block is to have
+abbrev pub writeQuestion : Question
+writeQuestion = ofSides ℕ (Unit {0}) (λ L R number. WritePromise L R number)

@@ -5,7 +5,7 @@ use native.Mathlib.Omega.{arith}
 use native.Mathlib.Decide.{decLt, ℕ-discrete}
 use mathlib.Core.Path.{_≡_, refl, ap, subst}
 use mathlib.Core.Logic.{_⊎_, inl, inr, ⊎-elim}
-use mathlib.Core.List.{List, [], _∷_, _++_, List·Memᴰ, List·Memᴰ·head, List·Memᴰ·tail, List·Memᴰ·not-nil, Memᴰ·append-left, Memᴰ·append-right}
+use mathlib.Core.List.{List, [], _∷_, _++_, Memᴰ·append-left, Memᴰ·append-right}
 use lib.ListN.{length}
 use lib.IntN.{natAbs}
 use Rattle.ac.specs.Pair.{Mode, net, count, variables, unbalanced}
@@ -19,64 +19,11 @@ use Rattle.numbers.specs.Order.{readNumbers, sidesNumbers, beginningNumbers}
 use Rattle.block.proofs.Faults.{term-or-fault, fault-is-no-term}
 use Rattle.list.specs.Given.{ListGiven, none-admissible, not-listed, last-listed}
 use Rattle.list.proofs.Given.{start-not-after}
-use Rattle.numbers.specs.First.{First, NoneOf, here, later, end, also}
+use Rattle.numbers.proofs.Decided.{none, next, Settled, settle, same-dec, not-dec, either-dec, Some, some-dec}
 use Rattle.ac.specs.Limits.{limits}
+use Rattle.pair.proofs.Decided.{wrong-length-dec, wrong-byte-dec}
 use Rattle.pair.proofs.NetCounts.{natAbs-difference}
 use Rattle.pair.specs.Given.{left, right, WrongLength, WrongByte, Far, ManyRows, balanced, of-a-constant, PairGiven, side-length, no-atom, many-variables, far-net-count, many-constants, many-rows}
-
--- every number of a list is decided
-data Decided (Given : ℕ → Type 0) : List ℕ → Type 0 where
-  none : Decided Given []
-  next : {n : ℕ} {ns : List ℕ} → Dec (Given n) → Decided Given ns → Decided Given (n ∷ ns)
-
--- the first number that is given, or that none is
-pub data Settled (Given : ℕ → Type 0) (ns : List ℕ) : Type 0 where
-  given : {n : ℕ} → First Given ns n → Settled Given ns
-  none-given : NoneOf Given ns → Settled Given ns
-
-settle : {Given : ℕ → Type 0} {ns : List ℕ} → Decided Given ns → Settled Given ns
-settle none = none-given end
-settle {Given} (next {n = n} {ns = ns} first rest) = go first (settle rest)
-  where
-    go : Dec (Given n) → Settled Given ns → Settled Given (n ∷ ns)
-    go (yes g) others = given (here g)
-    go (no skip) (given f) = given (later skip f)
-    go (no skip) (none-given others) = none-given (also skip others)
-
--- the other way of saying the same
-same-dec : {A B : Type 0} → (A → B) → (B → A) → Dec A → Dec B
-same-dec to from (yes a) = yes (to a)
-same-dec to from (no not-a) = no (λ b. not-a (from b))
-
--- what is not so
-not-dec : {A : Type 0} → Dec A → Dec (A → ⊥)
-not-dec (yes a) = no (λ not-a. not-a a)
-not-dec (no not-a) = yes not-a
-
--- one of two
-either-dec : {A B : Type 0} → Dec A → Dec B → Dec (A ⊎ B)
-either-dec (yes a) b = yes (inl a)
-either-dec (no not-a) (yes b) = yes (inr b)
-either-dec (no not-a) (no not-b) = no (⊎-elim not-a not-b)
-
--- one of a list's members
-record Some {A : Type 0} (P : A → Type 0) (xs : List A) : Type 0 where
-  member : A
-  on-list : List·Memᴰ member xs
-  so : P member
-
-some-dec : {A : Type 0} {P : A → Type 0} → ((a : A) → Dec (P a)) → (xs : List A) → Dec (Some P xs)
-some-dec dec [] = no (λ s. List·Memᴰ·not-nil (s .on-list))
-some-dec {A} {P} dec (a ∷ xs) = go (dec a) (some-dec dec xs)
-  where
-    go : Dec (P a) → Dec (Some P xs) → Dec (Some P (a ∷ xs))
-    go (yes p) rest = yes (record { member = a; on-list = List·Memᴰ·head refl; so = p })
-    go (no not-p) (yes s) = yes (record { member = s .member; on-list = List·Memᴰ·tail (s .on-list); so = s .so })
-    go (no not-p) (no no-other) = no (λ s. by-place s (s .on-list))
-      where
-        by-place : (s : Some P (a ∷ xs)) → List·Memᴰ (s .member) (a ∷ xs) → ⊥
-        by-place s (List·Memᴰ·head e) = not-p (subst P e (s .so))
-        by-place s (List·Memᴰ·tail m) = no-other (record { member = s .member; on-list = m; so = s .so })
 
 -- The numbers of Read, of buffers that are long enough.
 module _ (block : List ℕ) (number : ℕ) (left right : List ℕ) (long : (length left < 64) ⊎ (length right < 64) → ⊥) where
@@ -133,12 +80,6 @@ module _ (M : Mode) (L R : List ℕ) {G : Groups} (of : GroupsOf M L R G) where
   given-7 (side-length left h) = inl h
   given-7 (side-length right h) = inr h
 
-  wrong-byte-dec : (side : List ℕ) → Dec (WrongByte limits side)
-  wrong-byte-dec side =
-      same-dec (λ s. record { byte = s .member; held = s .on-list; above = s .so })
-      (λ w. record { member = w .byte; on-list = w .held; so = w .above })
-      (some-dec (λ b. decLt 127 b) side)
-
   given-8 : PairGiven limits M L R 8 → WrongByte limits L ⊎ WrongByte limits R
   given-8 (no-atom left h) = inl h
   given-8 (no-atom right h) = inr h
@@ -174,8 +115,8 @@ module _ (M : Mode) (L R : List ℕ) {G : Groups} (of : GroupsOf M L R G) where
   pub pair-settled : Settled (PairGiven limits M L R) sidesNumbers
   pair-settled = settle
       (next (same-dec (⊎-elim (side-length left) (side-length right)) given-7
-      (side-dec (λ side. either-dec (decLt (length side) 1) (decLt 64 (length side)))))
-      (next (same-dec (⊎-elim (no-atom left) (no-atom right)) given-8 (side-dec wrong-byte-dec))
+      (side-dec (wrong-length-dec limits)))
+      (next (same-dec (⊎-elim (no-atom left) (no-atom right)) given-8 (side-dec (wrong-byte-dec limits)))
       (next (same-dec many-variables given-9 (decLt 6 (length (variables M L R))))
       (next (same-dec (λ s. far-net-count (s .member) (s .so)) given-10
       (some-dec (λ atom. decLt 8 (natAbs (net L R atom))) (L ++ R)))

@@ -15,6 +15,7 @@ use Rattle.ac.specs.Term.{Term}
 use Rattle.ac.proofs.Groups.{groups-exist}
 use Rattle.numbers.specs.First.{NoneOf}
 use Rattle.numbers.proofs.Carried.{none-given, its-member}
+use Rattle.numbers.proofs.Decided.{Settled, given as settled-given, none-given as settled-none}
 use Rattle.block.specs.Front.{Writes}
 use Rattle.block.specs.Table.{NoTerm, ReadGiven, no-term}
 use Rattle.block.specs.Read as read
@@ -33,7 +34,7 @@ use Rattle.solver.proofs.Given.{rows-made, page-first, page-none}
 use Rattle.tally.specs.Line.{BlockFound}
 use Rattle.tally.specs.declared.Line.{Line}
 use Rattle.lines.specs.Library.{mostBlocks, lent, PairFound, rows-refused, page-refused, a-page, Returns, read-refused, sides, BlocksText, no-more, one-more, LibraryText}
-use Rattle.lines.proofs.Decided.{Settled, given as settled-given, none-given as settled-none, read-settled, pair-settled, list-settled}
+use Rattle.lines.proofs.Decided.{read-settled, pair-settled, list-settled}
 
 -- something is returned for two sides, and for a block
 record SomePair (L R : List ℕ) : Type 0 where

@@ -5,7 +5,8 @@ pub mod limits;
 ghost use mathlib.Core.Path.{_≡_};
 ghost use Rattle.numbers.specs.Numbers.{numberOf};
 
-// Why a question was refused: a variant for each row of the table, in its order. A net count has its atom beside it.
+// Why a question was refused: a variant for each row of the table, in its order, and then for those that document 02
+// adds. A net count has its atom beside it.
 pub enum Refusal {
     BlockLength,
     Check,

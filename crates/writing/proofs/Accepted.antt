@@ -8,15 +8,14 @@ use mathlib.Core.Bool.{false}
 use mathlib.Core.Logic.{inl, inr}
 use mathlib.Core.List.{List, List·Memᴰ}
 use lib.ListN.{length}
-use Rattle.ac.specs.Limits.{limits}
 use Rattle.numbers.specs.First.{NoneOf}
 use Rattle.numbers.specs.Order.{writeNumbers}
 use Rattle.numbers.proofs.Carried.{elsewhere, its-member, none-given}
-use Rattle.pair.specs.Given.{left, right, WrongByte}
+use Rattle.pair.specs.Given.{left, right}
 use Rattle.pair.proofs.Telling.{at-most}
 use Rattle.block.specs.Front.{MayBeWritten}
 use Rattle.block.proofs.Terms.{atom-below}
-use Rattle.writing.specs.Table.{HoldsVariable, WriteGiven, side-length, no-atom, wrong-side}
+use Rattle.writing.specs.Table.{WriteGiven, side-length, no-atom, wrong-side}
 use Rattle.writing.proofs.Sides.{Lengths}
 use Rattle.writing.proofs.Settled.{lengths-within, none-left}
 use Rattle.writing.proofs.Shapes.{AllWritable}

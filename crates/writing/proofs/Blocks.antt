@@ -1,9 +1,9 @@
 -- A block put into a buffer piece by piece is the block of its number and its two terms.
-use Prim.Native.Nat.{ℕ, _+_, _-_, _≤_, _%_}
+use Prim.Native.Nat.{ℕ, _-_, _≤_, _%_}
 use native.Mathlib.Omega.{arith}
-use mathlib.Core.Path.{_≡_, refl, ap, ap₂, sym, _∙_}
+use mathlib.Core.Path.{_≡_, ap, ap₂, _∙_}
 use mathlib.Core.List.{List, [], _∷_, _++_, append-nil}
-use lib.ListN.{length, drop, take, replicate, length-append, length-replicate, drop-of-length-le}
+use lib.ListN.{length, take, replicate, length-append, length-replicate, drop-of-length-le}
 use lib.Seq.{take-at}
 use Rattle.ac.specs.Lists.{sum}
 use Rattle.block.specs.Block.{checkOfBytes}

@@ -1,16 +1,16 @@
 -- The parts of the block of two terms: they are what the block was made of, and nothing is wrong with it.
-use Prim.Native.Nat.{ℕ, zero, suc, _+_, _-_, _*_, _/_, _%_, _≤_}
+use Prim.Native.Nat.{ℕ, zero, suc, _+_, _-_, _*_, _/_, _%_}
 use native.Mathlib.Omega.{arith}
 use mathlib.Core.Path.{_≡_, refl, ap, sym, _∙_}
 use mathlib.Core.Bool.{true}
 use mathlib.Core.List.{List, [], _∷_, _++_, append-assoc}
-use lib.ListN.{length, getD, take, drop, replicate, length-append}
+use lib.ListN.{length, take, drop, replicate, length-append}
 use lib.Seq.{slice, take-append-add, drop-append-seam, take-at, getD-at, append-snoc}
 use Rattle.ac.specs.Lists.{sum}
-use Rattle.block.specs.Block.{byte, blockNumber, leftLength, rightLength, leftTerm, rightTerm, filler, check, checkOfBytes}
+use Rattle.block.specs.Block.{byte, blockNumber, leftTerm, rightTerm, filler, check, checkOfBytes}
 use Rattle.block.specs.Inner.{IsLength, allZero, GoodHeader}
 use Rattle.writing.specs.Written.{highFirst, upToTerms, upToFiller, blockOfTerms}
-use Rattle.writing.proofs.Blocks.{terms-length, filler-length, block-length}
+use Rattle.writing.proofs.Blocks.{filler-length, block-length}
 
 -- a part that stands between two others
 slice-between : (p q r : List ℕ) (from to : ℕ) → from ≡ length p → to ≡ length p + length q

@@ -43,7 +43,8 @@ renamed-lower {a} from = go (decLt a 64)
   where
     go : Dec (a < 64) → onTheRight (asWritten a) ≡ a
     go (yes variable) =
-        ap onTheRight (variable-lower from variable) ∙ variable-higher {a = a - 32} (omega arith) ∙ (let e : a - 32 + 32 ≡ a = omega arith in e)
+        let back : a - 32 + 32 ≡ a = omega arith in
+        ap onTheRight (variable-lower from variable) ∙ variable-higher {a = a - 32} (omega arith) ∙ back
     go (no constant) =
         let above : 64 ≤ a = omega arith in
         ap onTheRight (constant-stays above) ∙ renamed.constant-stays above
@@ -51,9 +52,10 @@ renamed-lower {a} from = go (decLt a 64)
 -- .. and an atom that Read gives is written as it was.
 pub lower-renamed : {a : ℕ} → MayBeWritten a → asWritten (onTheRight a) ≡ a
 lower-renamed {a} (inl variable) =
+    let back : a + 32 - 32 ≡ a = omega arith in
     ap asWritten (variable-higher {a = a} (omega arith))
     ∙ variable-lower {a = a + 32} (omega arith) (omega arith)
-    ∙ (let e : a + 32 - 32 ≡ a = omega arith in e)
+    ∙ back
 lower-renamed {a} (inr constant) = ap asWritten (renamed.constant-stays (constant .0)) ∙ constant-stays (constant .0)
 
 -- so it is with all atoms of a side

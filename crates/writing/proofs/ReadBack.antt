@@ -1,5 +1,5 @@
--- "Reading what was written gives the same sides in the same order" (document 02, R-3), by what the two questions promise
--- alone.
+-- "Reading what was written gives the same sides in the same order" (document 02, R-3), by what the two questions
+-- promise alone.
 use Prim.Native.Nat.{ℕ, _≤_, _<_}
 use native.Mathlib.Omega.{arith}
 use mathlib.Core.Path.{_≡_, ap, sym, subst, _∙_}
@@ -66,7 +66,8 @@ pub block-of : {L R out out′ : List ℕ} {number : ℕ} → WritePromise L R n
 block-of {L} {R} {number = number} promise =
     by-gives (accepted (given-none promise) .within) (given-gives promise)
   where
-    by-gives : {out out′ : List ℕ} → Lengths L R → WriteGives L R number out tt out′ → take 512 out′ ≡ blockOf number L R
+    by-gives : {out out′ : List ℕ} → Lengths L R → WriteGives L R number out tt out′
+        → take 512 out′ ≡ blockOf number L R
     by-gives within written = take-at (blockOf number L R) _ 512 (block-length within number)
 
 -- What was written, read with its number into two buffers that are long enough, gives the two sides, each in its order.

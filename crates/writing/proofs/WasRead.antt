@@ -1,14 +1,13 @@
 -- What Read gives, of a block that it accepts: the flattened sides of the block's two terms, which Write accepts.
-use Prim.Native.Nat.{ℕ, _+_, _-_, _≤_, _<_}
+use Prim.Native.Nat.{ℕ, _+_, _≤_}
 use native.Mathlib.Omega.{arith}
 use native.Mathlib.Decide.{ℕ-discrete}
-use mathlib.Core.Path.{_≡_, refl, ap, sym, subst, _∙_}
+use mathlib.Core.Path.{_≡_, refl, ap}
 use mathlib.Core.Bool.{false}
 use mathlib.Core.Logic.{inl, inr}
-use mathlib.Core.List.{List, [], _∷_, map, List·Memᴰ, List·Memᴰ·head, List·Memᴰ·tail}
+use mathlib.Core.List.{List, _∷_, map, List·Memᴰ, List·Memᴰ·head, List·Memᴰ·tail}
 use lib.ListN.{length, take, length-map}
-use lib.Seq.{slice, take-append-seam, length-slice}
-use Rattle.ac.specs.Lists.{receives}
+use lib.Seq.{take-append-seam, length-slice}
 use Rattle.ac.specs.Term.{Term, flatten}
 use Rattle.numbers.specs.First.{NoneOf}
 use Rattle.numbers.specs.Order.{readNumbers}

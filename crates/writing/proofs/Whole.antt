@@ -1,12 +1,12 @@
 -- A block with which nothing is wrong is the block of its number and its two terms.
-use Prim.Native.Nat.{ℕ, zero, suc, _+_, _-_, _*_, _/_, _%_, _≤_, _<_}
+use Prim.Native.Nat.{ℕ, _+_, _-_, _*_, _/_, _%_, _≤_, _<_}
 use native.Mathlib.Omega.{arith}
 use mathlib.Core.Path.{_≡_, refl, ap, ap₂, sym, _∙_}
 use mathlib.Core.List.{List, [], _∷_, _++_, List·Memᴰ, List·Memᴰ·head, List·Memᴰ·tail, append-assoc}
-use lib.ListN.{length, getD, take, drop, replicate, take-append-drop, drop-of-length-le, length-append}
+use lib.ListN.{length, take, drop, replicate, take-append-drop, drop-of-length-le, length-append}
 use lib.Seq.{slice, take-take, drop-cons, length-slice}
 use Rattle.ac.specs.Lists.{sum}
-use Rattle.block.specs.Block.{byte, twoBytes, blockNumber, leftLength, rightLength, leftTerm, rightTerm, filler, check}
+use Rattle.block.specs.Block.{byte, twoBytes, leftLength, rightLength, leftTerm, rightTerm, filler}
 use Rattle.writing.specs.Written.{highFirst, upToTerms, upToFiller, blockOfTerms}
 use Rattle.writing.proofs.WasRead.{WasRead, left-length-is, right-length-is}
 
@@ -53,7 +53,8 @@ module _ {block : List ℕ} {number : ℕ} {L R : List ℕ} (read : WasRead bloc
       (ap₂ {C = List ℕ} (λ m n. m ∷ n ∷ []) (sym (left-length-is read)) (sym (right-length-is read)))
 
   -- the terms behind them
-  terms-are : take (4 + leftLength block + rightLength block) block ≡ upToTerms number (leftTerm block) (rightTerm block)
+  terms-are : take (4 + leftLength block + rightLength block) block
+      ≡ upToTerms number (leftTerm block) (rightTerm block)
   terms-are =
       take-slice (4 + leftLength block) (4 + leftLength block + rightLength block) block (omega arith)
       ∙ ap (λ (l : List ℕ). l ++ rightTerm block) (take-slice 4 (4 + leftLength block) block (omega arith))

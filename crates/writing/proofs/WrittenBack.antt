@@ -1,5 +1,5 @@
--- "Writing what was read gives the same block exactly when it was already in this shape" (document 02, R-3), by what the
--- two questions promise alone.
+-- "Writing what was read gives the same block exactly when it was already in this shape" (document 02, R-3), by what
+-- the two questions promise alone.
 use Prim.Native.Nat.{ℕ, _≤_, _<_}
 use mathlib.Core.Path.{_≡_, refl, ap, ap₂, sym, subst, _∙_}
 use mathlib.Core.Logic.{_↔_}
@@ -8,9 +8,9 @@ use lib.ListN.{length, take}
 use Rattle.ac.specs.Term.{Term, flatten}
 use Rattle.numbers.specs.First.{NoneOf}
 use Rattle.numbers.specs.Order.{writeNumbers}
-use Rattle.numbers.specs.Outcome.{Outcome, refused, given, Promise, is-refused, is-given}
+use Rattle.numbers.specs.Outcome.{Outcome, given, is-refused, is-given}
 use Rattle.numbers.proofs.Laws.{first-not-none}
-use Rattle.block.specs.Front.{Writes, onTheRight}
+use Rattle.block.specs.Front.{Writes}
 use Rattle.block.specs.Block.{byte, leftTerm, rightTerm}
 use Rattle.block.specs.Read.{SideLengths, ReadPromise}
 use Rattle.block.proofs.Terms.{writes-unique}

@@ -85,8 +85,8 @@ fn put_terms(left: &[u8], right: &[u8], number: u16, block: &mut [u8]) -> usize
     requires { ⌜ (0 < length (now left)) × (length (now left) ≤ 64) ⌝ }
     requires { ⌜ (0 < length (now right)) × (length (now right) ≤ 64) ⌝ }
     requires { ⌜ length (now block) ≡ 512 ⌝ }
-    ensures { λ r. ⌜ Put (now (block .entry)) 0 (upToTerms number (front (now (left .entry))) (front (now (right .entry))))
-        r (now (block .exit)) ⌝ }
+    ensures { λ r. ⌜ Put (now (block .entry)) 0
+        (upToTerms number (front (now (left .entry))) (front (now (right .entry)))) r (now (block .exit)) ⌝ }
 {
     let lengths = [term_length(left.len()), term_length(right.len())];
     let number_end = put_number(block, 0, number);

@@ -1,6 +1,6 @@
 -- `writing::lowered` meets its contract. The loop's invariant: the atoms before place i stand in the array as they are
 -- written. Assumes nothing.
-use Prim.Native.Nat.{ℕ, _+_, _≤_, _-_}
+use Prim.Native.Nat.{_≤_, _-_}
 use native.Mathlib.Omega.{arith}
 use mathlib.Core.Path.{_≡_, refl}
 use mathlib.Core.List.{map}

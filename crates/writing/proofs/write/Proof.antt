@@ -21,7 +21,8 @@ Given c = WriteGiven (entry c .args .left .now) (entry c .args .right .now) (ent
 -- what the flags tell
 seven : (c : tie.After-holds-variable2)
     → Tells (Given c 7)
-    (c .before .before .before .before .before .wrong-length .result || c .before .before .before .before .wrong-length2 .result)
+    (c .before .before .before .before .before .wrong-length .result
+    || c .before .before .before .before .wrong-length2 .result)
 seven c =
     tells-7 (c .before .before .before .before .before .wrong-length .ensures)
     (c .before .before .before .before .wrong-length2 .ensures)

@@ -2,9 +2,9 @@
 use Prim.Native.Nat.{ℕ, _≤_}
 use native.Mathlib.Omega.{arith}
 use borrow.Author.Needs.{needs}
-use mathlib.Core.Path.{_≡_, ap, _∙_}
+use mathlib.Core.Path.{ap}
 use mathlib.Core.List.{List, map}
-use lib.ListN.{length, take, length-map}
+use lib.ListN.{length, length-map}
 use Rattle.buffer.specs.Put.{Put}
 use Rattle.buffer.proofs.Puts.{put-length, put-as}
 use Rattle.writing.specs.Written.{front, asWritten, upToTerms}

@@ -1,10 +1,10 @@
--- Write's contract determines the answer and the buffer.
+-- Write's contract determines the answer and the buffer, and gives no number but its own.
 use Prim.Native.Nat.{ℕ}
 use mathlib.Core.Path.{_≡_, refl, ap}
-use mathlib.Core.List.{List}
-use Rattle.numbers.specs.Outcome.{Outcome, refused, given, NamesNone}
+use mathlib.Core.List.{List, [], _∷_, List·Memᴰ}
+use Rattle.numbers.specs.Outcome.{Said, Outcome, refused, given, NamesNone}
 use Rattle.numbers.proofs.Laws.{refusalOf, refusalOf-saidOf}
-use Rattle.numbers.proofs.Promises.{OneResult, answer-determined}
+use Rattle.numbers.proofs.Promises.{OneResult, refused-listed, answer-determined}
 use Rattle.writing.specs.Write.{toldWrite, WriteGives, written, WritePromise}
 use Rattle.writing.specs.declared.WriteAnswer.{WriteAnswer}
 use Rattle.writing.specs.declared.WriteAnswer.the-variants.{Written, Refused}
@@ -34,3 +34,8 @@ pub write-determined : {left right : List ℕ} {number : ℕ} {block : List ℕ}
     → WritePromise left right number block (toldWrite a) b → WritePromise left right number block (toldWrite a′) b′
     → (a ≡ a′) × (b ≡ b′)
 write-determined p p′ = answer-determined one-written answerOf answerOf-told p p′
+
+-- Write gives 7, 8, 16 and 18.
+pub write-gives : {said : Said} {left right : List ℕ} {number : ℕ} {block exit : List ℕ}
+    → WritePromise left right number block (refused said) exit → List·Memᴰ (said .number) (16 ∷ 7 ∷ 8 ∷ 18 ∷ [])
+write-gives = refused-listed

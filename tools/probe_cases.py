@@ -3,8 +3,9 @@
 
     tools/probe_cases.py SECOND
 
-Read is answered by a reader of blocks of its own (read_cases.py), Rows by hand (tests/rows.txt), Page and Values by
-the second solver, whose program SECOND is; nothing by the program under test.
+Read is answered by a reader of blocks of its own (read_cases.py), Write by document 01 and by tools/library.py
+(write_cases.py), Rows by hand (tests/rows.txt), Page and Values by the second solver, whose program SECOND is; nothing by
+the program under test.
 """
 import sys
 from pathlib import Path
@@ -12,6 +13,7 @@ from pathlib import Path
 import read_cases
 import rows_cases
 import second_cases
+import write_cases
 
 PROBE = Path(__file__).resolve().parent.parent / "crates" / "probe"
 QUESTIONS, ANSWERS = PROBE / "stdin", PROBE / "stdout"
@@ -19,7 +21,7 @@ QUESTIONS, ANSWERS = PROBE / "stdin", PROBE / "stdout"
 
 def cases(second):
     """Every case, in the order in which they are stored."""
-    return [*read_cases.cases(), *rows_cases.cases(), *second_cases.cases(second)]
+    return [*read_cases.cases(), *rows_cases.cases(), *second_cases.cases(second), *write_cases.cases()]
 
 
 def main():

@@ -2,7 +2,7 @@
 import struct
 from typing import NamedTuple
 
-READ, ROWS, PAGE, VALUES = 1, 2, 3, 4
+READ, ROWS, PAGE, VALUES, WRITE = 1, 2, 3, 4, 5
 
 # Every byte of a lent buffer before a question: no atom, no new variable and no number of a row.
 FILL = b"\xa5"

@@ -1,4 +1,4 @@
-//! The four questions with their lent buffers (document 01, The questions).
+//! The questions with their lent buffers (document 01, The questions; document 02, R-3).
 
 use crate::block::{self, Sides};
 use crate::question::{Answer, Ask, Question, FIGURES};
@@ -53,6 +53,7 @@ fn give(question: &Question, solve: impl Fn(&Sides) -> Result<Solved, Refusal>) 
         Ask::Rows => solve(&question.sides).map(|solved| give_rows(&solved)),
         Ask::Page { after, .. } => give_page(&solve(&question.sides)?, after, question.ask.wanted()),
         Ask::Values { key } => solve(&question.sides)?.values(key).map(|values| give_values(&values)),
+        Ask::Write { number } => block::write(&question.sides, number).map(give_block),
     }
 }
 
@@ -68,6 +69,11 @@ fn buffers_too_short(question: &Question) -> bool {
 fn give_sides(sides: Sides) -> Given {
     let figures = [sides.left.len() as u32, sides.right.len() as u32, 0, 0, 0, 0];
     Given { figures, first: sides.left, second: sides.right }
+}
+
+/// Write gives the block.
+fn give_block(block: Vec<u8>) -> Given {
+    Given { first: block, ..Given::default() }
 }
 
 /// Rows gives the size of each group and the rows one after the other.

@@ -1,6 +1,7 @@
-//! Library blocks: reading one, and sealing one with its check (document 01, A library block; document 02, R-1).
+//! Library blocks: reading one, writing one, and sealing one with its check (document 01, A library block; document 02,
+//!
 
-use crate::pair::FIRST_CONSTANT;
+use crate::pair::{must_be_sides, FIRST_CONSTANT};
 use crate::refusal::Refusal;
 
 /// The length of a block in bytes.
@@ -45,6 +46,38 @@ pub fn read(block: &[u8], expected: u16) -> Result<Sides, Refusal> {
         return Err(Refusal::Filler);
     }
     Ok(sides)
+}
+
+/// The block of two flattened sides, or the first of the refusals 7, 8 and 18 that holds.
+pub fn write(sides: &Sides, number: u16) -> Result<Vec<u8>, Refusal> {
+    must_be_sides(sides)?;
+    let of_left = |&atom: &u8| atom < APART || atom >= FIRST_CONSTANT;
+    if !sides.left.iter().all(of_left) || sides.right.iter().any(|&atom| atom < APART) {
+        return Err(Refusal::WrongSide);
+    }
+    let lowered: Vec<u8> =
+        sides.right.iter().map(|&atom| if atom < FIRST_CONSTANT { atom - APART } else { atom }).collect();
+    let (left, right) = (nested(&sides.left), nested(&lowered));
+    let mut block = number.to_be_bytes().to_vec();
+    block.extend([left.len() as u8, right.len() as u8]);
+    block.extend(left.iter().chain(&right));
+    block.resize(BLOCK, 0);
+    seal(&mut block);
+    Ok(block)
+}
+
+/// The term that adds each atom to all that follow it, made from its end.
+fn nested(atoms: &[u8]) -> Vec<u8> {
+    let mut backwards = Vec::new();
+    for &atom in atoms.iter().rev() {
+        let is_last = backwards.is_empty();
+        backwards.push(atom);
+        if !is_last {
+            backwards.push(PLUS);
+        }
+    }
+    backwards.reverse();
+    backwards
 }
 
 /// The atoms of a term in the order in which they are read. Instead of taking terms apart it counts how many

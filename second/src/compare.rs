@@ -109,6 +109,7 @@ fn asked(question: &Question) -> String {
             format!("Page of {} after {key}, {wanted} wanted", told(&question.sides))
         }
         Ask::Values { key } => format!("Values of {} for key {key}", told(&question.sides)),
+        Ask::Write { number } => format!("Write of {} as block {number}", told(&question.sides)),
     };
     let Question { fill, first_buffer, second_buffer, .. } = question;
     format!("{what}, buffers of {first_buffer} and {second_buffer}, filled with {fill}")

@@ -1,9 +1,9 @@
 //! Planted faults: answers that are wrong in one known way, to show that the comparison can fail. One for
-//! each question, one for the variables of a right term, two for the atom that 10 names, one for each plausible
-//! error of document 01, and two in the nightly text.
+//! each question, one for the variables of a right term, two for the atom that 10 names, two for the shape that
+//! is written, one for each plausible error of document 01, and two in the nightly text.
 
 use crate::answer::answer;
-use crate::block::{Sides, APART};
+use crate::block::{seal, Sides, APART, BLOCK, PLUS, TERMS};
 use crate::list::{stages, List};
 use crate::pair::{net_counts, Pair, FIRST_CONSTANT, FURTHEST_NET_COUNT};
 use crate::question::{Answer, Ask, Question};
@@ -43,6 +43,10 @@ pub enum Fault {
     HighestAtom,
     /// The atom named is the first that stands too often and not the lowest.
     FirstAtom,
+    /// Write leaves the right side's variables as they are.
+    RightNotLowered,
+    /// Write adds all atoms but the last before it adds the last.
+    NestedToTheLeft,
     /// The nightly text says `more` for a list of exactly 200.
     TextMore,
     /// The nightly text counts blocks without unifier as refused.
@@ -50,7 +54,7 @@ pub enum Fault {
 }
 
 /// All faults by name.
-pub const FAULTS: [(&str, Fault); 15] = [
+pub const FAULTS: [(&str, Fault); 17] = [
     ("number-before-check", Fault::NumberBeforeCheck),
     ("right-as-written", Fault::RightAsWritten),
     ("byte-after-rows", Fault::ByteAfterRows),
@@ -64,6 +68,8 @@ pub const FAULTS: [(&str, Fault); 15] = [
     ("last-row-only", Fault::LastRowOnly),
     ("highest-atom", Fault::HighestAtom),
     ("first-atom", Fault::FirstAtom),
+    ("right-not-lowered", Fault::RightNotLowered),
+    ("nested-to-the-left", Fault::NestedToTheLeft),
     ("text-more", Fault::TextMore),
     ("text-counts", Fault::TextCounts),
 ];
@@ -178,6 +184,10 @@ impl Fault {
                 answer.figures[1] = u32::from(answer.figures[0] as usize == question.ask.wanted());
             }
             (Fault::NewVariablesFirst, Ask::Values { .. }) => put_new_variables_first(answer),
+            (Fault::RightNotLowered, Ask::Write { .. }) if answer.number == 0 => {
+                leave_right_as_it_was(answer)
+            }
+            (Fault::NestedToTheLeft, Ask::Write { .. }) if answer.number == 0 => nest_to_the_left(answer),
             (Fault::HighestAtom | Fault::FirstAtom, _) if answer.number == Refusal::NetCount(0).number() => {
                 let far = far_atoms(&question.sides);
                 let first =
@@ -275,6 +285,27 @@ fn vectors_up_to_largest(rows: &[Row], places: usize) -> Vec<Row> {
 fn give_right_as_written(answer: &mut Answer) {
     let right = answer.second.iter_mut().take(answer.figures[1] as usize);
     right.filter(|atom| **atom < FIRST_CONSTANT).for_each(|atom| *atom -= APART);
+}
+
+/// Gives a written block the right side's variables as they were, and its check.
+fn leave_right_as_it_was(answer: &mut Answer) {
+    let (start, end) = right_term(answer);
+    let right = answer.first[start..end].iter_mut();
+    right.filter(|byte| **byte < FIRST_CONSTANT).for_each(|byte| *byte += APART);
+    seal(&mut answer.first[..BLOCK]);
+}
+
+/// Puts the pluses of a written block's right term before all of its atoms.
+fn nest_to_the_left(answer: &mut Answer) {
+    let (start, end) = right_term(answer);
+    answer.first[start..end].sort_by_key(|&byte| byte != PLUS);
+    seal(&mut answer.first[..BLOCK]);
+}
+
+/// Where the right term of a written block begins and ends.
+fn right_term(answer: &Answer) -> (usize, usize) {
+    let start = TERMS + usize::from(answer.first[2]);
+    (start, start + usize::from(answer.first[3]))
 }
 
 /// Sets the byte after the written rows to 0, if there is one.

@@ -26,6 +26,7 @@ mod solved;
 mod substitution;
 mod text;
 mod values;
+mod write_questions;
 
 #[cfg(test)]
 mod tests;

@@ -31,12 +31,7 @@ pub struct Pair {
 impl Pair {
     /// The net counts of two sides, or the first of the refusals 7 to 11 that holds.
     pub fn of(sides: &Sides) -> Result<Pair, Refusal> {
-        if [&sides.left, &sides.right].iter().any(|side| side.is_empty() || side.len() > MOST_ATOMS) {
-            return Err(Refusal::SideLength);
-        }
-        if sides.left.iter().chain(&sides.right).any(|&byte| byte > LAST_ATOM) {
-            return Err(Refusal::SideByte);
-        }
+        must_be_sides(sides)?;
         let (variables, mut constants): (Vec<_>, Vec<_>) =
             net_counts(sides).into_iter().partition(|count| count.atom < FIRST_CONSTANT);
         if variables.len() > MOST_VARIABLES {
@@ -53,6 +48,17 @@ impl Pair {
         }
         Ok(Pair { variables, constants })
     }
+}
+
+/// Refusal 7 or 8 for what are no two sides.
+pub fn must_be_sides(sides: &Sides) -> Result<(), Refusal> {
+    if [&sides.left, &sides.right].iter().any(|side| side.is_empty() || side.len() > MOST_ATOMS) {
+        return Err(Refusal::SideLength);
+    }
+    if sides.left.iter().chain(&sides.right).any(|&byte| byte > LAST_ATOM) {
+        return Err(Refusal::SideByte);
+    }
+    Ok(())
 }
 
 /// Every atom that occurs with its net count, ascending by atom.

@@ -1,6 +1,6 @@
 //! Questions and answers as PROTOCOL.md writes them.
 
-use crate::block::Sides;
+use crate::block::{Sides, BLOCK};
 use crate::solved::USUAL_COUNT;
 use std::io::{self, Read};
 
@@ -16,6 +16,7 @@ pub enum Ask {
     Rows,
     Page { after: Option<u32>, wanted: u32 },
     Values { key: u32 },
+    Write { number: u16 },
 }
 
 impl Ask {
@@ -35,6 +36,7 @@ impl Ask {
             Ask::Rows => 480,
             Ask::Page { .. } => self.wanted(),
             Ask::Values { .. } => 1212,
+            Ask::Write { .. } => BLOCK,
         }
     }
 }
@@ -67,6 +69,7 @@ impl Question {
             Ask::Rows => (2, 0, 0, 0),
             Ask::Page { after, wanted } => (3, after.unwrap_or(0), u8::from(after.is_some()), wanted),
             Ask::Values { key } => (4, key, 0, 0),
+            Ask::Write { number } => (5, u32::from(number), 0, 0),
         };
         let mut bytes = vec![kind, self.fill];
         bytes.extend((self.sides.left.len() as u16).to_be_bytes());
@@ -115,7 +118,8 @@ fn ask(header: &[u8]) -> io::Result<Ask> {
             Ok(Ask::Page { after, wanted: long(header, 11) })
         }
         4 => Ok(Ask::Values { key: number }),
-        _ => Err(io::Error::new(io::ErrorKind::InvalidData, "there are four questions, 1 to 4")),
+        5 => Ok(Ask::Write { number: short(header, 8) }),
+        _ => Err(io::Error::new(io::ErrorKind::InvalidData, "there are five questions, 1 to 5")),
     }
 }
 

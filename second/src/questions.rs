@@ -21,14 +21,16 @@ pub fn questions(seed: u64, total: usize) -> Result<Vec<Question>, String> {
     let mut questions = Questions { chance: Chance::new(seed), asked: Vec::new() };
     questions.ask_fixed_reads();
     questions.ask_fixed_pairs()?;
+    questions.ask_fixed_writes();
     let fixed = questions.asked.len();
     if fixed > total {
         return Err(format!("{total} questions are too few: the fixed ones alone are {fixed}"));
     }
     while questions.asked.len() < total {
-        match questions.chance.one_in(5) {
-            true => questions.ask_random_read(),
-            false => questions.ask_random_pair()?,
+        match questions.chance.below(12) {
+            0 | 1 => questions.ask_random_read(),
+            2 => questions.ask_random_write(),
+            _ => questions.ask_random_pair()?,
         }
     }
     questions.asked.truncate(total);

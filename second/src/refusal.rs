@@ -20,6 +20,7 @@ pub enum Refusal {
     LastKey,
     Buffer,
     LongValue,
+    WrongSide,
 }
 
 impl Refusal {
@@ -43,6 +44,7 @@ impl Refusal {
             Refusal::LastKey => 15,
             Refusal::Buffer => 16,
             Refusal::LongValue => 17,
+            Refusal::WrongSide => 18,
         }
     }
 

@@ -4,12 +4,12 @@ use crate::pair::{net_counts, FIRST_CONSTANT};
 use crate::question::{Answer, Ask, Question};
 use crate::rows::MOST_ROWS;
 
-/// The refusals that must be met: 17 never happens in the base.
-const MET_REFUSALS: usize = 16;
+/// The refusal that never happens.
+const NEVER_MET: usize = 17;
 /// The refusal that names an atom.
 const TOO_FREQUENT: u8 = 10;
 /// All refusals, and 0 for none.
-const NUMBERS: usize = 18;
+const NUMBERS: usize = 19;
 
 /// How often each thing was met.
 #[derive(Default)]
@@ -19,6 +19,7 @@ pub struct Seen {
     rows: usize,
     pages: usize,
     values: usize,
+    written: usize,
     more: usize,
     no_more: usize,
     without_variables: usize,
@@ -39,6 +40,7 @@ impl Seen {
             Ask::Rows => self.rows += 1,
             Ask::Page { .. } => self.pages += 1,
             Ask::Values { .. } => self.values += 1,
+            Ask::Write { .. } => self.written += 1,
         }
         match (answer.number, question.ask) {
             (0, Ask::Rows) => self.note_rows(question, answer),
@@ -67,8 +69,10 @@ impl Seen {
 
     /// What should have been met, with how often it was.
     fn wanted(&self) -> Vec<(String, usize)> {
-        let mut wanted: Vec<(String, usize)> =
-            (1..=MET_REFUSALS).map(|number| (format!("number {number}"), self.numbers[number])).collect();
+        let mut wanted: Vec<(String, usize)> = (1..NUMBERS)
+            .filter(|number| *number != NEVER_MET)
+            .map(|number| (format!("number {number}"), self.numbers[number]))
+            .collect();
         for size in [0, 15, 16] {
             wanted.push((format!("{size} balanced rows"), self.balanced_sizes[size]));
             wanted.push((format!("{size} rows of a constant"), self.constant_sizes[size]));
@@ -96,11 +100,12 @@ impl Seen {
         let parts: Vec<String> =
             self.wanted().iter().map(|(what, times)| format!("{what}: {times}")).collect();
         format!(
-            "Read {}, Rows {}, Page {}, Values {}; met: {}",
+            "Read {}, Rows {}, Page {}, Values {}, Write {}; met: {}",
             self.read,
             self.rows,
             self.pages,
             self.values,
+            self.written,
             parts.join(", ")
         )
     }

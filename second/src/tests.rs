@@ -1,7 +1,7 @@
 //! Document 01's pairs 1 to 17 and its nightly example, the published counts, Fages' rows, and the list
 //! against itself.
 
-use crate::block::{read, seal, BLOCK, PLUS};
+use crate::block::{read, seal, write, BLOCK, PLUS};
 use crate::chance::Chance;
 use crate::examples::{
     AROUND_A_PAGE, AT_LIMITS, HIGHEST, LONGEST_LIST, LONGEST_VALUE, MOST_ROW_BYTES, PUBLISHED,
@@ -159,6 +159,18 @@ fn limits_are_refused_by_the_lowest_number() {
     for ((left, right), number) in AT_LIMITS.iter().zip(numbers) {
         assert_eq!(refusal(left, right), number, "{left} and {right}");
     }
+}
+
+#[test]
+fn blocks_are_written_in_one_shape() {
+    let number = |left, right| write(&sides(left, right), 0).map_or_else(Refusal::number, |_| 0);
+    assert_eq!(write(&sides("v0+v1", "c0+c1"), 0).as_deref(), Ok(&example_library()[..BLOCK]));
+    let highest = write(&sides("v31", "v63"), u16::MAX).expect("sides that may be written");
+    assert_eq!(highest[..6], [0xFF, 0xFF, 1, 1, 0x1F, 0x1F]);
+    assert_eq!(highest[BLOCK - 2..], [0xFD, 0xC1]);
+    let longest = write(&sides("64v0", "64c0"), 0).expect("sides that may be written");
+    assert_eq!(longest[2..4], [127, 127]);
+    assert_eq!((number("v32", "v32"), number("v0", "v31"), number("65v0", "v32")), (18, 18, 7));
 }
 
 #[test]

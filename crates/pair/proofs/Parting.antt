@@ -20,7 +20,7 @@ use Rattle.pair.specs.declared.limits.NetCounts.the-variants.{Far, Near}
 use Rattle.pair.proofs.Telling.{tells-less, tells-either, tells-same, at-most}
 
 -- a number that is given where a side is wrong, by a test of each side
-tells-sides : {Wrong : List ℕ → Type 0} {Given : Type 0} {L R : List ℕ} {first second : Bool}
+pub tells-sides : {Wrong : List ℕ → Type 0} {Given : Type 0} {L R : List ℕ} {first second : Bool}
     → ((side : List ℕ) → SideOf L R side → Wrong side → Given)
     → (Given → Wrong L ⊎ Wrong R) → Tells (Wrong L) first → Tells (Wrong R) second → Tells Given (first || second)
 tells-sides {L = L} {R = R} {first = first} {second = second} given either of-left of-right =

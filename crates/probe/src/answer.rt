@@ -6,6 +6,7 @@ use numbers::Refusal;
 use solver::page::PageAnswer;
 use solver::rows::RowsAnswer;
 use solver::values::ValuesAnswer;
+use writing::WriteAnswer;
 ghost use Prim.Native.Nat.{_≤_};
 ghost use lib.ListN.{length};
 
@@ -61,6 +62,14 @@ pub fn of_values(values: ValuesAnswer) -> Returned {
     match values {
         ValuesAnswer::Values { length } => given(length, 0),
         ValuesAnswer::Refused(refusal) => refused(refusal),
+    }
+}
+
+// Write: nothing beside what stands in the buffer.
+pub fn of_write(written: WriteAnswer) -> Returned {
+    match written {
+        WriteAnswer::Written => given(0, 0),
+        WriteAnswer::Refused(refusal) => refused(refusal),
     }
 }
 

@@ -4,12 +4,14 @@ use crate::answer::of_page;
 use crate::answer::of_read;
 use crate::answer::of_rows;
 use crate::answer::of_values;
+use crate::answer::of_write;
 use crate::answer::put_numbers;
 use crate::answer::put_returned;
 use crate::question::Header;
 use crate::question::PAGE;
 use crate::question::READ;
 use crate::question::ROWS;
+use crate::question::WRITE;
 use crate::room::front;
 use crate::room::put;
 use buffer::least;
@@ -64,6 +66,12 @@ fn returned_by(
         )),
         ROWS => of_rows(solver::rows::rows(first, second, first_lent)),
         PAGE => page(asked, first, second, first_lent),
+        WRITE => of_write(writing::write(
+            first,
+            second,
+            (asked.number % 65_536) as u16,
+            first_lent,
+        )),
         _ => of_values(solver::values::values(first, second, asked.number, first_lent)),
     }
 }

@@ -8,6 +8,8 @@ pub const ROWS: u8 = 2;
 
 pub const PAGE: u8 = 3;
 
+pub const WRITE: u8 = 5;
+
 // What is asked: which question, the byte that fills the lent buffers, the lengths of what follows, the
 // number that the question takes, whether a page begins after it, how many keys are wanted, and the lengths
 // of the lent buffers in bytes.

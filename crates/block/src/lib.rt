@@ -1,6 +1,6 @@
 // Library blocks: the question Read (document 01, "A library block" and "The questions"; document 02, R-1).
 pub mod header;
-mod term;
+pub mod term;
 
 use buffer::least;
 use header::Header;

@@ -136,12 +136,12 @@ abbrev pub flattened : Substitution → Replacement
 flattened σ x = flatten (σ x)
 
 -- a term has an atom
-flatten-some : (t : Term) → 0 < length (flatten t)
+pub flatten-some : (t : Term) → 0 < length (flatten t)
 flatten-some (atom a) = omega arith
 flatten-some (plus s t) = omega (arith, length-append (flatten s) (flatten t), flatten-some s)
 
 -- applying a substitution to a term is putting its replacement into the flattened side
-flatten-apply : (variable : ℕ → Bool) (σ : Substitution) (t : Term)
+pub flatten-apply : (variable : ℕ → Bool) (σ : Substitution) (t : Term)
     → flatten (apply variable σ t) ≡ put variable (flattened σ) (flatten t)
 flatten-apply variable σ (atom a) = by-test (variable a)
   where
@@ -182,7 +182,7 @@ planted-replacement : (θ : Replacement) (x : ℕ) → 0 < length (θ x) → fla
 planted-replacement θ x h = flatten-tree (θ x) h
 
 -- a side is the same after two replacements that agree on the atoms that stand there and move
-put-agrees : (moves : ℕ → Bool) (θ θ′ : Replacement) (side : List ℕ)
+pub put-agrees : (moves : ℕ → Bool) (θ θ′ : Replacement) (side : List ℕ)
     → ((a : ℕ) → List·Memᴰ a side → moves a ≡ true → θ a ≡ θ′ a)
     → put moves θ side ≡ put moves θ′ side
 put-agrees moves θ θ′ [] agree = refl

@@ -17,6 +17,8 @@ pub mod WrongRows
 pub mod Counts
 pub mod Taken
 pub mod Replaced
+pub mod Pattern
+pub mod Filled
 pub mod Constants
 pub mod Balanced
 pub mod Sound
@@ -33,6 +35,10 @@ pub mod Listed
 pub mod Pages
 pub mod Fages
 pub mod Atoms
+pub mod Subject
+pub mod Matching
+pub mod Covers
 pub mod MinimalSet
 pub mod FagesExample
+pub mod MatchingExample
 pub mod Worked

@@ -39,7 +39,7 @@ module _ (M : Mode) (L R : List ℕ) where
   unbalanced-ascending = filter-ascending isUnbalanced (from-ascending 0 128)
 
   -- a variable moves
-  variables-move : (x : ℕ) → List·Memᴰ x (variables M L R) → M .moves x ≡ true
+  pub variables-move : (x : ℕ) → List·Memᴰ x (variables M L R) → M .moves x ≡ true
   variables-move x m = and-eq-true-iff (M .moves x) (occurs L R x) .0 (filter-member isVariable atoms m .1) .0
 
   -- an atom of a side that moves is a variable
@@ -50,7 +50,7 @@ module _ (M : Mode) (L R : List ℕ) where
       (and-eq-true-iff (M .moves a) (occurs L R a) .1 (moves, lt-ltb 0 (count a L + count a R) stands))
 
   -- an atom that does not move and whose counts differ is an unbalanced constant
-  unbalanced-member : (c : ℕ) → c < 128 → M .moves c ≡ false → (count c L ≡ count c R → ⊥)
+  pub unbalanced-member : (c : ℕ) → c < 128 → M .moves c ≡ false → (count c L ≡ count c R → ⊥)
       → List·Memᴰ c (unbalanced M L R)
   unbalanced-member c small moves differ =
       member-filter isUnbalanced (from-member 0 128 c (omega arith) (omega arith))

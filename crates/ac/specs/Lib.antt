@@ -13,4 +13,5 @@ pub mod Replacement
 pub mod Values
 pub mod Pages
 pub mod Fages
+pub mod Match
 pub mod Worked

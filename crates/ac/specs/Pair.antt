@@ -1,20 +1,25 @@
 -- A pair of flattened sides: its atoms, their occurrences and net counts (document 01, "From sides to equations").
 use Prim.Native.Nat.{ℕ, _+_, _<_}
-use mathlib.Core.Bool.{Bool, false, not, cond, _&&_}
+use mathlib.Core.Bool.{Bool, true, false, not, cond, _&&_}
 use mathlib.Core.List.{List, [], _∷_, List·Memᴰ}
 use lib.Dec.{eqb, ltb}
 use lib.IntN.{ℤ, pos, _-ℤ_}
 use Rattle.ac.specs.Lists.{below, filter}
 
--- Which atoms are variables, and whether a variable may be replaced by nothing. Every other atom counts as a
--- constant.
+-- Which atoms may move, whether a variable may be replaced by nothing, and whether no variable may stand on both
+-- sides. Every atom that does not move counts as a constant.
 pub record Mode : Type 0 where
   pub moves : ℕ → Bool
   pub empties : Bool
+  pub separate : Bool
 
--- 0 to 63 are variables; there is no identity, so no value is empty
+-- 0 to 63 are variables
+abbrev pub isVariable : ℕ → Bool
+isVariable a = ltb a 64
+
+-- all of them move; there is no identity, so no value is empty
 abbrev pub unifying : Mode
-unifying = record { moves = λ a. ltb a 64; empties = false }
+unifying = record { moves = isVariable; empties = false; separate = false }
 
 -- Atoms are bytes: 0 to 63 and 64 to 127.
 abbrev pub atoms : List ℕ
@@ -32,6 +37,11 @@ same a b = cond (eqb a b) 1 0
 abbrev pub count : ℕ → List ℕ → ℕ
 count a [] = 0
 count a (b ∷ side) = same a b + count a side
+
+-- Matching against a fixed subject (document 02, R-4): "the subject's variables must not move", so those of the left
+-- side move, and those of the right side count as constants
+abbrev pub matching : List ℕ → Mode
+matching L = record { moves = λ a. isVariable a && ltb 0 (count a L); empties = false; separate = true }
 
 -- An atom's net count is its occurrences on the left minus those on the right; it may be negative.
 abbrev pub net : List ℕ → List ℕ → ℕ → ℤ

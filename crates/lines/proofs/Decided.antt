@@ -4,6 +4,7 @@ use Prim.Native.Nat.{ℕ, _+_, _-_, _<_}
 use native.Mathlib.Omega.{arith}
 use native.Mathlib.Decide.{decLt, ℕ-discrete}
 use mathlib.Core.Path.{_≡_, refl, ap, subst}
+use mathlib.Core.Bool.{true}
 use mathlib.Core.Logic.{_⊎_, inl, inr, ⊎-elim}
 use mathlib.Core.List.{List, [], _∷_, _++_, Memᴰ·append-left, Memᴰ·append-right}
 use lib.ListN.{length}
@@ -19,11 +20,11 @@ use Rattle.numbers.specs.Order.{readNumbers, sidesNumbers, beginningNumbers}
 use Rattle.block.proofs.Faults.{term-or-fault, fault-is-no-term}
 use Rattle.list.specs.Given.{ListGiven, none-admissible, not-listed, last-listed}
 use Rattle.list.proofs.Given.{start-not-after}
-use Rattle.numbers.proofs.Decided.{none, next, Settled, settle, same-dec, not-dec, either-dec, Some, some-dec}
+use Rattle.numbers.proofs.Decided.{none, next, Settled, settle, same-dec, not-dec, either-dec, both-dec, Some, some-dec}
 use Rattle.ac.specs.Limits.{limits}
-use Rattle.pair.proofs.Decided.{wrong-length-dec, wrong-byte-dec}
+use Rattle.pair.proofs.Decided.{wrong-length-dec, wrong-byte-dec, true-dec, shared-dec}
 use Rattle.pair.proofs.NetCounts.{natAbs-difference}
-use Rattle.pair.specs.Given.{left, right, WrongLength, WrongByte, Far, ManyRows, balanced, of-a-constant, PairGiven, side-length, no-atom, many-variables, far-net-count, many-constants, many-rows}
+use Rattle.pair.specs.Given.{left, right, WrongLength, WrongByte, OnBothSides, Far, ManyRows, balanced, of-a-constant, PairGiven, side-length, no-atom, on-both-sides, many-variables, far-net-count, many-constants, many-rows}
 
 -- The numbers of Read, of buffers that are long enough.
 module _ (block : List ℕ) (number : ℕ) (left right : List ℕ) (long : (length left < 64) ⊎ (length right < 64) → ⊥) where
@@ -70,7 +71,7 @@ module _ (block : List ℕ) (number : ℕ) (left right : List ℕ) (long : (leng
       (some-dec (λ b. not-dec (ℕ-discrete b 0)) (filler block)))
       none)))))))
 
--- The numbers 7 to 12.
+-- The numbers 7 to 12, and 19.
 module _ (M : Mode) (L R : List ℕ) {G : Groups} (of : GroupsOf M L R G) where
   -- of one of the sides
   side-dec : {P : List ℕ → Type 0} → ((side : List ℕ) → Dec (P side)) → Dec (P L ⊎ P R)
@@ -83,6 +84,9 @@ module _ (M : Mode) (L R : List ℕ) {G : Groups} (of : GroupsOf M L R G) where
   given-8 : PairGiven limits M L R 8 → WrongByte limits L ⊎ WrongByte limits R
   given-8 (no-atom left h) = inl h
   given-8 (no-atom right h) = inr h
+
+  given-19 : PairGiven limits M L R 19 → (M .separate ≡ true) × OnBothSides L R
+  given-19 (on-both-sides asked shared) = (asked, shared)
 
   given-9 : PairGiven limits M L R 9 → 6 < length (variables M L R)
   given-9 (many-variables h) = h
@@ -117,6 +121,8 @@ module _ (M : Mode) (L R : List ℕ) {G : Groups} (of : GroupsOf M L R G) where
       (next (same-dec (⊎-elim (side-length left) (side-length right)) given-7
       (side-dec (wrong-length-dec limits)))
       (next (same-dec (⊎-elim (no-atom left) (no-atom right)) given-8 (side-dec (wrong-byte-dec limits)))
+      (next (same-dec (λ both. on-both-sides (both .0) (both .1)) given-19
+      (both-dec (true-dec (M .separate)) (shared-dec L R)))
       (next (same-dec many-variables given-9 (decLt 6 (length (variables M L R))))
       (next (same-dec (λ s. far-net-count (s .member) (s .so)) given-10
       (some-dec (λ atom. decLt 8 (natAbs (net L R atom))) (L ++ R)))
@@ -124,7 +130,7 @@ module _ (M : Mode) (L R : List ℕ) {G : Groups} (of : GroupsOf M L R G) where
       (next (same-dec
       (λ many. many-rows of (⊎-elim balanced (λ s. of-a-constant (s .on-list) (s .so)) many)) given-12
       (either-dec (decLt 16 (length (G .balanced))) (some-dec (λ g. decLt 16 (length (g .rows))) (G .constants))))
-      none))))))
+      none)))))))
 
 -- The numbers 13 to 15, from the start on.
 pub list-settled : (listed : List ℕ) → Settled (ListGiven listed start) beginningNumbers

@@ -7,6 +7,7 @@ use solver::page::PageAnswer;
 use solver::page::PageRequest;
 use solver::rows::BUFFER;
 use solver::rows::RowsAnswer;
+use pair::ways::Way;
 use table::Table;
 ghost use mathlib.Core.Path.{_≡_};
 ghost use Prim.Native.Nat.{_≤_};
@@ -63,7 +64,7 @@ fn ask_sides(read: ReadAnswer, left: &[u8], right: &[u8], keys: &mut [Key]) -> A
     requires { ⌜ 200 ≤ length (now keys) ⌝ }
     ensures { λ r. ⌜ PairAsked read (now (left .entry)) (now (right .entry)) (now (keys .entry)) r (now (keys .exit)) ⌝ }
 {
-    let solved = table::solve(left, right);
+    let solved = table::solve(Way::Unifying, left, right);
     let verdict = solved.verdict;
     let table = solved.table;
     match verdict {

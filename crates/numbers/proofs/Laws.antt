@@ -9,7 +9,7 @@ use lib.ListN.{getD}
 use Rattle.numbers.specs.Numbers.{saidOf}
 use Rattle.numbers.specs.Outcome.{Said}
 use Rattle.numbers.specs.declared.Refusal.{Refusal}
-use Rattle.numbers.specs.declared.Refusal.the-variants.{BlockLength, Check, BlockNumber, TermLength, Term, Filler, SideLength, NoAtom, Variables, NetCount, Constants, Rows, NoUnifier, NotListed, LastKey, ShortBuffer, LongValue, WrongSide}
+use Rattle.numbers.specs.declared.Refusal.the-variants.{BlockLength, Check, BlockNumber, TermLength, Term, Filler, SideLength, NoAtom, Variables, NetCount, Constants, Rows, NoUnifier, NotListed, LastKey, ShortBuffer, LongValue, WrongSide, OnBothSides}
 use Rattle.numbers.specs.First.{First, NoneOf, here, later, also}
 
 -- the refusals in the table's order; no row has the number 0, and what 10 names is said beside it
@@ -34,6 +34,7 @@ rows =
     ∷ ShortBuffer
     ∷ LongValue
     ∷ WrongSide
+    ∷ OnBothSides
     ∷ []
 
 -- the refusal with this atom beside its number: the one in the row of its number, or the one that names an atom
@@ -66,6 +67,7 @@ refusalOf-saidOf LastKey = refl
 refusalOf-saidOf ShortBuffer = refl
 refusalOf-saidOf LongValue = refl
 refusalOf-saidOf WrongSide = refl
+refusalOf-saidOf OnBothSides = refl
 
 module _ {Given : ℕ → Type 0} where
   -- two first numbers of one list are the same

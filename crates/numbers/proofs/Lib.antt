@@ -5,3 +5,4 @@ pub mod Parts
 pub mod Promises
 pub mod Verdicts
 pub mod Decided
+pub mod Dropped

@@ -59,6 +59,9 @@ pub record MadeOf (Given OfSides OfList : ℕ → Type 0) (size room : ℕ) (Lon
 
 module _ {Given OfSides OfList : ℕ → Type 0} {size room : ℕ} {Long : Type 0}
     (made : MadeOf Given OfSides OfList size room Long) where
+  pub given-sides : {n : ℕ} → List·Memᴰ n sidesNumbers → Given n → OfSides n
+  given-sides m given = row-of-sides m (made .row-of given)
+
   pub given-list : {n : ℕ} → List·Memᴰ n beginningNumbers → Given n → OfList n
   given-list m given = row-of-list m (made .row-of given)
 
@@ -75,7 +78,7 @@ module _ {Given OfSides OfList : ℕ → Type 0} {size room : ℕ} {Long : Type 
 
     -- the sides' numbers are given where the sides give them, the list's where the list does
     sides-agree : (n : ℕ) → List·Memᴰ n sidesNumbers → OfSides n ↔ Given n
-    sides-agree n m = (made .of-sides, λ given. row-of-sides m (made .row-of given))
+    sides-agree n m = (made .of-sides, given-sides m)
 
     list-agrees : {list : List ℕ} → ((n : ℕ) → List·Memᴰ n list → List·Memᴰ n beginningNumbers)
         → (n : ℕ) → List·Memᴰ n list → OfList n ↔ Given n

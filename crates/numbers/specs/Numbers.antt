@@ -3,7 +3,7 @@ use Prim.Native.Nat.{ℕ}
 use mathlib.Core.Option.{Option, none, some}
 use Rattle.numbers.specs.Outcome.{Said}
 use Rattle.numbers.specs.declared.Refusal.{Refusal}
-use Rattle.numbers.specs.declared.Refusal.the-variants.{BlockLength, Check, BlockNumber, TermLength, Term, Filler, SideLength, NoAtom, Variables, NetCount, Constants, Rows, NoUnifier, NotListed, LastKey, ShortBuffer, LongValue, WrongSide}
+use Rattle.numbers.specs.declared.Refusal.the-variants.{BlockLength, Check, BlockNumber, TermLength, Term, Filler, SideLength, NoAtom, Variables, NetCount, Constants, Rows, NoUnifier, NotListed, LastKey, ShortBuffer, LongValue, WrongSide, OnBothSides}
 
 -- the column No. of the table, row by row, and the rows that document 02 adds to it: 18 (R-3)
 abbrev pub numberOf : Refusal → ℕ
@@ -25,6 +25,7 @@ numberOf LastKey = 15
 numberOf ShortBuffer = 16
 numberOf LongValue = 17
 numberOf WrongSide = 18
+numberOf OnBothSides = 19
 
 -- the atom that 10 names (document 02, R-2)
 abbrev pub atomOf : Refusal → Option ℕ
@@ -46,6 +47,7 @@ atomOf LastKey = none
 atomOf ShortBuffer = none
 atomOf LongValue = none
 atomOf WrongSide = none
+atomOf OnBothSides = none
 
 -- what a refusal says
 abbrev pub saidOf : Refusal → Said

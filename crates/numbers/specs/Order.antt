@@ -1,6 +1,7 @@
 -- Which numbers a question gives, and in which order (document 01, "Numbers given in place of a result"):
 -- "Order: 16 first, then by number. Read gives 1 to 6 and 16; Rows 7 to 12 and 16; Page 7 to 16; Values 7 to
--- 14, 16 and 17. None is given otherwise."
+-- 14, 16 and 17. None is given otherwise." Matching has 19 after 8 (document 02, R-4); where 19 is never given, a list
+-- with it is as one without it (`whole/proofs/Shared.antt`).
 use Prim.Native.Nat.{ℕ}
 use mathlib.Core.List.{List, [], _∷_, _++_}
 
@@ -12,6 +13,10 @@ blockNumbers = 1 ∷ 2 ∷ 3 ∷ 4 ∷ 5 ∷ 6 ∷ []
 abbrev pub uncountedNumbers : List ℕ
 uncountedNumbers = 7 ∷ 8 ∷ []
 
+-- .. the one that stands after them, where no variable may stand on both sides (document 02, R-4), ..
+abbrev pub separateNumbers : List ℕ
+separateNumbers = 19 ∷ []
+
 -- .. those that the counts settle, ..
 abbrev pub countedNumbers : List ℕ
 countedNumbers = 9 ∷ 10 ∷ 11 ∷ []
@@ -22,7 +27,7 @@ rowLimitNumbers = 12 ∷ []
 
 -- the numbers that are settled before there are rows
 abbrev pub partingNumbers : List ℕ
-partingNumbers = uncountedNumbers ++ countedNumbers
+partingNumbers = uncountedNumbers ++ (separateNumbers ++ countedNumbers)
 
 -- all numbers that the two sides decide
 abbrev pub sidesNumbers : List ℕ

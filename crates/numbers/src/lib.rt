@@ -26,6 +26,7 @@ pub enum Refusal {
     ShortBuffer,
     LongValue,
     WrongSide,
+    OnBothSides,
 }
 
 // Whether something is refused, and why.
@@ -57,5 +58,6 @@ pub fn number(refusal: Refusal) -> u8
         Refusal::ShortBuffer => 16,
         Refusal::LongValue => 17,
         Refusal::WrongSide => 18,
+        Refusal::OnBothSides => 19,
     }
 }

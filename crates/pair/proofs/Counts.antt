@@ -1,6 +1,6 @@
 -- Tables with a place for each atom: the occurrences on a side, and the atoms that move, each filled step by step.
 use mathlib.Core.Path.{_≡_, refl, sym, ap, _∙_}
-use mathlib.Core.Bool.{Bool, true, false}
+use mathlib.Core.Bool.{Bool, true, false, _&&_}
 use mathlib.Core.Logic.{inr}
 use mathlib.Core.List.{List, [], _∷_, _++_}
 use Prim.Native.Nat.{ℕ, suc, _+_, _≤_, _<_}
@@ -10,15 +10,24 @@ use native.Mathlib.Numerals.{add-one}
 use lib.ListN.{length, getD, set, take, replicate, length-take, length-set}
 use lib.Seq.{take-suc, getD-set-same, getD-set-other}
 use lib.Dec.{eqb, ltb}
-use borrow.Author.Tests.{lt-ltb, le-ltb}
-use Rattle.ac.specs.Pair.{count, same}
+use borrow.Author.Tests.{lt-ltb, le-ltb, ltb-true}
+use Rattle.ac.specs.Pair.{count, same, unifying, matching}
 use Rattle.ac.proofs.Places.{getD-member}
-use Rattle.ac.proofs.Counts.{same-self, same-other, count-append}
+use Rattle.ac.proofs.Counts.{same-self, same-other, count-append, count-some, count-member}
 use Rattle.ac.specs.Limits.{limits}
-use Rattle.pair.specs.Given.{WrongLength, WrongByte}
-use Rattle.pair.specs.Counts.{Occurrences}
+use Rattle.numbers.specs.Tells.{Tells}
+use Rattle.pair.specs.Given.{WrongLength, WrongByte, OnBothSides, PairGiven, on-both-sides}
+use Rattle.pair.specs.Ways.{modeOf}
+use Rattle.pair.specs.Counts.{Occurrences, Moves, variableMoves}
+use Rattle.pair.specs.declared.ways.Way.{Way}
+use Rattle.pair.specs.declared.ways.Way.the-variants.{Unifying, Matching}
 use Rattle.pair.proofs.Lists.{getD-replicate-same}
-use Rattle.pair.proofs.Telling.{at-most}
+use Rattle.pair.proofs.Telling.{at-most, tells-same}
+
+-- beside true nothing is lost
+and-true-right : (b : Bool) → (b && true) ≡ b
+and-true-right true = refl
+and-true-right false = refl
 
 -- two atoms are the same once at most
 same-le : (a b : ℕ) → same a b ≤ 1
@@ -76,24 +85,61 @@ pub count-so-far : (side table : List ℕ) (i x : ℕ) → Occurrences (take i s
 count-so-far side table i x counts right =
     omega (arith, counts .entries x, count-le-length x (take i side), length-take i side, right-length side right)
 
--- the table is true at the atoms below a number and nowhere else
-abbrev pub TrueBelow : ℕ → List Bool → Type 0
-TrueBelow n table = (atom : ℕ) → getD table atom false ≡ ltb atom n
+-- the table says so of the atoms below a number, and false of all others
+abbrev pub SaidBelow : (ℕ → Bool) → ℕ → List Bool → Type 0
+SaidBelow said n table = (a : ℕ) → getD table a false ≡ (ltb a n && said a)
 
--- at first it is true nowhere
-pub true-below-none : (size : ℕ) → TrueBelow 0 (replicate size false)
-true-below-none size atom = getD-replicate-same size atom false ∙ sym (le-ltb atom 0 (omega arith))
+-- nothing is said yet
+pub said-below-none : (said : ℕ → Bool) (k : ℕ) → SaidBelow said 0 (replicate k false)
+said-below-none said k a = getD-replicate-same k a false ∙ sym (ap (λ (t : Bool). t && said a) (le-ltb a 0 (omega arith)))
 
--- and then at one atom more
-pub true-below-more : (n : ℕ) (table : List Bool) → n < length table → TrueBelow n table
-    → TrueBelow (n + 1) (set table n true)
-true-below-more n table within below atom = go (ℕ-discrete atom n) (decLt atom n)
+-- one more atom's place
+pub said-below-more : (said : ℕ → Bool) (n : ℕ) (table : List Bool) {told : Bool} → n < length table
+    → told ≡ said n → SaidBelow said n table → SaidBelow said (n + 1) (set table n told)
+said-below-more said n table {told} within its below a = go (ℕ-discrete a n) (decLt a n)
   where
-    go : Dec (atom ≡ n) → Dec (atom < n) → getD (set table n true) atom false ≡ ltb atom (n + 1)
-    go (yes e) lower = rw e (getD-set-same table n true false within ∙ sym (lt-ltb n (n + 1) (omega arith)))
-    go (no differ) (yes lower) =
-        getD-set-other table n atom true false differ ∙ below atom ∙ lt-ltb atom n lower
-        ∙ sym (lt-ltb atom (n + 1) (omega arith))
-    go (no differ) (no higher) =
-        getD-set-other table n atom true false differ ∙ below atom ∙ le-ltb atom n (omega arith)
-        ∙ sym (le-ltb atom (n + 1) (omega arith))
+    go : Dec (a ≡ n) → Dec (a < n) → getD (set table n told) a false ≡ (ltb a (n + 1) && said a)
+    go (yes e) less = rw e (getD-set-same table n told false within ∙ its
+        ∙ sym (ap (λ (t : Bool). t && said n) (lt-ltb n (n + 1) (omega arith))))
+    go (no differ) (yes less) = getD-set-other table n a told false differ ∙ below a
+        ∙ ap (λ (t : Bool). t && said a) (lt-ltb a n less ∙ sym (lt-ltb a (n + 1) (omega arith)))
+    go (no differ) (no not-less) = getD-set-other table n a told false differ ∙ below a
+        ∙ ap (λ (t : Bool). t && said a) (le-ltb a n (omega arith) ∙ sym (le-ltb a (n + 1) (omega arith)))
+
+-- the atoms that move by the way, from how often each stands on the left
+pub moves-said : (way : Way) (L R : List ℕ) {lefts : List ℕ} (table : List Bool) {n : ℕ} → Occurrences L lefts → n ≡ 64
+    → SaidBelow (λ a. variableMoves way (getD lefts a 0)) n table → Moves (modeOf way L R) table
+moves-said Unifying L R table {n} counted all said a = said a ∙ and-true-right (ltb a n) ∙ ap (ltb a) all
+moves-said Matching L R table {n} counted all said a =
+    said a ∙ ap (λ (k : ℕ). ltb a n && ltb 0 k) (counted .entries a)
+    ∙ ap (λ (k : ℕ). ltb a k && ltb 0 (count a L)) all
+
+-- a variable that stands on both sides, by the two tables
+module _ {L R lefts rights : List ℕ} (of-left : Occurrences L lefts) (of-right : Occurrences R rights) where
+  pub shared-there : (a : ℕ) → a < 64 → 0 < getD lefts a 0 → 0 < getD rights a 0 → OnBothSides L R
+  shared-there a variable on-left on-right =
+      record {
+        variable = a;
+        is-variable = lt-ltb a 64 variable;
+        on-left = count-member a L (omega (arith, of-left .entries a));
+        on-right = count-member a R (omega (arith, of-right .entries a));
+      }
+
+  pub shared-nowhere : ((a : ℕ) → a < 64 → (0 < getD lefts a 0) × (0 < getD rights a 0) → ⊥) → OnBothSides L R → ⊥
+  shared-nowhere nowhere shared =
+      let a = shared .variable in
+      nowhere a (ltb-true a 64 (shared .is-variable)) (
+        (let some = count-some a L (shared .on-left) in omega (arith, of-left .entries a)),
+        (let some = count-some a R (shared .on-right) in omega (arith, of-right .entries a)),
+      )
+
+-- it refuses where the way asks for separate variables
+pub never-separate : {L R : List ℕ} → PairGiven limits unifying L R 19 → ⊥
+never-separate (on-both-sides asked shared) = let z : _≡_ {A = ℕ} 0 1 = cc asked in omega arith
+
+pub tells-separate : {L R : List ℕ} {told : Bool} → Tells (OnBothSides L R) told
+    → Tells (PairGiven limits (matching L) L R 19) told
+tells-separate {L} {R} = tells-same (λ shared. on-both-sides refl shared) its
+  where
+    its : PairGiven limits (matching L) L R 19 → OnBothSides L R
+    its (on-both-sides asked shared) = shared

@@ -12,7 +12,7 @@ use Rattle.ac.proofs.Places.{getD-map}
 use Rattle.numbers.specs.First.{NoneOf}
 use Rattle.numbers.proofs.Carried.{elsewhere, none-given, its-member}
 use Rattle.ac.specs.Limits.{Limits}
-use Rattle.pair.specs.Given.{PairGiven, side-length, no-atom, many-variables, far-net-count, many-constants, many-rows}
+use Rattle.pair.specs.Given.{PairGiven, side-length, no-atom, on-both-sides, many-variables, far-net-count, many-constants, many-rows}
 use Rattle.pair.specs.Gathered.{excess, padded, Held}
 use Rattle.numbers.specs.Order.{partingNumbers, sidesNumbers}
 use Rattle.pair.specs.declared.Gathered.{Gathered}
@@ -77,6 +77,7 @@ pub sides-number : {limits : Limits} {M : Mode} {L R : List ℕ} {n : ℕ} → P
     → List·Memᴰ n sidesNumbers
 sides-number (side-length side wrong) = its-member sidesNumbers refl
 sides-number (no-atom side wrong) = its-member sidesNumbers refl
+sides-number (on-both-sides asked shared) = its-member sidesNumbers refl
 sides-number (many-variables many) = its-member sidesNumbers refl
 sides-number (far-net-count atom far) = its-member sidesNumbers refl
 sides-number (many-constants many) = its-member sidesNumbers refl

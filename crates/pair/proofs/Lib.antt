@@ -7,3 +7,4 @@ pub mod Parting
 pub mod Laws
 pub mod Decided
 mod Examples
+pub mod Modes

@@ -2,12 +2,17 @@
 -- right" (document 01, "From sides to equations"). Each table has a place for each atom.
 use Prim.Native.Nat.{ℕ}
 use mathlib.Core.Path.{_≡_}
-use mathlib.Core.Bool.{Bool, false}
+use mathlib.Core.Bool.{Bool, true, false}
 use mathlib.Core.List.{List}
+use lib.Dec.{ltb}
 use lib.ListN.{length, getD}
 use Rattle.ac.specs.Pair.{Mode, atoms, count}
 use Rattle.ac.specs.Limits.{limits}
+use Rattle.numbers.specs.Tells.{Tells}
 use Rattle.pair.specs.Given.{LowestFar, PairGiven}
+use Rattle.pair.specs.Ways.{modeOf}
+use Rattle.pair.specs.declared.ways.Way.{Way}
+use Rattle.pair.specs.declared.ways.Way.the-variants.{Unifying, Matching}
 use Rattle.pair.specs.declared.counting.AtomCounts.{AtomCounts}
 use Rattle.pair.specs.declared.limits.NetCounts.{NetCounts}
 use Rattle.pair.specs.declared.limits.NetCounts.the-variants.{Far, Near}
@@ -20,6 +25,16 @@ pub record Occurrences (side table : List ℕ) : Type 0 where
 -- the table says of each atom whether it moves
 abbrev pub Moves : Mode → List Bool → Type 0
 Moves M table = (atom : ℕ) → getD table atom false ≡ M .moves atom
+
+-- whether a variable moves that stands so often on the left
+abbrev pub variableMoves : Way → ℕ → Bool
+variableMoves Unifying left = true
+variableMoves Matching left = ltb 0 left
+
+-- it says whether 19 is given of the sides whose atoms were counted
+abbrev pub TellsShared : Way → List ℕ → List ℕ → Bool → Type 0
+TellsShared way lefts rights told = (L R : List ℕ) → Occurrences L lefts → Occurrences R rights
+    → Tells (PairGiven limits (modeOf way L R) L R 19) told
 
 -- the tables are those of the sides
 pub record CountsOf (M : Mode) (L R : List ℕ) (counts : AtomCounts) : Type 0 where

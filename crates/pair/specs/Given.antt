@@ -1,11 +1,13 @@
--- The numbers 7 to 12 (document 01, "Numbers given in place of a result"): when each is given, of any two sides,
--- and which atom 10 names.
+-- The numbers 7 to 12 (document 01, "Numbers given in place of a result") and 19 (document 02, R-4): when each is given,
+-- of any two sides, and which atom 10 names.
 use Prim.Native.Nat.{ℕ, _<_}
+use mathlib.Core.Path.{_≡_}
+use mathlib.Core.Bool.{true}
 use mathlib.Core.Logic.{_⊎_}
 use mathlib.Core.List.{List, List·Memᴰ}
 use lib.ListN.{length}
 use lib.IntN.{natAbs}
-use Rattle.ac.specs.Pair.{Mode, net, variables, unbalanced}
+use Rattle.ac.specs.Pair.{Mode, isVariable, net, variables, unbalanced}
 use Rattle.ac.specs.Rows.{Group, Groups, GroupsOf}
 use Rattle.ac.specs.Limits.{Limits}
 
@@ -39,6 +41,13 @@ pub data ManyRows (limits : Limits) (G : Groups) : Type 0 where
   of-a-constant : {g : Group} → List·Memᴰ g (G .constants) → limits .constant-rows < length (g .rows)
       → ManyRows limits G
 
+-- a variable stands on both sides
+pub record OnBothSides (L R : List ℕ) : Type 0 where
+  pub variable : ℕ
+  pub is-variable : isVariable variable ≡ true
+  pub on-left : List·Memᴰ variable L
+  pub on-right : List·Memᴰ variable R
+
 -- A constructor for each row of the table. Each says when its number is given, whatever else is wrong with
 -- the sides.
 pub data PairGiven (limits : Limits) (M : Mode) (L R : List ℕ) : ℕ → Type 0 where
@@ -46,6 +55,8 @@ pub data PairGiven (limits : Limits) (M : Mode) (L R : List ℕ) : ℕ → Type 
   side-length : {side : List ℕ} → SideOf L R side → WrongLength limits side → PairGiven limits M L R 7
   -- a side holds a byte above 127
   no-atom : {side : List ℕ} → SideOf L R side → WrongByte limits side → PairGiven limits M L R 8
+  -- a variable on both sides, where none may stand there (document 02, R-4), whatever its net count
+  on-both-sides : M .separate ≡ true → OnBothSides L R → PairGiven limits M L R 19
   -- more than 6 distinct variables
   many-variables : limits .variables < length (variables M L R) → PairGiven limits M L R 9
   -- a net count further than 8 from 0

@@ -1,9 +1,10 @@
 // Two flattened sides taken apart (document 01, "From sides to equations"): the pair's variables, its
-// unbalanced constants and the two parts of each net count, or the first of the numbers 7 to 11 that is
+// unbalanced constants and the two parts of each net count, or the first of the numbers 7 to 11 and 19 that is
 // given.
 mod counting;
 mod gathering;
 pub mod limits;
+pub mod ways;
 
 use counting::AtomCounts;
 use gathering::AtomKind;
@@ -12,8 +13,9 @@ use numbers::Refusal;
 use numbers::Verdict;
 use numbers::limits::CONSTANTS;
 use numbers::limits::VARIABLES;
+use ways::Way;
 ghost use mathlib.Core.Path.{_≡_};
-ghost use Rattle.ac.specs.Pair.{unifying};
+ghost use Rattle.pair.specs.Ways.{modeOf};
 ghost use Rattle.pair.specs.Parted.{TakesApart, Parts};
 
 // The distinct variables of a pair or its unbalanced constants, ascending, and how many they are; for each
@@ -86,10 +88,10 @@ fn part(counts: AtomCounts) -> Parted
     }
 }
 
-// Takes two sides apart: the first of the numbers 7 to 11 that is given, or their pair. Nothing is counted
+// Takes two sides apart: the first of the numbers 7 to 11 and 19 that is given, or their pair. Nothing is counted
 // before both sides are known to hold atoms alone, and not too many.
-pub fn take_apart(left: &[u8], right: &[u8]) -> Parted
-    ensures { λ r. ⌜ TakesApart unifying (now (left .entry)) (now (right .entry)) r ⌝ }
+pub fn take_apart(way: Way, left: &[u8], right: &[u8]) -> Parted
+    ensures { λ r. ⌜ TakesApart (modeOf way (now (left .entry)) (now (right .entry))) (now (left .entry)) (now (right .entry)) r ⌝ }
 {
     let wrong_lengths = limits::wrong_length(left) | limits::wrong_length(right);
     let wrong_bytes = limits::wrong_byte(left) | limits::wrong_byte(right);
@@ -99,9 +101,12 @@ pub fn take_apart(left: &[u8], right: &[u8]) -> Parted
     if wrong_bytes {
         return refused(Refusal::NoAtom);
     }
-    let moving = counting::moving_variables();
     let lefts = counting::occurrences(left);
     let rights = counting::occurrences(right);
+    if counting::not_separate(way, lefts, rights) {
+        return refused(Refusal::OnBothSides);
+    }
+    let moving = counting::moving_atoms(way, lefts);
     let counts = AtomCounts {
         moving: moving,
         left: lefts,

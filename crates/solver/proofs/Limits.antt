@@ -1,8 +1,10 @@
--- What it means that the sides give none of the numbers 7 to 12: they hold atoms, and the groups' rows fit a key.
+-- What it means that the sides give none of the numbers 7 to 12 and 19: they hold atoms, the groups' rows fit a key, and
+-- no variable stands on both where none may.
 use Prim.Native.Nat.{ℕ, _<_, _≤_}
 use native.Mathlib.Omega.{arith}
 use native.Mathlib.Decide.{decLt}
-use mathlib.Core.Path.{refl, ap}
+use mathlib.Core.Path.{_≡_, refl, ap}
+use mathlib.Core.Bool.{true}
 use mathlib.Core.List.{List}
 use lib.ListN.{length, length-map}
 use Rattle.ac.specs.Pair.{Mode, IsSide, unbalanced}
@@ -12,7 +14,7 @@ use Rattle.numbers.specs.First.{NoneOf, also}
 use Rattle.numbers.specs.Order.{sidesNumbers, rowsNumbers}
 use Rattle.numbers.proofs.Carried.{none-carried, none-given, its-member}
 use Rattle.ac.specs.Limits.{limits}
-use Rattle.pair.specs.Given.{PairGiven, SideOf, left, right, no-atom, many-constants, many-rows, balanced, of-a-constant}
+use Rattle.pair.specs.Given.{PairGiven, SideOf, OnBothSides, left, right, no-atom, on-both-sides, many-constants, many-rows, balanced, of-a-constant}
 
 -- a bound that cannot be passed is kept
 kept : (a b : ℕ) → (a < b → ⊥) → b ≤ a
@@ -26,6 +28,7 @@ pub record WithinLimits (M : Mode) (L R : List ℕ) : Type 0 where
   pub left-side : IsSide L
   pub right-side : IsSide R
   pub groups-fit : (G : Groups) → GroupsOf M L R G → Fits layout G
+  pub sides-separate : M .separate ≡ true → OnBothSides L R → ⊥
 
 module _ {M : Mode} {L R : List ℕ} where
   -- where a question on two sides gives no number up to 12, the sides give none
@@ -46,6 +49,7 @@ module _ {M : Mode} {L R : List ℕ} where
         left-side = atoms-only (none-given none (its-member sidesNumbers refl)) left;
         right-side = atoms-only (none-given none (its-member sidesNumbers refl)) right;
         groups-fit = fit;
+        sides-separate = λ separate both. none-given none (its-member sidesNumbers refl) (on-both-sides separate both);
       }
     where
       no-11 : PairGiven limits M L R 11 → ⊥

@@ -6,6 +6,7 @@ use list::find_key;
 use list::least_listed;
 use numbers::Refusal;
 use numbers::Verdict;
+use pair::ways::Way;
 use table::Table;
 use table::masks::Masks;
 use table::masks::masks_of;
@@ -15,7 +16,8 @@ ghost use mathlib.Core.List.{_∷_};
 ghost use Prim.Native.Nat.{_<_, _≤_};
 ghost use lib.ListN.{length};
 ghost use Rattle.ac.specs.Keys.{after, remaining};
-ghost use Rattle.ac.specs.Pair.{unifying};
+ghost use Rattle.ac.specs.Pair.{unifying, matching};
+ghost use Rattle.pair.specs.Ways.{modeOf};
 ghost use Rattle.table.specs.Table.{InRoom};
 ghost use Rattle.table.specs.Masks.{Coherent};
 ghost use Rattle.list.specs.List.{OfTheirList};
@@ -144,17 +146,37 @@ pub fn page_of(table: Table, request: PageRequest, out: &mut [Key]) -> PageAnswe
     }
 }
 
-// The question Page: 16 first, then what solving the pair refuses, then the page of the solved pair.
+// The question Page: puts the next keys of the list of two sides into the buffer.
 pub fn page(left: &[u8], right: &[u8], request: PageRequest, out: &mut [Key]) -> PageAnswer
     ensures promise { λ r. ⌜ PagePromise unifying (now (left .entry)) (now (right .entry)) (beginningOf (request .begin)) (request .wanted) (now (out .entry))
         (toldPage r) (now (out .exit)) ⌝ }
     ensures existence { λ r. ⌜ PageExistence unifying (now (left .entry)) (now (right .entry)) (beginningOf (request .begin)) (request .wanted)
         (now (out .entry)) (toldPage r) (now (out .exit)) ⌝ }
 {
+    page_by(Way::Unifying, left, right, request, out)
+}
+
+// Page for matching: the left side's variables move.
+pub fn match_page(left: &[u8], right: &[u8], request: PageRequest, out: &mut [Key]) -> PageAnswer
+    ensures promise { λ r. ⌜ PagePromise (matching (now (left .entry))) (now (left .entry)) (now (right .entry)) (beginningOf (request .begin))
+        (request .wanted) (now (out .entry)) (toldPage r) (now (out .exit)) ⌝ }
+    ensures existence { λ r. ⌜ PageExistence (matching (now (left .entry))) (now (left .entry)) (now (right .entry)) (beginningOf (request .begin))
+        (request .wanted) (now (out .entry)) (toldPage r) (now (out .exit)) ⌝ }
+{
+    page_by(Way::Matching, left, right, request, out)
+}
+
+// Page by a way of listing: 16 first, then what solving the pair refuses, then the page of the solved pair.
+fn page_by(way: Way, left: &[u8], right: &[u8], request: PageRequest, out: &mut [Key]) -> PageAnswer
+    ensures promise { λ r. ⌜ PagePromise (modeOf way (now (left .entry)) (now (right .entry))) (now (left .entry)) (now (right .entry))
+        (beginningOf (request .begin)) (request .wanted) (now (out .entry)) (toldPage r) (now (out .exit)) ⌝ }
+    ensures existence { λ r. ⌜ PageExistence (modeOf way (now (left .entry)) (now (right .entry))) (now (left .entry)) (now (right .entry))
+        (beginningOf (request .begin)) (request .wanted) (now (out .entry)) (toldPage r) (now (out .exit)) ⌝ }
+{
     if out.len() < wanted_count(request.wanted) {
         return PageAnswer::Refused(Refusal::ShortBuffer);
     }
-    let solved = solve(left, right);
+    let solved = solve(way, left, right);
     let verdict = solved.verdict;
     let table = solved.table;
     match verdict {

@@ -3,6 +3,7 @@ use buffer::put_bytes;
 use numbers::Refusal;
 use numbers::Verdict;
 use table::ROWS;
+use pair::ways::Way;
 use table::Table;
 use table::row_start;
 use table::solve;
@@ -10,7 +11,8 @@ ghost use mathlib.Core.Path.{_≡_};
 ghost use Prim.Native.Nat.{_+_, _*_, _<_, _≤_};
 ghost use lib.ListN.{length};
 ghost use Rattle.ac.specs.Limits.{limits};
-ghost use Rattle.ac.specs.Pair.{unifying};
+ghost use Rattle.ac.specs.Pair.{unifying, matching};
+ghost use Rattle.pair.specs.Ways.{modeOf};
 ghost use Rattle.buffer.specs.Put.{Put};
 ghost use Rattle.table.specs.Table.{mostRows, roomOfRows, InRoom, groupIn, groupsIn};
 ghost use Rattle.solver.specs.Rows.{rowsBuffer, toldRows, size, allRows, bytesOf, RowsPromise};
@@ -105,15 +107,30 @@ pub fn rows_of(table: Table, out: &mut [u8]) -> RowsAnswer
     }
 }
 
-// The question Rows: puts the rows of two sides into the buffer. Every refusal is settled before the first
-// byte is written.
+// The question Rows: puts the rows of two sides into the buffer.
 pub fn rows(left: &[u8], right: &[u8], out: &mut [u8]) -> RowsAnswer
     ensures { λ r. ⌜ RowsPromise unifying (now (left .entry)) (now (right .entry)) (now (out .entry)) (toldRows r) (now (out .exit)) ⌝ }
+{
+    rows_by(Way::Unifying, left, right, out)
+}
+
+// Rows for matching: the left side's variables move.
+pub fn match_rows(left: &[u8], right: &[u8], out: &mut [u8]) -> RowsAnswer
+    ensures { λ r. ⌜ RowsPromise (matching (now (left .entry))) (now (left .entry)) (now (right .entry)) (now (out .entry)) (toldRows r)
+        (now (out .exit)) ⌝ }
+{
+    rows_by(Way::Matching, left, right, out)
+}
+
+// Rows by a way of listing. Every refusal is settled before the first byte is written.
+fn rows_by(way: Way, left: &[u8], right: &[u8], out: &mut [u8]) -> RowsAnswer
+    ensures { λ r. ⌜ RowsPromise (modeOf way (now (left .entry)) (now (right .entry))) (now (left .entry)) (now (right .entry))
+        (now (out .entry)) (toldRows r) (now (out .exit)) ⌝ }
 {
     if out.len() < BUFFER {
         return RowsAnswer::Refused(Refusal::ShortBuffer);
     }
-    let solved = solve(left, right);
+    let solved = solve(way, left, right);
     let verdict = solved.verdict;
     let table = solved.table;
     match verdict {

@@ -10,6 +10,7 @@ use numbers::Refusal;
 use numbers::Verdict;
 use numbers::limits::VARIABLES;
 use table::ROWS;
+use pair::ways::Way;
 use table::Table;
 use table::masks::masks_of;
 use table::solve;
@@ -19,7 +20,8 @@ ghost use mathlib.Core.List.{_∷_};
 ghost use Prim.Native.Nat.{_+_, _≤_, _<_};
 ghost use lib.ListN.{length};
 ghost use Rattle.ac.specs.Limits.{limits};
-ghost use Rattle.ac.specs.Pair.{unifying};
+ghost use Rattle.ac.specs.Pair.{unifying, matching};
+ghost use Rattle.pair.specs.Ways.{modeOf};
 ghost use Rattle.ac.specs.Values.{laidOut};
 ghost use Rattle.buffer.specs.Put.{Put};
 ghost use Rattle.table.specs.Table.{InRoom};
@@ -183,14 +185,30 @@ pub fn values_of(table: Table, key: Key, out: &mut [u8]) -> ValuesAnswer
     }
 }
 
-// The question Values: 16 first, then what solving the pair refuses, then the values of the solved pair.
+// The question Values: puts what a key gives the variables of two sides into the buffer.
 pub fn values(left: &[u8], right: &[u8], key: Key, out: &mut [u8]) -> ValuesAnswer
     ensures { λ r. ⌜ ValuesPromise unifying (now (left .entry)) (now (right .entry)) key (now (out .entry)) (toldValues r) (now (out .exit)) ⌝ }
+{
+    values_by(Way::Unifying, left, right, key, out)
+}
+
+// Values for matching: the left side's variables move.
+pub fn match_values(left: &[u8], right: &[u8], key: Key, out: &mut [u8]) -> ValuesAnswer
+    ensures { λ r. ⌜ ValuesPromise (matching (now (left .entry))) (now (left .entry)) (now (right .entry)) key (now (out .entry)) (toldValues r)
+        (now (out .exit)) ⌝ }
+{
+    values_by(Way::Matching, left, right, key, out)
+}
+
+// Values by a way of listing: 16 first, then what solving the pair refuses, then the values of the solved pair.
+fn values_by(way: Way, left: &[u8], right: &[u8], key: Key, out: &mut [u8]) -> ValuesAnswer
+    ensures { λ r. ⌜ ValuesPromise (modeOf way (now (left .entry)) (now (right .entry))) (now (left .entry)) (now (right .entry)) key
+        (now (out .entry)) (toldValues r) (now (out .exit)) ⌝ }
 {
     if out.len() < ROOM {
         return ValuesAnswer::Refused(Refusal::ShortBuffer);
     }
-    let solved = solve(left, right);
+    let solved = solve(way, left, right);
     let verdict = solved.verdict;
     let table = solved.table;
     match verdict {

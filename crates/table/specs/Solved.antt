@@ -22,6 +22,6 @@ SolvedOf numbers M L R solved =
 abbrev pub SolvesPair : Pair → Solved → Type 0
 SolvesPair pair solved = (M : Mode) (L R : List ℕ) → PairOf M L R pair → SolvedOf rowLimitNumbers M L R solved
 
--- two sides are solved, or the first of the numbers 7 to 12 is given
+-- two sides are solved, or the first of the numbers 7 to 12 and 19 is given
 abbrev pub SolvesSides : Mode → List ℕ → List ℕ → Solved → Type 0
 SolvesSides = SolvedOf sidesNumbers

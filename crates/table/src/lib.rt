@@ -12,11 +12,12 @@ use numbers::limits::CONSTANTS;
 use numbers::limits::VARIABLES;
 use pair::Pair;
 use pair::take_apart;
+use pair::ways::Way;
 ghost use mathlib.Core.Path.{_≡_};
 ghost use Prim.Native.Nat.{_≤_};
 ghost use lib.ListN.{take};
 ghost use Rattle.ac.specs.Limits.{limits};
-ghost use Rattle.ac.specs.Pair.{unifying};
+ghost use Rattle.pair.specs.Ways.{modeOf};
 ghost use Rattle.table.specs.Table.{mostRows, rowStart};
 ghost use Rattle.table.specs.Groups.{Roomy};
 ghost use Rattle.table.specs.Solved.{SolvesSides, SolvesPair};
@@ -126,11 +127,11 @@ fn solve_pair(pair: Pair) -> Solved
     }
 }
 
-// SolvesSides a pair: the first of the numbers 7 to 12 that is given, or its table.
-pub fn solve(left: &[u8], right: &[u8]) -> Solved
-    ensures { λ r. ⌜ SolvesSides unifying (now (left .entry)) (now (right .entry)) r ⌝ }
+// Solves two sides: the first of the numbers 7 to 12 and 19 that is given, or their table.
+pub fn solve(way: Way, left: &[u8], right: &[u8]) -> Solved
+    ensures { λ r. ⌜ SolvesSides (modeOf way (now (left .entry)) (now (right .entry))) (now (left .entry)) (now (right .entry)) r ⌝ }
 {
-    let parted = take_apart(left, right);
+    let parted = take_apart(way, left, right);
     let verdict = parted.verdict;
     let pair = parted.pair;
     match verdict {

@@ -1,15 +1,15 @@
 -- The answers of Values to the keys of all pages are the pair's unifiers, in every mode.
 use Prim.Native.Nat.{ℕ, _<_}
 use native.Mathlib.Omega.{arith}
-use mathlib.Core.Path.{_≡_, refl, ap, ap₂, sym, subst, _∙_}
-use mathlib.Core.Bool.{Bool, true, false, cond}
-use mathlib.Core.List.{List, [], _∷_, _++_, List·Memᴰ}
+use mathlib.Core.Path.{_≡_, refl, ap, sym, subst, _∙_}
+use mathlib.Core.List.{List, List·Memᴰ}
 use lib.ListN.{length, getD}
-use Rattle.ac.specs.Pair.{Mode, count, variables}
+use Rattle.ac.specs.Pair.{Mode, variables}
 use Rattle.ac.specs.Search.{groups}
 use Rattle.ac.specs.Keys.{layout, keys, start}
 use Rattle.ac.specs.Pages.{together, WholeList}
-use Rattle.ac.specs.Replacement.{Replacement, put, isNew, SameSum, Unifies, ComesFrom}
+use Rattle.ac.specs.Replacement.{Replacement, Unifies, ComesFrom}
+use Rattle.ac.proofs.Filled.{same-comes}
 use Rattle.ac.proofs.Groups.{groups-exist}
 use Rattle.ac.proofs.Places.{getD-member, one-place}
 use Rattle.ac.proofs.Fages.{Agree, unifies-alike, comes-alike}
@@ -20,25 +20,6 @@ use Rattle.solver.proofs.Existence.{key-unifies, unifier-listed, keys-independe
 use Rattle.solver.proofs.Pages.{asked-within, pages-hold-the-list}
 use Rattle.whole.specs.Whole.{replacementAt, ValuesAsked, WholeSet}
 use Rattle.whole.proofs.Named.{as-many-answers, answers-name}
-
--- each new variable filled with itself changes nothing
-put-itself : (new : ℕ) (s : List ℕ) → put (isNew new) (λ n. n ∷ []) s ≡ s
-put-itself new [] = refl
-put-itself new (a ∷ s) = ap₂ {C = List ℕ} (λ first rest. first ++ rest) (either (isNew new a)) (put-itself new s)
-  where
-    either : (t : Bool) → cond t (a ∷ []) (a ∷ []) ≡ a ∷ []
-    either true = refl
-    either false = refl
-
--- so a replacement that gives each variable the same sum as another comes from it
-same-comes : (M : Mode) (new : ℕ) (L R : List ℕ) {σ θ : Replacement}
-    → ((x : ℕ) → List·Memᴰ x (variables M L R) → SameSum (σ x) (θ x)) → ComesFrom M new L R σ θ
-same-comes M new L R {σ} same =
-    record {
-      fill = λ n. n ∷ [];
-      filled = λ x n m k above some. omega arith;
-      agrees = λ x m b. sym (same x m b) ∙ ap (count b) (sym (put-itself new (σ x)));
-    }
 
 module _ {M : Mode} {L R : List ℕ} {pages answers : List (List ℕ)} (asked : PagesAsked M L R start pages)
     (answered : ValuesAsked M L R (together pages) answers) where

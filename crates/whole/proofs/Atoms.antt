@@ -27,9 +27,9 @@ use Rattle.solver.specs.Values.{ValuesGiven, ValuesPromise}
 use Rattle.solver.specs.Values as its-values
 use Rattle.solver.proofs.Determined.{one-rows, one-page, one-values}
 
--- the numbers before 10, in order
+-- the numbers before 10, in order; 19 is given in matching alone (Shared.antt)
 abbrev pub beforeTen : List ℕ
-beforeTen = 16 ∷ 7 ∷ 8 ∷ 9 ∷ []
+beforeTen = 16 ∷ 7 ∷ 8 ∷ 19 ∷ 9 ∷ []
 
 -- an atom that stands beside a number is named
 beside-named : {Names : ℕ → Type 0} {n atom : ℕ} → Beside Names n (some atom) → Names atom

@@ -74,7 +74,7 @@ module _ {M : Mode} {L R : List ℕ} (none : NoneOf (PairGiven limits M L R) sid
             (others .1),
       )
 
--- Sides that give none of 7 to 12 and have a unifier have pages, and answers to their keys.
+-- Sides that give none of 7 to 12 and 19 and have a unifier have pages, and answers to their keys.
 pub pages-and-answers : {M : Mode} {L R : List ℕ}
     → NoneOf (PairGiven limits M L R) sidesNumbers → SomeUnifies M L R
     → (pages answers : List (List ℕ)) × PagesAsked M L R start pages × ValuesAsked M L R (together pages) answers

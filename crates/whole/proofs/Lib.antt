@@ -2,6 +2,7 @@ pub mod ReadBack
 pub mod Named
 pub mod Answered
 pub mod Whole
+pub mod Shared
 pub mod Only
 pub mod Atoms
 pub mod Short
@@ -10,3 +11,4 @@ pub mod OnPages
 pub mod Substitutions
 pub mod Unifiers
 pub mod Apart
+pub mod Matches

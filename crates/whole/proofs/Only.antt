@@ -1,8 +1,9 @@
 -- "None is given otherwise" (document 01, "Numbers given in place of a result"): a number that meets a
--- question's promise is one of the question's.
+-- question's promise is one of the question's. That 19 is none of those of unifying is in Shared.antt.
 use Prim.Native.Nat.{ℕ}
+use mathlib.Core.Path.{refl}
 use mathlib.Core.List.{List, [], _∷_, List·Memᴰ}
-use Rattle.ac.specs.Pair.{Mode}
+use Rattle.ac.specs.Pair.{unifying, matching}
 use Rattle.ac.specs.Keys.{Beginning}
 use Rattle.numbers.specs.Outcome.{Said, refused}
 use Rattle.numbers.proofs.Promises.{refused-listed}
@@ -10,6 +11,7 @@ use Rattle.block.specs.Read.{ReadPromise}
 use Rattle.solver.specs.Rows.{RowsPromise}
 use Rattle.solver.specs.Page.{PagePromise}
 use Rattle.solver.specs.Values.{ValuesPromise}
+use Rattle.whole.proofs.Shared.{rows-without-19, page-without-19, values-without-19}
 
 module _ {said : Said} where
   -- Read gives 1 to 6 and 16.
@@ -19,18 +21,33 @@ module _ {said : Said} where
   read-gives = refused-listed
 
   -- Rows gives 7 to 12 and 16.
-  pub rows-gives : {M : Mode} {L R out out′ : List ℕ} → RowsPromise M L R out (refused said) out′
+  pub rows-gives : {L R out out′ : List ℕ} → RowsPromise unifying L R out (refused said) out′
       → List·Memᴰ (said .number) (16 ∷ 7 ∷ 8 ∷ 9 ∷ 10 ∷ 11 ∷ 12 ∷ [])
-  rows-gives = refused-listed
+  rows-gives promise = refused-listed (rows-without-19 refl .0 promise)
 
   -- Page gives 7 to 16.
-  pub page-gives : {M : Mode} {L R : List ℕ} {begin : Beginning} {wanted : ℕ} {out out′ : List ℕ}
-      → PagePromise M L R begin wanted out (refused said) out′
+  pub page-gives : {L R : List ℕ} {begin : Beginning} {wanted : ℕ} {out out′ : List ℕ}
+      → PagePromise unifying L R begin wanted out (refused said) out′
       → List·Memᴰ (said .number) (16 ∷ 7 ∷ 8 ∷ 9 ∷ 10 ∷ 11 ∷ 12 ∷ 13 ∷ 14 ∷ 15 ∷ [])
-  page-gives = refused-listed
+  page-gives promise = refused-listed (page-without-19 refl .0 promise)
 
   -- Values gives 7 to 14, 16 and 17.
-  pub values-gives : {M : Mode} {L R : List ℕ} {key : ℕ} {out out′ : List ℕ}
-      → ValuesPromise M L R key out (refused said) out′
+  pub values-gives : {L R : List ℕ} {key : ℕ} {out out′ : List ℕ}
+      → ValuesPromise unifying L R key out (refused said) out′
       → List·Memᴰ (said .number) (16 ∷ 7 ∷ 8 ∷ 9 ∷ 10 ∷ 11 ∷ 12 ∷ 13 ∷ 14 ∷ 17 ∷ [])
-  values-gives = refused-listed
+  values-gives promise = refused-listed (values-without-19 refl .0 promise)
+
+  -- Matching, each gives 19 as well, after 8 (document 02, R-4).
+  pub matching-rows-gives : {L R out out′ : List ℕ} → RowsPromise (matching L) L R out (refused said) out′
+      → List·Memᴰ (said .number) (16 ∷ 7 ∷ 8 ∷ 19 ∷ 9 ∷ 10 ∷ 11 ∷ 12 ∷ [])
+  matching-rows-gives = refused-listed
+
+  pub matching-page-gives : {L R : List ℕ} {begin : Beginning} {wanted : ℕ} {out out′ : List ℕ}
+      → PagePromise (matching L) L R begin wanted out (refused said) out′
+      → List·Memᴰ (said .number) (16 ∷ 7 ∷ 8 ∷ 19 ∷ 9 ∷ 10 ∷ 11 ∷ 12 ∷ 13 ∷ 14 ∷ 15 ∷ [])
+  matching-page-gives = refused-listed
+
+  pub matching-values-gives : {L R : List ℕ} {key : ℕ} {out out′ : List ℕ}
+      → ValuesPromise (matching L) L R key out (refused said) out′
+      → List·Memᴰ (said .number) (16 ∷ 7 ∷ 8 ∷ 19 ∷ 9 ∷ 10 ∷ 11 ∷ 12 ∷ 13 ∷ 14 ∷ 17 ∷ [])
+  matching-values-gives = refused-listed

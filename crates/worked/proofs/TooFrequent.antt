@@ -25,6 +25,7 @@ use Rattle.numbers.proofs.Parts.{first-of-sides}
 use Rattle.numbers.proofs.Promises.{outcome-determined}
 use Rattle.numbers.proofs.Said.{refuses-naming, refuses-other}
 use Rattle.pair.specs.Given.{SideOf, left, right, LowestFar, PairGiven, side-length, no-atom, many-variables, far-net-count}
+use Rattle.pair.proofs.Counts.{never-separate}
 use Rattle.solver.specs.Rows.{rowsBuffer}
 use Rattle.solver.specs.Page.{wantedCount}
 use Rattle.solver.specs.Values.{valuesBuffer}
@@ -63,8 +64,8 @@ module _ (L R : List ℕ) where
       → ltb (limits .variables) (length (variables unifying L R)) ≡ true
       → First (PairGiven limits unifying L R) sidesNumbers 9
   nine-first left-passes right-passes many =
-      later (not-7 left-passes right-passes) (later (not-8 left-passes right-passes)
-      (here (many-variables (ltb-true (limits .variables) (length (variables unifying L R)) many))))
+      later (not-7 left-passes right-passes) (later (not-8 left-passes right-passes) (later never-separate
+      (here (many-variables (ltb-true (limits .variables) (length (variables unifying L R)) many)))))
 
   module _ (atom : ℕ) (far : all (farTests L R atom) ≡ true) where
     passed : (place : ℕ) → getD (farTests L R atom) place true ≡ true
@@ -88,8 +89,8 @@ module _ (L R : List ℕ) where
 
     ten-first : First (PairGiven limits unifying L R) sidesNumbers 10
     ten-first =
-        later (not-7 (passed 0) (passed 1)) (later (not-8 (passed 0) (passed 1)) (later not-9
-        (here (far-net-count atom (its-lowest .far)))))
+        later (not-7 (passed 0) (passed 1)) (later (not-8 (passed 0) (passed 1)) (later never-separate (later not-9
+        (here (far-net-count atom (its-lowest .far))))))
 
     -- each question answers 10 with the atom, and changes nothing
     pub rows-name : (out : List ℕ) → rowsBuffer ≤ length out

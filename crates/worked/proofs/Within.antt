@@ -18,7 +18,8 @@ use Rattle.ac.proofs.Counts.{count-append, count-member}
 use Rattle.ac.proofs.Groups.{groups-exist, groups-unique}
 use Rattle.ac.proofs.Tests.{both, every-member}
 use Rattle.ac.specs.Limits.{limits}
-use Rattle.pair.specs.Given.{SideOf, left, right, WrongLength, ManyRows, balanced, of-a-constant, PairGiven, side-length, no-atom, many-variables, far-net-count, many-constants, many-rows}
+use Rattle.pair.specs.Given.{SideOf, left, right, WrongLength, ManyRows, balanced, of-a-constant, PairGiven, side-length, no-atom, on-both-sides, many-variables, far-net-count, many-constants, many-rows}
+use Rattle.pair.proofs.Counts.{never-separate}
 use Rattle.pair.proofs.NetCounts.{natAbs-difference}
 
 -- all of some tests pass
@@ -100,6 +101,7 @@ module _ (L R : List ℕ) (passes : within L R ≡ true) where
   never-given (side-length {side} one wrong) = length-within side (side-within one) wrong
   never-given (no-atom {side} one wrong) =
       omega (arith, wrong .above, byte-within side (side-within one) (wrong .held))
+  never-given (on-both-sides asked shared) = never-separate (on-both-sides asked shared)
   never-given (many-variables many) = omega (arith, leb-true (length (variables unifying L R)) (limits .variables) (passed 2))
   never-given (far-net-count atom far) = omega (arith, near-zero L R (passed 3) atom)
   never-given (many-constants many) = omega (arith, leb-true (length (unbalanced unifying L R)) (limits .constants) (passed 4))

@@ -1,4 +1,4 @@
--- `solver::page::page` meets its contract: 16, then the numbers of the sides, then the page of the solved pair;
+-- `solver::page::page_by` meets its contract: 16, then the numbers of the sides, then the page of the solved pair;
 -- demand 3 follows from the promise. Assumes nothing.
 use Prim.Native.Nat.{ℕ, _<_, _≤_}
 use mathlib.Core.Path.{refl, subst}
@@ -6,11 +6,12 @@ use lib.ListN.{length}
 use Rattle.ac.proofs.Groups.{groups-exist}
 use Rattle.numbers.specs.Order.{beginningNumbers}
 use Rattle.numbers.proofs.Parts.{short-promised, verdict-promised}
+use Rattle.pair.proofs.Modes.{never-empties}
 use Rattle.solver.proofs.Existence.{page-existence}
 use Rattle.solver.proofs.Given.{page-made}
 use borrow.Author.Needs.{needs}
-use Rattle.solver.proofs.page.page.Statement.{statement}
-use Rattle.solver.proofs.page.page.Tie as tie
+use Rattle.solver.proofs.page.page_by.Statement.{statement}
+use Rattle.solver.proofs.page.page_by.Tie as tie
 
 wanted-count-requires : tie.Need-wanted-count-requires
 wanted-count-requires c κs = search needs
@@ -54,11 +55,12 @@ returns-3 c =
     let told = c .before .before .before .before .enum-told .given .1 in
     let solved = c .before .before .before .before .before .before .before .solve .ensures in
     let promised =
-    c .before .before .page-of .ensures _ _ _ (solved .so told) (solved .none-given told) refl in
+    c .before .before .page-of .ensures _ _ _ (solved .so told) (solved .none-given told)
+    (never-empties (c .before .before .before .before .before .before .before .before .before .before .before .before .before .args .way) _ _) in
     (promised, page-existence promised)
 
-pub page-spec : {M : Type 1} → statement M
-page-spec =
+pub page-by-spec : {M : Type 1} → statement M
+page-by-spec =
     tie.close
     (tie.spec
     wanted-count-requires

@@ -1,14 +1,15 @@
--- `solver::values::values` meets its contract: 16, then the numbers of the sides, then the values of the solved pair.
+-- `solver::values::values_by` meets its contract: 16, then the numbers of the sides, then the values of the solved pair.
 -- Assumes nothing.
 use mathlib.Core.Path.{refl}
 use mathlib.Core.List.{_++_}
 use Rattle.ac.proofs.Groups.{groups-exist}
 use Rattle.numbers.specs.Order.{keyNumbers, lengthNumbers}
 use Rattle.numbers.proofs.Parts.{short-promised, verdict-promised}
+use Rattle.pair.proofs.Modes.{never-empties}
 use Rattle.solver.proofs.Given.{values-made}
 use borrow.Author.Needs.{needs}
-use Rattle.solver.proofs.values.values.Statement.{statement}
-use Rattle.solver.proofs.values.values.Tie as tie
+use Rattle.solver.proofs.values.values_by.Statement.{statement}
+use Rattle.solver.proofs.values.values_by.Tie as tie
 
 returns : tie.Need-returns
 returns c = short-promised (values-made (groups-exist _ _ _)) (c .if1 .taken)
@@ -39,10 +40,11 @@ returns-3 : tie.Need-returns-3
 returns-3 c =
     let told = c .before .before .before .before .enum-told .given .1 in
     let solved = c .before .before .before .before .before .before .before .solve .ensures in
-    c .before .before .values-of .ensures _ _ _ (solved .so told) (solved .none-given told) refl
+    c .before .before .values-of .ensures _ _ _ (solved .so told) (solved .none-given told)
+    (never-empties (c .before .before .before .before .before .before .before .before .before .before .before .before .args .way) _ _)
 
-pub values-spec : {M : Type 1} → statement M
-values-spec =
+pub values-by-spec : {M : Type 1} → statement M
+values-by-spec =
     tie.close
     (tie.spec
     returns

@@ -1,10 +1,10 @@
--- `solver::rows::rows` meets its contract: 16, then what solving settles, then the rows. Assumes nothing.
+-- `solver::rows::rows_by` meets its contract: 16, then what solving settles, then the rows. Assumes nothing.
 use borrow.Author.Needs.{needs}
 use mathlib.Core.List.{[]}
 use Rattle.numbers.proofs.Parts.{short-promised, verdict-promised}
 use Rattle.solver.proofs.Given.{rows-made}
-use Rattle.solver.proofs.rows.rows.Statement.{statement}
-use Rattle.solver.proofs.rows.rows.Tie as tie
+use Rattle.solver.proofs.rows.rows_by.Statement.{statement}
+use Rattle.solver.proofs.rows.rows_by.Tie as tie
 
 returns : tie.Need-returns
 returns c = short-promised rows-made (c .if1 .taken)
@@ -38,8 +38,8 @@ returns-3 c =
     let accepted = c .before .before .before .before .enum-told .given .1 in
     c .before .before .rows-of .ensures _ _ _ (solved .so accepted) (solved .none-given accepted)
 
-pub rows-spec : {M : Type 1} → statement M
-rows-spec =
+pub rows-by-spec : {M : Type 1} → statement M
+rows-by-spec =
     tie.close
     (tie.spec
     returns

@@ -1,0 +1,21 @@
+-- `pair::counting::moves` meets its contract: each way has its own arm. Assumes nothing.
+use mathlib.Core.Path.{sym, ap}
+use borrow.Author.Needs.{needs}
+use Rattle.pair.specs.Counts.{variableMoves}
+use Rattle.pair.proofs.counting.moves.Statement.{statement}
+use Rattle.pair.proofs.counting.moves.Tie as tie
+
+enum-told : tie.Need-enum-told
+enum-told c = search needs
+
+enum-told-2 : tie.Need-enum-told-2
+enum-told-2 c = search needs
+
+returns : tie.Need-returns
+returns c = sym (ap (λ way. variableMoves way (c .before .before .args .left)) (c .enum-told .given .1))
+
+returns-2 : tie.Need-returns-2
+returns-2 c = sym (ap (λ way. variableMoves way (c .before .before .args .left)) (c .enum-told2 .given .1))
+
+pub moves-spec : {M : Type 1} → statement M
+moves-spec = tie.close (tie.spec enum-told enum-told-2 returns returns-2)

@@ -2,14 +2,15 @@
 
 The first page of each of document 01's pairs (examples/worked.txt) is asked for. A list that it holds whole, and each of
 the published ones, is walked to its end in pages of an odd size, each after the last key of the one before. The values of
-the first keys of each page are asked for.
+the first keys of each page are asked for. The same is asked of patterns and subjects in matching (document 02, R-4): a text that
+begins with `match`.
 """
 import struct
 import subprocess
 from pathlib import Path
 
-from library import flattened, pair, texts
-from protocol import PAGE, VALUES, Case, question
+from library import flattened, term, texts
+from protocol import MATCH_PAGE, MATCH_VALUES, PAGE, VALUES, Case, question
 
 WORKED = Path(__file__).resolve().parent.parent / "examples" / "worked.txt"
 
@@ -24,6 +25,36 @@ PUBLISHED = [
 
 # the highest key is on this pair's list
 HIGHEST, HIGHEST_KEY = "7v3+7c0+7c1+7c2+7c3 = 8v0+8v1+3v2", 4294967295
+
+# document 02, R-4: patterns with their subjects, worked by hand or refused
+MATCHED = [
+    "match v0+v1 = 2v32+v33",  # four
+    "match v0+c0 = v33+c0",  # one
+    "match v0+v1+v2 = 4v7",  # three
+    "match v0+v1+v2 = 5v7",  # 12
+    "match 2v0 = c0+c1",  # 13
+    "match c0+c1+c2 = v0+v1+v2",  # 11
+    "match v0+c0 = v0+c1",  # 19
+    "match v0+c0 = v0+c0",  # 19, though the net count is 0
+    "match v0 = 9v7",  # 10 with v7
+    "match v0+v1+v2+v3+v4+v5+v6 = v7",  # 9
+    "match v40+v41 = v0+v1+c0",  # six
+    "match c0 = c0",  # one, without variables
+    "match v0+v1+v2 = 4v32+4v33+c0",  # 528, more than two pages
+]
+
+# 36 matches, with seven variables on both sides together, and the size of the pages they are walked in
+LONG_MATCH, LONG_MATCH_SIZE = "match v0+v1+v2 = v32+v33+v34+v35", 7
+
+
+def matching(text):
+    """Whether a text is a pattern with its subject."""
+    return text.startswith("match ")
+
+
+def sides(text):
+    """The atoms of the two sides of a text; any variable may stand on either."""
+    return [flattened(term(side)) for side in text.removeprefix("match ").split("=")]
 
 
 class Second:
@@ -42,8 +73,8 @@ class Second:
     def page(self, text, wanted, after=None):
         """The keys of a page, none if it is refused, and whether more follow. The buffer is as long as it must be."""
         begin = "from the start" if after is None else f"after {after}"
-        sides = map(flattened, pair(text))
-        asked = question(PAGE, *sides, wanted or 200, number=after or 0, after=after is not None, wanted=wanted)
+        kind = MATCH_PAGE if matching(text) else PAGE
+        asked = question(kind, *sides(text), wanted or 200, number=after or 0, after=after is not None, wanted=wanted)
         answer = self.ask(f"Page of {text}, {begin}, {wanted} wanted", asked)
         if answer[0]:
             return (), False
@@ -52,9 +83,9 @@ class Second:
 
     def values(self, text, keys):
         """Asks for the values of each key."""
-        sides = list(map(flattened, pair(text)))
+        kind = MATCH_VALUES if matching(text) else VALUES
         for key in keys:
-            self.ask(f"Values of {text}, key {key}", question(VALUES, *sides, 1212, number=key))
+            self.ask(f"Values of {text}, key {key}", question(kind, *sides(text), 1212, number=key))
 
     def walk(self, text, size, first):
         """Asks for the list in pages of this size up to the page after the last, and for the first values of each."""
@@ -67,7 +98,7 @@ class Second:
 def cases(program):
     """Every case, in order, answered by the second solver's program."""
     second = Second(program)
-    for _, text in texts(WORKED.open()):
+    for text in [*(text for _, text in texts(WORKED.open())), *MATCHED]:
         keys, more = second.page(text, 0)
         if more:
             second.values(text, keys[:3])
@@ -75,6 +106,10 @@ def cases(program):
             second.walk(text, 3, 3)
     for text, size in PUBLISHED:
         second.walk(text, size, 1)
+    second.walk(LONG_MATCH, LONG_MATCH_SIZE, 1)
+    for text in MATCHED[1], MATCHED[6]:  # a key that is not listed, and 19 before 14
+        second.page(text, 1, 1)
+        second.values(text, [1])
     second.page(HIGHEST, 5, HIGHEST_KEY - 5)
     second.page(HIGHEST, 5, HIGHEST_KEY)
     second.values(HIGHEST, [HIGHEST_KEY])

@@ -1,6 +1,7 @@
-//! The questions with their lent buffers (document 01, The questions; document 02, R-3).
+//! The questions with their lent buffers (document 01, The questions; document 02, R-3 and R-4).
 
 use crate::block::{self, Sides};
+use crate::pair::Way;
 use crate::question::{Answer, Ask, Question, FIGURES};
 use crate::refusal::Refusal;
 use crate::solved::Solved;
@@ -16,7 +17,7 @@ struct Given {
 
 /// The answer to a question, with pairs solved by the given means: refusal 16 first, buffers unchanged on a
 /// refusal and after the written part.
-pub fn answer(question: &Question, solve: impl Fn(&Sides) -> Result<Solved, Refusal>) -> Answer {
+pub fn answer(question: &Question, solve: impl Fn(Way, &Sides) -> Result<Solved, Refusal>) -> Answer {
     let (number, given) = match give(question, solve) {
         Ok(given) => (0, given),
         Err(refusal) => (refusal.number(), Given { figures: named(refusal), ..Given::default() }),
@@ -44,15 +45,22 @@ fn buffer(fill: u8, length: usize, written: &[u8]) -> Vec<u8> {
 }
 
 /// What a question gives, or its refusal.
-fn give(question: &Question, solve: impl Fn(&Sides) -> Result<Solved, Refusal>) -> Result<Given, Refusal> {
+fn give(
+    question: &Question,
+    solve: impl Fn(Way, &Sides) -> Result<Solved, Refusal>,
+) -> Result<Given, Refusal> {
     if buffers_too_short(question) {
         return Err(Refusal::Buffer);
     }
     match question.ask {
         Ask::Read { expected } => block::read(&question.sides.left, expected).map(give_sides),
-        Ask::Rows => solve(&question.sides).map(|solved| give_rows(&solved)),
-        Ask::Page { after, .. } => give_page(&solve(&question.sides)?, after, question.ask.wanted()),
-        Ask::Values { key } => solve(&question.sides)?.values(key).map(|values| give_values(&values)),
+        Ask::Rows { way } => solve(way, &question.sides).map(|solved| give_rows(&solved)),
+        Ask::Page { way, after, .. } => {
+            give_page(&solve(way, &question.sides)?, after, question.ask.wanted())
+        }
+        Ask::Values { way, key } => {
+            solve(way, &question.sides)?.values(key).map(|values| give_values(&values))
+        }
         Ask::Write { number } => block::write(&question.sides, number).map(give_block),
     }
 }

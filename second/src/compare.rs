@@ -101,14 +101,14 @@ fn asked(question: &Question) -> String {
         Ask::Read { expected } => {
             format!("Read with expected number {expected} of {}", block(&question.sides.left))
         }
-        Ask::Rows => format!("Rows of {}", told(&question.sides)),
-        Ask::Page { after: None, wanted } => {
-            format!("Page of {} from the start, {wanted} wanted", told(&question.sides))
+        Ask::Rows { way } => format!("{way:?}, Rows of {}", told(&question.sides)),
+        Ask::Page { way, after: None, wanted } => {
+            format!("{way:?}, Page of {} from the start, {wanted} wanted", told(&question.sides))
         }
-        Ask::Page { after: Some(key), wanted } => {
-            format!("Page of {} after {key}, {wanted} wanted", told(&question.sides))
+        Ask::Page { way, after: Some(key), wanted } => {
+            format!("{way:?}, Page of {} after {key}, {wanted} wanted", told(&question.sides))
         }
-        Ask::Values { key } => format!("Values of {} for key {key}", told(&question.sides)),
+        Ask::Values { way, key } => format!("{way:?}, Values of {} for key {key}", told(&question.sides)),
         Ask::Write { number } => format!("Write of {} as block {number}", told(&question.sides)),
     };
     let Question { fill, first_buffer, second_buffer, .. } = question;

@@ -95,3 +95,54 @@ pub const AT_LIMITS: [(&str, &str); 38] = [
     ("6c0", "v0+v1+2v2"),
     ("v0+v1+v2+v3+v4+v5", "v0+v1+v2+v3+v4+v5"),
 ];
+
+/// Patterns and subjects (document 02, R-4): those worked by hand, those at and past each limit, and those that
+/// give two reasons for a refusal, of which the earlier one counts. Each with the number that its first page is
+/// refused with, or 0.
+pub const MATCHED: [(&str, &str, u8); 39] = [
+    ("v0+v1", "2v32+v33", 0),
+    ("v0+c0", "v33+c0", 0),
+    ("v0+v1+v2", "4v7", 0),
+    ("v0+v1+v2", "5v7", 12),
+    ("2v0", "c0+c1", 13),
+    ("c0+c1+c2", "v0+v1+v2", 11),
+    ("v0+c0", "v0+c1", 19),
+    ("v0", "9v7", 10),
+    ("v0", "v0", 19),
+    ("v0+v1+c0", "v1+v32+c0", 19),
+    ("65v0", "v0", 7),
+    ("v0", "", 7),
+    ("v0", "v0+n0", 8),
+    ("v0+v1+v2+v3+v4+v5+v6", "v0", 19),
+    ("9v0", "v0+c0", 19),
+    ("v0+v1+v2+v3+v4+v5+v6", "v7", 9),
+    ("9v0+v1+v2+v3+v4+v5+v6", "v7", 9),
+    ("v10+v20+v30+v40+v50+v63", "3v0+3v62", 12),
+    ("v10+v20+v30+v40+v50+v63", "v0+v1+v62+c0", 13),
+    ("v0+v1+v2+v3+v4+2v5", "2v32+2v33+2c0+2c1", 0),
+    ("v0+v1+v2", "v32+v33+v34+v35", 0),
+    ("v0+v1+v2", "v32+v33+v34+v35+v36", 11),
+    ("v0+v1+v2", "5v32+v33+v34+v35+v36", 11),
+    ("9v0", "v32", 10),
+    ("v0", "9v33+10v32", 10),
+    ("9v40", "9v39", 10),
+    ("v0", "9v32+c0+c1+c2+c3", 10),
+    ("v0", "8v32", 0),
+    ("8v0", "8v63+8c63", 0),
+    ("v40+v41", "v0+v1+c0", 0),
+    ("v0+v1+2v2", "6v32", 0),
+    ("v0+v1+3v2", "7v32", 0),
+    ("v0+c0", "v32+c1", 13),
+    ("v0+c0", "c0", 13),
+    ("v0+v1", "v32", 13),
+    ("c0", "c0", 0),
+    ("c0", "v0", 13),
+    ("v0+63c0", "v32+63c0", 0),
+    ("3v0+2v1", "5v32+8c0", 0),
+];
+
+/// The pattern and subject with the longest list: 16 ways for each of four atoms.
+pub const LONGEST_MATCHES: (&str, &str) = ("v0+v1+2v2", "6v32+6v33+6c0+6c1");
+
+/// A pattern and subject with 528 matches, more than two usual pages.
+pub const MATCHES_OF_PAGES: (&str, &str) = ("v0+v1+v2", "4v32+4v33+c0");

@@ -1,14 +1,15 @@
 //! Planted faults: answers that are wrong in one known way, to show that the comparison can fail. One for
 //! each question, one for the variables of a right term, two for the atom that 10 names, two for the shape that
-//! is written, one for each plausible error of document 01, and two in the nightly text.
+//! is written, three for matching, one for each plausible error of document 01, and two in the nightly text.
 
 use crate::answer::answer;
 use crate::block::{seal, Sides, APART, BLOCK, PLUS, TERMS};
 use crate::list::{stages, List};
-use crate::pair::{net_counts, Pair, FIRST_CONSTANT, FURTHEST_NET_COUNT};
+use crate::pair::{net_counts, shared_variables, Pair, Way, FIRST_CONSTANT, FURTHEST_NET_COUNT};
 use crate::question::{Answer, Ask, Question};
 use crate::refusal::Refusal;
 use crate::rows::{at_or_below, weight, Groups, Row, MOST_ROWS};
+use crate::sides::apart;
 use crate::solved::Solved;
 use crate::text;
 use crate::values::FIRST_NEW_VARIABLE;
@@ -47,6 +48,12 @@ pub enum Fault {
     RightNotLowered,
     /// Write adds all atoms but the last before it adds the last.
     NestedToTheLeft,
+    /// Matching lets the right side's variables move too.
+    SubjectMoves,
+    /// Matching gives 19 only for a variable whose net count is not 0.
+    SharedByNetCount,
+    /// Matching counts the variables of both sides for 9.
+    NineCountsBoth,
     /// The nightly text says `more` for a list of exactly 200.
     TextMore,
     /// The nightly text counts blocks without unifier as refused.
@@ -54,7 +61,7 @@ pub enum Fault {
 }
 
 /// All faults by name.
-pub const FAULTS: [(&str, Fault); 17] = [
+pub const FAULTS: [(&str, Fault); 20] = [
     ("number-before-check", Fault::NumberBeforeCheck),
     ("right-as-written", Fault::RightAsWritten),
     ("byte-after-rows", Fault::ByteAfterRows),
@@ -70,6 +77,9 @@ pub const FAULTS: [(&str, Fault); 17] = [
     ("first-atom", Fault::FirstAtom),
     ("right-not-lowered", Fault::RightNotLowered),
     ("nested-to-the-left", Fault::NestedToTheLeft),
+    ("subject-moves", Fault::SubjectMoves),
+    ("shared-by-net-count", Fault::SharedByNetCount),
+    ("nine-counts-both", Fault::NineCountsBoth),
     ("text-more", Fault::TextMore),
     ("text-counts", Fault::TextCounts),
 ];
@@ -84,7 +94,7 @@ pub fn answer_with(question: &Question, fault: Option<Fault>) -> Answer {
     match fault {
         None => answer(question, Solved::of),
         Some(fault) => {
-            let mut answer = answer(question, |sides| fault.solve(sides));
+            let mut answer = answer(question, |way, sides| fault.solve(way, sides));
             fault.spoil_answer(question, &mut answer);
             answer
         }
@@ -137,8 +147,36 @@ impl Fault {
     }
 
     /// A pair solved with the fault.
-    fn solve(self, sides: &Sides) -> Result<Solved, Refusal> {
-        let mut pair = Pair::of(sides)?;
+    fn solve(self, way: Way, sides: &Sides) -> Result<Solved, Refusal> {
+        match way {
+            Way::Unifying => self.unify(sides),
+            Way::Matching => self.match_subject(sides),
+        }
+    }
+
+    /// A pair matched with the fault.
+    fn match_subject(self, sides: &Sides) -> Result<Solved, Refusal> {
+        let right = Solved::of(Way::Matching, sides);
+        match (self, right.as_ref().err()) {
+            (Fault::SubjectMoves, None) => Solved::of(Way::Unifying, sides),
+            (Fault::SharedByNetCount, Some(Refusal::Shared))
+                if shared_variables(sides).iter().all(|count| count.net == 0) =>
+            {
+                Solved::of(Way::Matching, &apart(sides))
+            }
+            (Fault::NineCountsBoth, why)
+                if why != Some(&Refusal::Shared)
+                    && Pair::of(Way::Unifying, sides) == Err(Refusal::Variables) =>
+            {
+                Err(Refusal::Variables)
+            }
+            _ => right,
+        }
+    }
+
+    /// A pair unified with the fault.
+    fn unify(self, sides: &Sides) -> Result<Solved, Refusal> {
+        let mut pair = Pair::of(Way::Unifying, sides)?;
         if self == Fault::NetCountZeroDropped {
             pair.variables.retain(|variable| variable.net != 0);
         }
@@ -179,7 +217,7 @@ impl Fault {
                 }
             }
             (Fault::RightAsWritten, Ask::Read { .. }) => give_right_as_written(answer),
-            (Fault::ByteAfterRows, Ask::Rows) => clear_byte_after_rows(question, answer),
+            (Fault::ByteAfterRows, Ask::Rows { way }) => clear_byte_after_rows(way, question, answer),
             (Fault::MoreWhenFull, Ask::Page { .. }) if answer.number == 0 => {
                 answer.figures[1] = u32::from(answer.figures[0] as usize == question.ask.wanted());
             }
@@ -309,8 +347,8 @@ fn right_term(answer: &Answer) -> (usize, usize) {
 }
 
 /// Sets the byte after the written rows to 0, if there is one.
-fn clear_byte_after_rows(question: &Question, answer: &mut Answer) {
-    let Ok(solved) = Solved::of(&question.sides) else { return };
+fn clear_byte_after_rows(way: Way, question: &Question, answer: &mut Answer) {
+    let Ok(solved) = Solved::of(way, &question.sides) else { return };
     let rows = solved.groups.balanced.iter().chain(solved.groups.constants.iter().flatten());
     let written: usize = rows.map(Vec::len).sum();
     if let (0, Some(byte)) = (answer.number, answer.first.get_mut(written)) {

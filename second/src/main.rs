@@ -9,6 +9,7 @@ mod examples;
 mod faults;
 mod library;
 mod list;
+mod matching;
 mod names;
 mod pair;
 mod pair_questions;

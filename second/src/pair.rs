@@ -1,4 +1,4 @@
-//! A pair as net counts (document 01, From sides to equations).
+//! A pair as net counts (document 01, From sides to equations; document 02, R-4).
 
 use crate::block::Sides;
 use crate::refusal::Refusal;
@@ -14,6 +14,14 @@ const MOST_VARIABLES: usize = 6;
 pub const FURTHEST_NET_COUNT: i32 = 8;
 const MOST_CONSTANTS: usize = 4;
 
+/// Which atoms may move: the variables of both sides, or those of the left one only, which is then a pattern
+/// and the right one its subject.
+#[derive(Clone, Copy, Debug, PartialEq, Eq)]
+pub enum Way {
+    Unifying,
+    Matching,
+}
+
 /// An atom with its occurrences on the left minus those on the right.
 #[derive(Clone, Debug, PartialEq, Eq)]
 pub struct NetCount {
@@ -21,7 +29,7 @@ pub struct NetCount {
     pub net: i32,
 }
 
-/// All distinct variables of a pair and its unbalanced constants, both ascending.
+/// All distinct variables of a pair that may move, and the unbalanced ones of the other atoms, both ascending.
 #[derive(Clone, Debug, PartialEq, Eq)]
 pub struct Pair {
     pub variables: Vec<NetCount>,
@@ -29,11 +37,15 @@ pub struct Pair {
 }
 
 impl Pair {
-    /// The net counts of two sides, or the first of the refusals 7 to 11 that holds.
-    pub fn of(sides: &Sides) -> Result<Pair, Refusal> {
+    /// The net counts of two sides, or the first of the refusals 7, 8, 19 in matching, and 9 to 11 that holds.
+    pub fn of(way: Way, sides: &Sides) -> Result<Pair, Refusal> {
         must_be_sides(sides)?;
+        if way == Way::Matching && !shared_variables(sides).is_empty() {
+            return Err(Refusal::Shared);
+        }
+        let may_move = |atom| atom < FIRST_CONSTANT && (way == Way::Unifying || sides.left.contains(&atom));
         let (variables, mut constants): (Vec<_>, Vec<_>) =
-            net_counts(sides).into_iter().partition(|count| count.atom < FIRST_CONSTANT);
+            net_counts(sides).into_iter().partition(|count| may_move(count.atom));
         if variables.len() > MOST_VARIABLES {
             return Err(Refusal::Variables);
         }
@@ -59,6 +71,14 @@ pub fn must_be_sides(sides: &Sides) -> Result<(), Refusal> {
         return Err(Refusal::SideByte);
     }
     Ok(())
+}
+
+/// The net counts of the variables that stand on both sides.
+pub fn shared_variables(sides: &Sides) -> Vec<NetCount> {
+    let mut counts = net_counts(sides);
+    let on_both = |atom| sides.left.contains(&atom) && sides.right.contains(&atom);
+    counts.retain(|count| count.atom < FIRST_CONSTANT && on_both(count.atom));
+    counts
 }
 
 /// Every atom that occurs with its net count, ascending by atom.

@@ -2,17 +2,23 @@
 
 use crate::block::Sides;
 use crate::examples::{
-    AROUND_A_PAGE, AT_LIMITS, BY_HAND, HIGHEST, LONGEST_LIST, LONGEST_VALUE, MOST_ROW_BYTES, PUBLISHED,
+    AROUND_A_PAGE, AT_LIMITS, BY_HAND, HIGHEST, LONGEST_LIST, LONGEST_MATCHES, LONGEST_VALUE, MATCHED,
+    MATCHES_OF_PAGES, MOST_ROW_BYTES, PUBLISHED,
 };
 use crate::names::{sides, told};
-use crate::pair::FIRST_CONSTANT;
+use crate::pair::{Way, FIRST_CONSTANT};
 use crate::question::Ask;
 use crate::questions::{Questions, LONGEST_PAGE};
-use crate::sides::{all_pairs, random_sides, shuffled};
+use crate::sides::{all_pairs, apart, multisets, random_sides, shuffled};
 use crate::solved::Solved;
 
 /// Three variables and two constants.
 const SMALL_ATOMS: [u8; 5] = [0, 1, 2, FIRST_CONSTANT, FIRST_CONSTANT + 1];
+/// The atoms of a small pattern, two variables and two constants, and of a small subject.
+const PATTERN_ATOMS: [u8; 4] = [0, 1, FIRST_CONSTANT, FIRST_CONSTANT + 1];
+const SUBJECT_ATOMS: [u8; 4] = [32, 33, FIRST_CONSTANT, FIRST_CONSTANT + 1];
+/// The atoms of small pairs whose sides may share a variable.
+const SHARED_ATOMS: [u8; 3] = [0, 32, FIRST_CONSTANT];
 /// The most atoms of a side of a small pair.
 const SMALL_SIDE: usize = 3;
 /// Up to so many keys each one is asked about, else so many of them.
@@ -26,89 +32,118 @@ impl Questions {
     /// Asks about every small pair and about all pairs that have a name.
     pub fn ask_fixed_pairs(&mut self) -> Result<(), String> {
         for small in all_pairs(&SMALL_ATOMS, SMALL_SIDE, SMALL_SIDE) {
-            self.ask_in_full(&small);
+            self.ask_in_full(Way::Unifying, &small);
             if self.chance.one_in(8) {
                 let other_order = shuffled(&mut self.chance, &small);
-                self.ask_sampled(&other_order);
+                self.ask_sampled(Way::Unifying, &other_order);
             }
         }
         for (left, right) in BY_HAND.iter().chain(&AT_LIMITS).chain(&AROUND_A_PAGE) {
-            self.ask_named(&sides(left, right));
+            self.ask_named(Way::Unifying, &sides(left, right));
         }
         for (left, right) in [HIGHEST, LONGEST_LIST, MOST_ROW_BYTES, LONGEST_VALUE] {
-            self.ask_named(&sides(left, right));
-            self.walk_top(&sides(left, right));
+            self.ask_named(Way::Unifying, &sides(left, right));
+            self.walk_top(Way::Unifying, &sides(left, right));
         }
         for (left, right) in AROUND_A_PAGE {
-            self.walk(&sides(left, right), None, &[0])?;
+            self.walk(Way::Unifying, &sides(left, right), None, &[0])?;
         }
         for (left, right, number) in PUBLISHED {
             let published = sides(left, right);
-            self.ask_named(&published);
+            self.ask_named(Way::Unifying, &published);
             for counts in [&ODD_COUNTS[..], &[ODD_COUNTS[3]], &[0]] {
-                self.walk(&published, Some(number), counts)?;
+                self.walk(Way::Unifying, &published, Some(number), counts)?;
             }
         }
         Ok(())
     }
 
+    /// Asks in matching about every small pattern and subject and about all pairs that have a name, as they are
+    /// and with their variables made apart.
+    pub fn ask_fixed_matches(&mut self) -> Result<(), String> {
+        for small in small_matches() {
+            self.ask_in_full(Way::Matching, &small);
+            if self.chance.one_in(8) {
+                let other_order = shuffled(&mut self.chance, &small);
+                self.ask_sampled(Way::Matching, &other_order);
+            }
+        }
+        for (left, right, _) in MATCHED {
+            self.ask_named(Way::Matching, &sides(left, right));
+        }
+        for (left, right) in BY_HAND.iter().chain(&AT_LIMITS).chain(&AROUND_A_PAGE) {
+            let named = sides(left, right);
+            self.ask_in_full(Way::Matching, &named);
+            self.ask_in_full(Way::Matching, &apart(&named));
+        }
+        let longest = sides(LONGEST_MATCHES.0, LONGEST_MATCHES.1);
+        self.ask_named(Way::Matching, &longest);
+        self.walk_top(Way::Matching, &longest);
+        let of_pages = sides(MATCHES_OF_PAGES.0, MATCHES_OF_PAGES.1);
+        self.ask_named(Way::Matching, &of_pages);
+        for counts in [&ODD_COUNTS[..], &[ODD_COUNTS[3]], &[0]] {
+            self.walk(Way::Matching, &of_pages, None, counts)?;
+        }
+        Ok(())
+    }
+
     /// Asks all that is asked about a small pair, and each question with each length of its buffer.
-    fn ask_named(&mut self, sides: &Sides) {
-        self.ask_in_full(sides);
-        let first = Solved::of(sides).ok().and_then(|solved| solved.list.keys(None, 1).first().copied());
+    fn ask_named(&mut self, way: Way, sides: &Sides) {
+        self.ask_in_full(way, sides);
+        let first = Solved::of(way, sides).ok().and_then(|solved| solved.list.keys(None, 1).first().copied());
         let key = first.unwrap_or(0);
-        self.ask_with_each_buffer(Ask::Rows, sides);
-        self.ask_with_each_buffer(Ask::Values { key }, sides);
+        self.ask_with_each_buffer(Ask::Rows { way }, sides);
+        self.ask_with_each_buffer(Ask::Values { way, key }, sides);
         for wanted in [0, 1, 199, 200, 201, 1023] {
-            self.ask_with_each_buffer(Ask::Page { after: None, wanted }, sides);
-            self.ask_with_each_buffer(Ask::Page { after: Some(key), wanted }, sides);
+            self.ask_with_each_buffer(Ask::Page { way, after: None, wanted }, sides);
+            self.ask_with_each_buffer(Ask::Page { way, after: Some(key), wanted }, sides);
         }
         for wanted in [LONGEST_PAGE as u32 + 1, 65_536, 65_537, u32::MAX] {
-            self.ask(Ask::Page { after: None, wanted }, sides);
+            self.ask(Ask::Page { way, after: None, wanted }, sides);
         }
     }
 
     /// Asks for the rows, the first page, pages that end just before, at and after the last key, and about
     /// each key of the list, if there are not too many, and about some that are not on it.
-    fn ask_in_full(&mut self, sides: &Sides) {
-        self.ask(Ask::Rows, sides);
-        self.ask(Ask::Page { after: None, wanted: 0 }, sides);
-        let Ok(solved) = Solved::of(sides) else { return self.ask_about(sides, 0) };
+    fn ask_in_full(&mut self, way: Way, sides: &Sides) {
+        self.ask(Ask::Rows { way }, sides);
+        self.ask(Ask::Page { way, after: None, wanted: 0 }, sides);
+        let Ok(solved) = Solved::of(way, sides) else { return self.ask_about(way, sides, 0) };
         let number = solved.list.number();
         if number <= LONGEST_PAGE as u64 {
             for wanted in number.saturating_sub(1)..=number + 1 {
-                self.ask(Ask::Page { after: None, wanted: wanted as u32 }, sides);
+                self.ask(Ask::Page { way, after: None, wanted: wanted as u32 }, sides);
             }
         }
         let keys = solved.list.keys(None, KEYS_ASKED);
         for &key in keys.iter().chain(&solved.list.last()) {
-            self.ask_about(sides, key);
+            self.ask_about(way, sides, key);
         }
         if number > KEYS_ASKED as u64 {
             for _ in 0..KEYS_ASKED {
                 let key = self.some_key(&solved);
-                self.ask_about(sides, key);
+                self.ask_about(way, sides, key);
             }
         }
         for _ in 0..2 {
             let key = self.stray_key(&solved);
-            self.ask_about(sides, key);
+            self.ask_about(way, sides, key);
         }
     }
 
     /// Asks for the page after a key and for its values.
-    fn ask_about(&mut self, sides: &Sides, key: u32) {
+    fn ask_about(&mut self, way: Way, sides: &Sides, key: u32) {
         let wanted = self.wanted();
-        self.ask(Ask::Page { after: Some(key), wanted }, sides);
-        self.ask(Ask::Values { key }, sides);
+        self.ask(Ask::Page { way, after: Some(key), wanted }, sides);
+        self.ask(Ask::Values { way, key }, sides);
     }
 
     /// Asks some questions about a pair, with buffers of any length.
-    fn ask_sampled(&mut self, sides: &Sides) {
-        self.ask_any(Ask::Rows, sides);
+    fn ask_sampled(&mut self, way: Way, sides: &Sides) {
+        self.ask_any(Ask::Rows { way }, sides);
         let wanted = self.wanted();
-        self.ask_any(Ask::Page { after: None, wanted }, sides);
-        let keys = match Solved::of(sides) {
+        self.ask_any(Ask::Page { way, after: None, wanted }, sides);
+        let keys = match Solved::of(way, sides) {
             Ok(solved) if !solved.list.is_empty() => {
                 let stray = self.stray_key(&solved);
                 let some = self.some_key(&solved);
@@ -118,34 +153,44 @@ impl Questions {
         };
         for key in keys.into_iter().flatten() {
             let wanted = self.wanted();
-            self.ask_any(Ask::Page { after: Some(key), wanted }, sides);
-            self.ask_any(Ask::Values { key }, sides);
+            self.ask_any(Ask::Page { way, after: Some(key), wanted }, sides);
+            self.ask_any(Ask::Values { way, key }, sides);
         }
     }
 
-    /// Asks about a random pair; a short list is also walked to its end.
-    pub fn ask_random_pair(&mut self) -> Result<(), String> {
-        let sides = random_sides(&mut self.chance);
-        self.ask_sampled(&sides);
+    /// Asks about a random pair, in matching most often with its variables made apart; a short list is also
+    /// walked to its end.
+    pub fn ask_random_pair(&mut self, way: Way) -> Result<(), String> {
+        let mut sides = random_sides(&mut self.chance);
+        if way == Way::Matching && !self.chance.one_in(8) {
+            sides = apart(&sides);
+        }
+        self.ask_sampled(way, &sides);
         let is_short =
-            Solved::of(&sides).is_ok_and(|solved| (1..=SHORT_LIST).contains(&solved.list.number()));
+            Solved::of(way, &sides).is_ok_and(|solved| (1..=SHORT_LIST).contains(&solved.list.number()));
         if is_short && self.chance.one_in(4) {
             let counts = [self.chance.pick(&ODD_COUNTS[1..4]), self.chance.pick(&ODD_COUNTS[1..4])];
-            self.walk(&sides, None, &counts)?;
+            self.walk(way, &sides, None, &counts)?;
         }
         Ok(())
     }
 
     /// Asks for all pages of a list, each after the last key of the one before, with the counts in turn. An
     /// error if the keys are not as many as inclusion and exclusion count or as a source publishes.
-    fn walk(&mut self, sides: &Sides, published: Option<u64>, counts: &[u32]) -> Result<(), String> {
+    fn walk(
+        &mut self,
+        way: Way,
+        sides: &Sides,
+        published: Option<u64>,
+        counts: &[u32],
+    ) -> Result<(), String> {
         let solved =
-            Solved::of(sides).map_err(|refusal| format!("{} is refused: {refusal:?}", told(sides)))?;
+            Solved::of(way, sides).map_err(|refusal| format!("{} is refused: {refusal:?}", told(sides)))?;
         let number = solved.list.number();
         let mut after = None;
         let mut walked = 0;
         for &wanted in counts.iter().cycle() {
-            let ask = Ask::Page { after, wanted };
+            let ask = Ask::Page { way, after, wanted };
             self.ask(ask, sides);
             match solved.page(after, ask.wanted()) {
                 Ok(page) => {
@@ -162,11 +207,11 @@ impl Questions {
     }
 
     /// Asks for the pages at the upper end of a list that is too long to be walked.
-    fn walk_top(&mut self, sides: &Sides) {
-        let Ok(solved) = Solved::of(sides) else { return };
+    fn walk_top(&mut self, way: Way, sides: &Sides) {
+        let Ok(solved) = Solved::of(way, sides) else { return };
         let Some(last) = solved.list.last() else { return };
         for back in [0, 1, 2, 3, 7, 200, 201, 5000] {
-            self.ask_about(sides, last.saturating_sub(back));
+            self.ask_about(way, sides, last.saturating_sub(back));
         }
     }
 
@@ -201,4 +246,14 @@ impl Questions {
             _ => near ^ 1 << self.chance.below(32),
         }
     }
+}
+
+/// All small patterns with all small subjects, and all small pairs over atoms that both sides may have.
+fn small_matches() -> Vec<Sides> {
+    let subjects = multisets(&SUBJECT_ATOMS, SMALL_SIDE);
+    let mut small = all_pairs(&SHARED_ATOMS, SMALL_SIDE, SMALL_SIDE);
+    for left in multisets(&PATTERN_ATOMS, SMALL_SIDE) {
+        small.extend(subjects.iter().map(|right| Sides { left: left.clone(), right: right.clone() }));
+    }
+    small
 }

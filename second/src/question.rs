@@ -1,6 +1,7 @@
 //! Questions and answers as PROTOCOL.md writes them.
 
 use crate::block::{Sides, BLOCK};
+use crate::pair::Way;
 use crate::solved::USUAL_COUNT;
 use std::io::{self, Read};
 
@@ -8,14 +9,16 @@ const HEADER: usize = 20;
 /// The numbers of an answer after its first byte.
 pub const FIGURES: usize = 6;
 const KEY_BYTES: usize = 4;
+/// How much higher the numbers of Rows, Page and Values are in matching.
+const MATCHING: u8 = 4;
 
 /// What is asked.
 #[derive(Clone, Copy, Debug, PartialEq, Eq)]
 pub enum Ask {
     Read { expected: u16 },
-    Rows,
-    Page { after: Option<u32>, wanted: u32 },
-    Values { key: u32 },
+    Rows { way: Way },
+    Page { way: Way, after: Option<u32>, wanted: u32 },
+    Values { way: Way, key: u32 },
     Write { number: u16 },
 }
 
@@ -29,11 +32,22 @@ impl Ask {
         }
     }
 
+    /// The number of the question in the protocol: in matching it is higher.
+    fn kind(self) -> u8 {
+        match self {
+            Ask::Read { .. } => 1,
+            Ask::Rows { way } => in_the_way(2, way),
+            Ask::Page { way, .. } => in_the_way(3, way),
+            Ask::Values { way, .. } => in_the_way(4, way),
+            Ask::Write { .. } => 5,
+        }
+    }
+
     /// The shortest lent buffer that is long enough, in bytes or, for a page, in numbers.
     pub fn least_buffer(self) -> usize {
         match self {
             Ask::Read { .. } => 64,
-            Ask::Rows => 480,
+            Ask::Rows { .. } => 480,
             Ask::Page { .. } => self.wanted(),
             Ask::Values { .. } => 1212,
             Ask::Write { .. } => BLOCK,
@@ -64,14 +78,13 @@ impl Question {
 
     /// The question as the protocol writes it.
     pub fn to_bytes(&self) -> Vec<u8> {
-        let (kind, number, after, wanted) = match self.ask {
-            Ask::Read { expected } => (1, u32::from(expected), 0, 0),
-            Ask::Rows => (2, 0, 0, 0),
-            Ask::Page { after, wanted } => (3, after.unwrap_or(0), u8::from(after.is_some()), wanted),
-            Ask::Values { key } => (4, key, 0, 0),
-            Ask::Write { number } => (5, u32::from(number), 0, 0),
+        let (number, after, wanted) = match self.ask {
+            Ask::Read { expected: number } | Ask::Write { number } => (u32::from(number), 0, 0),
+            Ask::Rows { .. } => (0, 0, 0),
+            Ask::Page { after, wanted, .. } => (after.unwrap_or(0), u8::from(after.is_some()), wanted),
+            Ask::Values { key, .. } => (key, 0, 0),
         };
-        let mut bytes = vec![kind, self.fill];
+        let mut bytes = vec![self.ask.kind(), self.fill];
         bytes.extend((self.sides.left.len() as u16).to_be_bytes());
         bytes.extend((self.sides.right.len() as u16).to_be_bytes());
         bytes.extend(number.to_be_bytes());
@@ -107,19 +120,28 @@ impl Question {
     }
 }
 
+/// The number of a question that may be asked in either way.
+fn in_the_way(kind: u8, way: Way) -> u8 {
+    match way {
+        Way::Unifying => kind,
+        Way::Matching => kind + MATCHING,
+    }
+}
+
 /// What a header asks.
 fn ask(header: &[u8]) -> io::Result<Ask> {
     let number = long(header, 6);
+    let way = if matches!(header[0], 6..=8) { Way::Matching } else { Way::Unifying };
     match header[0] {
         1 => Ok(Ask::Read { expected: short(header, 8) }),
-        2 => Ok(Ask::Rows),
-        3 => {
+        2 | 6 => Ok(Ask::Rows { way }),
+        3 | 7 => {
             let after = if header[10] == 0 { None } else { Some(number) };
-            Ok(Ask::Page { after, wanted: long(header, 11) })
+            Ok(Ask::Page { way, after, wanted: long(header, 11) })
         }
-        4 => Ok(Ask::Values { key: number }),
+        4 | 8 => Ok(Ask::Values { way, key: number }),
         5 => Ok(Ask::Write { number: short(header, 8) }),
-        _ => Err(io::Error::new(io::ErrorKind::InvalidData, "there are five questions, 1 to 5")),
+        _ => Err(io::Error::new(io::ErrorKind::InvalidData, "there are eight questions, 1 to 8")),
     }
 }
 

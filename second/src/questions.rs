@@ -2,6 +2,7 @@
 
 use crate::block::Sides;
 use crate::chance::Chance;
+use crate::pair::Way;
 use crate::question::{Ask, Question};
 
 /// The longest buffer in bytes.
@@ -21,16 +22,18 @@ pub fn questions(seed: u64, total: usize) -> Result<Vec<Question>, String> {
     let mut questions = Questions { chance: Chance::new(seed), asked: Vec::new() };
     questions.ask_fixed_reads();
     questions.ask_fixed_pairs()?;
+    questions.ask_fixed_matches()?;
     questions.ask_fixed_writes();
     let fixed = questions.asked.len();
     if fixed > total {
         return Err(format!("{total} questions are too few: the fixed ones alone are {fixed}"));
     }
     while questions.asked.len() < total {
-        match questions.chance.below(12) {
+        match questions.chance.below(16) {
             0 | 1 => questions.ask_random_read(),
             2 => questions.ask_random_write(),
-            _ => questions.ask_random_pair()?,
+            3..=7 => questions.ask_random_pair(Way::Matching)?,
+            _ => questions.ask_random_pair(Way::Unifying)?,
         }
     }
     questions.asked.truncate(total);

@@ -21,10 +21,11 @@ pub enum Refusal {
     Buffer,
     LongValue,
     WrongSide,
+    Shared,
 }
 
 impl Refusal {
-    /// The number that document 01 gives it.
+    /// The number that document 01 or 02 gives it.
     pub fn number(self) -> u8 {
         match self {
             Refusal::BlockLength => 1,
@@ -45,6 +46,7 @@ impl Refusal {
             Refusal::Buffer => 16,
             Refusal::LongValue => 17,
             Refusal::WrongSide => 18,
+            Refusal::Shared => 19,
         }
     }
 

@@ -1,6 +1,6 @@
 //! What a comparison has met, so that it fails if it never came to what it is meant to compare.
 
-use crate::pair::{net_counts, FIRST_CONSTANT};
+use crate::pair::{net_counts, Way, FIRST_CONSTANT};
 use crate::question::{Answer, Ask, Question};
 use crate::rows::MOST_ROWS;
 
@@ -9,7 +9,9 @@ const NEVER_MET: usize = 17;
 /// The refusal that names an atom.
 const TOO_FREQUENT: u8 = 10;
 /// All refusals, and 0 for none.
-const NUMBERS: usize = 19;
+const NUMBERS: usize = 20;
+/// The refusals of matching.
+const OF_MATCHING: [usize; 11] = [7, 8, 9, 10, 11, 12, 13, 14, 15, 16, 19];
 
 /// How often each thing was met.
 #[derive(Default)]
@@ -29,21 +31,39 @@ pub struct Seen {
     named_constant: usize,
     balanced_sizes: [usize; MOST_ROWS + 1],
     constant_sizes: [usize; MOST_ROWS + 1],
+    matching: Matching,
+}
+
+/// How often each thing was met in matching; rows, pages and values where they were given.
+#[derive(Default)]
+struct Matching {
+    numbers: [usize; NUMBERS],
+    rows: usize,
+    more: usize,
+    no_more: usize,
+    values: usize,
+    without_variables: usize,
+    largest_group: usize,
 }
 
 impl Seen {
     /// Counts what a question and its right answer show.
     pub fn note(&mut self, question: &Question, answer: &Answer) {
         self.numbers[usize::from(answer.number)] += 1;
+        if let Ask::Rows { way } | Ask::Page { way, .. } | Ask::Values { way, .. } = question.ask {
+            if way == Way::Matching {
+                return self.matching.note(question, answer);
+            }
+        }
         match question.ask {
             Ask::Read { .. } => self.read += 1,
-            Ask::Rows => self.rows += 1,
+            Ask::Rows { .. } => self.rows += 1,
             Ask::Page { .. } => self.pages += 1,
             Ask::Values { .. } => self.values += 1,
             Ask::Write { .. } => self.written += 1,
         }
         match (answer.number, question.ask) {
-            (0, Ask::Rows) => self.note_rows(question, answer),
+            (0, Ask::Rows { .. }) => self.note_rows(question, answer),
             (0, Ask::Page { .. }) if answer.figures[1] == 1 => self.more += 1,
             (0, Ask::Page { .. }) => self.no_more += 1,
             (TOO_FREQUENT, _) if answer.figures[0] < u32::from(FIRST_CONSTANT) => self.named_variable += 1,
@@ -87,6 +107,7 @@ impl Seen {
             ("10 that names a constant", self.named_constant),
         ];
         wanted.extend(others.map(|(what, times)| (what.to_string(), times)));
+        wanted.extend(self.matching.wanted());
         wanted
     }
 
@@ -100,13 +121,47 @@ impl Seen {
         let parts: Vec<String> =
             self.wanted().iter().map(|(what, times)| format!("{what}: {times}")).collect();
         format!(
-            "Read {}, Rows {}, Page {}, Values {}, Write {}; met: {}",
+            "Read {}, Rows {}, Page {}, Values {}, Write {}, of matching {}; met: {}",
             self.read,
             self.rows,
             self.pages,
             self.values,
             self.written,
+            self.matching.numbers.iter().sum::<usize>(),
             parts.join(", ")
         )
+    }
+}
+
+impl Matching {
+    /// Counts what a question of matching and its right answer show.
+    fn note(&mut self, question: &Question, answer: &Answer) {
+        self.numbers[usize::from(answer.number)] += 1;
+        match (answer.number, question.ask) {
+            (0, Ask::Rows { .. }) => {
+                self.rows += 1;
+                self.without_variables +=
+                    usize::from(question.sides.left.iter().all(|&atom| atom >= FIRST_CONSTANT));
+                self.largest_group += usize::from(answer.figures[2..].contains(&(MOST_ROWS as u32)));
+            }
+            (0, Ask::Page { .. }) if answer.figures[1] == 1 => self.more += 1,
+            (0, Ask::Page { .. }) => self.no_more += 1,
+            (0, Ask::Values { .. }) => self.values += 1,
+            _ => (),
+        }
+    }
+
+    /// What should have been met in matching, with how often it was.
+    fn wanted(&self) -> Vec<(String, usize)> {
+        let numbers = OF_MATCHING.map(|number| (format!("matching, number {number}"), self.numbers[number]));
+        let others = [
+            ("matching, rows", self.rows),
+            ("matching, more", self.more),
+            ("matching, no more", self.no_more),
+            ("matching, values", self.values),
+            ("matching, pattern without variables", self.without_variables),
+            ("matching, 16 rows of a constant", self.largest_group),
+        ];
+        numbers.into_iter().chain(others.map(|(what, times)| (what.to_string(), times))).collect()
     }
 }

@@ -4,7 +4,7 @@
 
 use crate::block::Sides;
 use crate::names::{name, sum, told};
-use crate::pair::FIRST_CONSTANT;
+use crate::pair::{Way, FIRST_CONSTANT};
 use crate::question::{Answer, Ask, Question};
 use crate::refusal::Refusal;
 use crate::sides::{all_pairs, multisets};
@@ -62,13 +62,16 @@ fn listed_substitutions(
     pairs: Vec<Sides>,
     ask: impl Fn(&[Question]) -> Result<Vec<Answer>, String>,
 ) -> Result<Vec<Listed>, String> {
-    let page = Ask::Page { after: None, wanted: u32::from(PAGE) };
+    let page = Ask::Page { way: Way::Unifying, after: None, wanted: u32::from(PAGE) };
     let page_questions: Vec<Question> = pairs.iter().map(|sides| question(page, sides, PAGE)).collect();
     let pages = ask(&page_questions)?.iter().map(keys).collect::<Result<Vec<_>, _>>()?;
     let value_questions: Vec<Question> = pairs
         .iter()
         .zip(&pages)
-        .flat_map(|(sides, keys)| keys.iter().map(move |&key| question(Ask::Values { key }, sides, VALUES)))
+        .flat_map(|(sides, keys)| {
+            let values = |key| Ask::Values { way: Way::Unifying, key };
+            keys.iter().map(move |&key| question(values(key), sides, VALUES))
+        })
         .collect();
     let mut values = ask(&value_questions)?.into_iter();
     pairs

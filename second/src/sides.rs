@@ -1,6 +1,6 @@
 //! Sides to ask about: all small pairs, and random ones at and past every limit.
 
-use crate::block::Sides;
+use crate::block::{Sides, APART};
 use crate::chance::Chance;
 use crate::pair::{FIRST_CONSTANT, LAST_ATOM};
 
@@ -64,6 +64,15 @@ pub fn shuffled(chance: &mut Chance, sides: &Sides) -> Sides {
     chance.shuffle(&mut shuffled.left);
     chance.shuffle(&mut shuffled.right);
     shuffled
+}
+
+/// The same pair with the variables of its sides made apart: v0 to v31 on the left and v32 to v63 on the right.
+pub fn apart(sides: &Sides) -> Sides {
+    let renamed = |side: &[u8], add: u8| {
+        let rename = |&atom: &u8| if atom < FIRST_CONSTANT { atom % APART + add } else { atom };
+        side.iter().map(rename).collect()
+    };
+    Sides { left: renamed(&sides.left, 0), right: renamed(&sides.right, APART) }
 }
 
 /// A random pair. Most are within all limits; some are at each limit and some past it.

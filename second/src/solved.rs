@@ -2,7 +2,8 @@
 
 use crate::block::Sides;
 use crate::list::List;
-use crate::pair::Pair;
+use crate::matching::handed_out;
+use crate::pair::{Pair, Way};
 use crate::refusal::Refusal;
 use crate::rows::Groups;
 use crate::values::{values, Value};
@@ -24,10 +25,13 @@ pub struct Page {
 }
 
 impl Solved {
-    /// The pair of two sides solved, or the first of the refusals 7 to 12 that holds.
-    pub fn of(sides: &Sides) -> Result<Solved, Refusal> {
-        let pair = Pair::of(sides)?;
-        let groups = Groups::of(&pair)?;
+    /// The pair of two sides unified or matched, or the first of the refusals up to 12 that holds.
+    pub fn of(way: Way, sides: &Sides) -> Result<Solved, Refusal> {
+        let pair = Pair::of(way, sides)?;
+        let groups = match way {
+            Way::Unifying => Groups::of(&pair)?,
+            Way::Matching => handed_out(&pair)?,
+        };
         let list = List::of(&pair, &groups);
         Ok(Solved { pair, groups, list })
     }

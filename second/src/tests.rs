@@ -1,23 +1,26 @@
 //! Document 01's pairs 1 to 17 and its nightly example, the published counts, Fages' rows, and the list
-//! against itself.
+//! against itself; matches worked by hand and found by trying all replacements.
 
-use crate::block::{read, seal, write, BLOCK, PLUS};
+use crate::block::{read, seal, write, Sides, BLOCK, PLUS};
 use crate::chance::Chance;
 use crate::examples::{
-    AROUND_A_PAGE, AT_LIMITS, HIGHEST, LONGEST_LIST, LONGEST_VALUE, MOST_ROW_BYTES, PUBLISHED,
+    AROUND_A_PAGE, AT_LIMITS, HIGHEST, LONGEST_LIST, LONGEST_MATCHES, LONGEST_VALUE, MATCHED,
+    MATCHES_OF_PAGES, MOST_ROW_BYTES, PUBLISHED,
 };
 use crate::library::Library;
 use crate::names::{name, sides, sum};
-use crate::pair::{NetCount, Pair};
+use crate::pair::{NetCount, Pair, Way};
 use crate::refusal::Refusal;
 use crate::rows::{at_or_below, weight, Groups, Row, MOST_ROWS};
-use crate::sides::{all_pairs, random_sides};
+use crate::sides::{all_pairs, apart, multisets, random_sides};
 use crate::solved::Solved;
 use crate::text::nightly;
+use std::collections::BTreeSet;
 
 /// A pair that must not be refused before its list.
 fn solved(left: &str, right: &str) -> Solved {
-    Solved::of(&sides(left, right)).unwrap_or_else(|refusal| panic!("{left} and {right}: {refusal:?}"))
+    Solved::of(Way::Unifying, &sides(left, right))
+        .unwrap_or_else(|refusal| panic!("{left} and {right}: {refusal:?}"))
 }
 
 /// The whole list of a pair.
@@ -27,7 +30,12 @@ fn keys(left: &str, right: &str) -> Vec<u32> {
 
 /// The values of a key as the nightly text writes them.
 fn values(left: &str, right: &str, key: u32) -> String {
-    let values = solved(left, right).values(key).expect("the key is listed");
+    told_values(&solved(left, right), key)
+}
+
+/// The values of a listed key as the nightly text writes them.
+fn told_values(solved: &Solved, key: u32) -> String {
+    let values = solved.values(key).expect("the key is listed");
     let parts: Vec<String> =
         values.iter().map(|value| format!("{}={}", name(value.variable), sum(&value.atoms))).collect();
     parts.join(" ")
@@ -35,7 +43,7 @@ fn values(left: &str, right: &str, key: u32) -> String {
 
 /// The number that a whole first page is refused with, or 0.
 fn refusal(left: &str, right: &str) -> u8 {
-    let page = Solved::of(&sides(left, right)).and_then(|solved| solved.page(None, 200));
+    let page = Solved::of(Way::Unifying, &sides(left, right)).and_then(|solved| solved.page(None, 200));
     page.map_or_else(Refusal::number, |_| 0)
 }
 
@@ -175,7 +183,9 @@ fn blocks_are_written_in_one_shape() {
 
 #[test]
 fn ten_names_the_lowest_atom() {
-    let named = |left, right| Solved::of(&sides(left, right)).err().map(|why| (why.number(), why.atom()));
+    let named = |left, right| {
+        Solved::of(Way::Unifying, &sides(left, right)).err().map(|why| (why.number(), why.atom()))
+    };
     assert_eq!(named("9v0", "v1"), Some((10, Some(0))));
     assert_eq!(named("10c0", "c0"), Some((10, Some(64))));
     assert_eq!(named("9c0+9v0", "v1"), Some((10, Some(0))));
@@ -205,11 +215,108 @@ fn list_agrees_with_itself(pair: &Solved) {
 fn lists_agree_with_their_count() {
     all_pairs(&[0, 1, 2, 64, 65], 3, 3)
         .iter()
-        .flat_map(Solved::of)
+        .flat_map(|sides| Solved::of(Way::Unifying, sides))
         .for_each(|pair| list_agrees_with_itself(&pair));
     let mut chance = Chance::new(1);
     for _ in 0..2000 {
-        Solved::of(&random_sides(&mut chance)).iter().for_each(list_agrees_with_itself);
+        let sides = random_sides(&mut chance);
+        Solved::of(Way::Unifying, &sides).iter().for_each(list_agrees_with_itself);
+        Solved::of(Way::Matching, &apart(&sides)).iter().for_each(list_agrees_with_itself);
+    }
+}
+
+/// A pattern and subject that must not be refused before the list.
+fn matched(left: &str, right: &str) -> Solved {
+    Solved::of(Way::Matching, &sides(left, right))
+        .unwrap_or_else(|refusal| panic!("{left} and {right}: {refusal:?}"))
+}
+
+#[test]
+fn matches_are_as_worked_by_hand() {
+    let pair = matched("v0+v1", "2v32+v33");
+    let listed = pair.list.keys(None, usize::MAX);
+    assert_eq!(listed, [16_777_216, 268_435_456, 285_212_672, 536_870_912]);
+    let told = ["v0=v33 v1=v32+v32", "v0=v32 v1=v32+v33", "v0=v32+v33 v1=v32", "v0=v32+v32 v1=v33"];
+    for (&key, told) in listed.iter().zip(told) {
+        assert_eq!(told_values(&pair, key), told);
+    }
+    let pair = matched("v0+c0", "v33+c0");
+    assert_eq!(pair.list.keys(None, usize::MAX), [0]);
+    assert_eq!(told_values(&pair, 0), "v0=v33");
+    let pair = matched("v0+v1+v2", "4v7");
+    assert_eq!((pair.list.number(), pair.groups.constants[0].len()), (3, 15));
+    let pair = matched("v40+v41", "v0+v1+c0");
+    assert_eq!(told_values(&pair, 0x0110_0000), "v40=v1+c0 v41=v0");
+    assert_eq!(told_values(&matched("8v0", "8v63+8c63"), 0), "v0=v63+c63");
+    let pair = matched("c0", "c0");
+    assert_eq!((pair.list.keys(None, usize::MAX), told_values(&pair, 0)), (vec![0], String::new()));
+    for (left, right) in [LONGEST_MATCHES, ("v0+v1+v2+v3+v4+2v5", "2v32+2v33+2c0+2c1")] {
+        assert!(matched(left, right).groups.constants.iter().all(|ways| ways.len() == MOST_ROWS));
+    }
+    assert_eq!(matched(MATCHES_OF_PAGES.0, MATCHES_OF_PAGES.1).list.number(), 528);
+}
+
+#[test]
+fn matching_is_refused_in_order() {
+    for (left, right, number) in MATCHED {
+        let page = Solved::of(Way::Matching, &sides(left, right)).and_then(|solved| solved.page(None, 200));
+        assert_eq!(page.map_or_else(Refusal::number, |_| 0), number, "{left} and {right}");
+    }
+    let named = |left, right| Solved::of(Way::Matching, &sides(left, right)).err().and_then(Refusal::atom);
+    assert_eq!(named("v0", "9v7"), Some(7));
+    assert_eq!(named("9v0", "v32"), Some(0));
+    assert_eq!(named("9v40", "9v39"), Some(39));
+    assert_eq!(named("v0", "9v33+10v32"), Some(32));
+}
+
+/// Every replacement of variables by non-empty sums of atoms that makes a pattern the subject, found by trying
+/// all of them.
+fn replacements(
+    pattern: &[u8],
+    subject: &[u8],
+    variables: &[u8],
+    sums: &[Vec<u8>],
+) -> BTreeSet<Vec<Vec<u8>>> {
+    let Some((&variable, others)) = variables.split_first() else {
+        let mut pattern = pattern.to_vec();
+        pattern.sort();
+        return if pattern == subject { BTreeSet::from([Vec::new()]) } else { BTreeSet::new() };
+    };
+    let mut found = BTreeSet::new();
+    for sum in sums {
+        let put = |&atom: &u8| if atom == variable { sum.clone() } else { vec![atom] };
+        let replaced: Vec<u8> = pattern.iter().flat_map(put).collect();
+        for later in replacements(&replaced, subject, others, sums) {
+            found.insert([&[sum.clone()], &later[..]].concat());
+        }
+    }
+    found
+}
+
+#[test]
+fn every_match_is_listed_once() {
+    for left in multisets(&[0, 1, 64], 3) {
+        for right in multisets(&[32, 33, 64, 65], 4) {
+            let Ok(pair) = Solved::of(Way::Matching, &Sides { left: left.clone(), right: right.clone() })
+            else {
+                assert!(left.is_empty() || right.is_empty());
+                continue;
+            };
+            let variables: Vec<u8> = pair.pair.variables.iter().map(|variable| variable.atom).collect();
+            let mut sums = multisets(&[32, 33, 64, 65], right.len());
+            sums.retain(|sum| !sum.is_empty());
+            let listed: Vec<Vec<Vec<u8>>> = pair
+                .list
+                .keys(None, usize::MAX)
+                .iter()
+                .map(|&key| {
+                    pair.values(key).expect("a listed key").into_iter().map(|value| value.atoms).collect()
+                })
+                .collect();
+            let found = replacements(&left, &right, &variables, &sums);
+            assert_eq!(listed.len(), found.len(), "{left:?} and {right:?}");
+            assert_eq!(listed.into_iter().collect::<BTreeSet<_>>(), found, "{left:?} and {right:?}");
+        }
     }
 }
 

@@ -2,6 +2,7 @@
 
 use crate::block::{self, BLOCK};
 use crate::names::{name, sum};
+use crate::pair::Way;
 use crate::refusal::Refusal;
 use crate::solved::{Solved, USUAL_COUNT};
 use crate::values::Value;
@@ -76,7 +77,7 @@ fn write_block(text: &mut impl Write, place: u64, block: &[u8], counts: &mut Cou
 /// The lines of a listed block: its rows, its first page and whether that is all.
 fn block_lines(place: u64, block: &[u8]) -> Result<String, Refusal> {
     let expected = (place % 65_536) as u16;
-    let solved = Solved::of(&block::read(block, expected)?)?;
+    let solved = Solved::of(Way::Unifying, &block::read(block, expected)?)?;
     let page = solved.page(None, USUAL_COUNT as usize)?;
     let constant_rows: usize = solved.groups.constants.iter().map(Vec::len).sum();
     let mut lines = format!("block {place} rows {} {constant_rows}\n", solved.groups.balanced.len());

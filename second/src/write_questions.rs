@@ -6,7 +6,7 @@ use crate::names::sides;
 use crate::pair::{FIRST_CONSTANT, LAST_ATOM};
 use crate::question::Ask;
 use crate::questions::Questions;
-use crate::sides::random_sides;
+use crate::sides::{apart, random_sides};
 
 /// The first and the last atom of each kind that Write tells apart, and the first byte that is none.
 const EDGES: [u8; 7] = [0, APART - 1, APART, FIRST_CONSTANT - 1, FIRST_CONSTANT, LAST_ATOM, LAST_ATOM + 1];
@@ -38,7 +38,7 @@ impl Questions {
     pub fn ask_random_write(&mut self) {
         let mut sides = match self.chance.one_in(8) {
             true => random_sides(&mut self.chance),
-            false => apart(block_sides(&mut self.chance)),
+            false => apart(&block_sides(&mut self.chance)),
         };
         if self.chance.one_in(4) {
             let side = if self.chance.one_in(2) { &mut sides.left } else { &mut sides.right };
@@ -57,10 +57,4 @@ fn short_sides() -> Vec<Vec<u8>> {
     let ones = EDGES.iter().map(|&atom| vec![atom]);
     let twos = EDGES.iter().flat_map(|&first| EDGES.iter().map(move |&second| vec![first, second]));
     std::iter::once(Vec::new()).chain(ones).chain(twos).collect()
-}
-
-/// Sides of which the right one has its variables 32 higher.
-fn apart(mut sides: Sides) -> Sides {
-    sides.right.iter_mut().filter(|atom| **atom < FIRST_CONSTANT).for_each(|atom| *atom += APART);
-    sides
 }

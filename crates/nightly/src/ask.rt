@@ -2,12 +2,12 @@
 use block::ReadAnswer;
 use list::Key;
 use numbers::Verdict;
+use pair::ways::Way;
 use solver::page::Begin;
 use solver::page::PageAnswer;
 use solver::page::PageRequest;
 use solver::rows::BUFFER;
 use solver::rows::RowsAnswer;
-use pair::ways::Way;
 use table::Table;
 ghost use mathlib.Core.Path.{_≡_};
 ghost use Prim.Native.Nat.{_≤_};

@@ -8,6 +8,9 @@ use crate::answer::of_write;
 use crate::answer::put_numbers;
 use crate::answer::put_returned;
 use crate::question::Header;
+use crate::question::MATCH_PAGE;
+use crate::question::MATCH_ROWS;
+use crate::question::MATCH_VALUES;
 use crate::question::PAGE;
 use crate::question::READ;
 use crate::question::ROWS;
@@ -66,6 +69,14 @@ fn returned_by(
         )),
         ROWS => of_rows(solver::rows::rows(first, second, first_lent)),
         PAGE => page(asked, first, second, first_lent),
+        MATCH_ROWS => of_rows(solver::rows::match_rows(first, second, first_lent)),
+        MATCH_PAGE => match_page(asked, first, second, first_lent),
+        MATCH_VALUES => of_values(solver::values::match_values(
+            first,
+            second,
+            asked.number,
+            first_lent,
+        )),
         WRITE => of_write(writing::write(
             first,
             second,
@@ -80,13 +91,26 @@ fn returned_by(
 fn page(asked: Header, left: &[u8], right: &[u8], shown: &mut [u8]) -> Returned {
     let mut keys = filled_numbers(asked.fill);
     let room = least(shown.len() / 4, MOST_NUMBERS);
-    let request = PageRequest {
-        begin: begin_of(asked.after, asked.number),
-        wanted: asked.wanted,
-    };
-    let page = solver::page::page(left, right, request, &mut keys[..room]);
+    let page = solver::page::page(left, right, request_of(asked), &mut keys[..room]);
     put_numbers(shown, 0, &keys[..room]);
     of_page(page)
+}
+
+// So is Page for matching.
+fn match_page(asked: Header, left: &[u8], right: &[u8], shown: &mut [u8]) -> Returned {
+    let mut keys = filled_numbers(asked.fill);
+    let room = least(shown.len() / 4, MOST_NUMBERS);
+    let page = solver::page::match_page(left, right, request_of(asked), &mut keys[..room]);
+    put_numbers(shown, 0, &keys[..room]);
+    of_page(page)
+}
+
+// What is asked of a page.
+fn request_of(asked: Header) -> PageRequest {
+    PageRequest {
+        begin: begin_of(asked.after, asked.number),
+        wanted: asked.wanted,
+    }
 }
 
 // Where a page begins: after the key, or at the start.

@@ -10,6 +10,12 @@ pub const PAGE: u8 = 3;
 
 pub const WRITE: u8 = 5;
 
+pub const MATCH_ROWS: u8 = 6;
+
+pub const MATCH_PAGE: u8 = 7;
+
+pub const MATCH_VALUES: u8 = 8;
+
 // What is asked: which question, the byte that fills the lent buffers, the lengths of what follows, the
 // number that the question takes, whether a page begins after it, how many keys are wanted, and the lengths
 // of the lent buffers in bytes.
@@ -44,7 +50,11 @@ pub fn of(header: [u8; 20]) -> Header {
 fn bytes_of(kind: u8, places: usize) -> usize
     requires { ⌜ places < 65536 ⌝ }
 {
-    if kind == PAGE { 4 * places } else { places }
+    match kind {
+        PAGE => 4 * places,
+        MATCH_PAGE => 4 * places,
+        _ => places,
+    }
 }
 
 // A number of two bytes has the high byte first.

@@ -2,8 +2,8 @@
 use buffer::put_bytes;
 use numbers::Refusal;
 use numbers::Verdict;
-use table::ROWS;
 use pair::ways::Way;
+use table::ROWS;
 use table::Table;
 use table::row_start;
 use table::solve;

@@ -14,8 +14,8 @@ filled-numbers-requires c κs = search needs
 least-requires : tie.Need-least-requires
 least-requires c κs = search needs
 
-begin-of-requires : tie.Need-begin-of-requires
-begin-of-requires c κs = search needs
+request-of-requires : tie.Need-request-of-requires
+request-of-requires c κs = search needs
 
 array-borrow-prefix-keys : tie.Need-array-borrow-prefix-keys
 array-borrow-prefix-keys c = search needs
@@ -59,7 +59,7 @@ page-spec =
     (tie.spec
     filled-numbers-requires
     least-requires
-    begin-of-requires
+    request-of-requires
     array-borrow-prefix-keys
     slice-aggregate-page
     page-requires

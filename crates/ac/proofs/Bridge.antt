@@ -44,7 +44,7 @@ difference-times a b n = *ℤ-comm (pos a -ℤ pos b) (pos n) ∙ times n
         ∙ ap₂ (λ x y. pos x -ℤ pos y) (sym (mul-suc a n)) (sym (mul-suc b n))
 
 -- the negated difference is the difference the other way round
-difference-negated : (a b : ℕ) → negℤ (pos a -ℤ pos b) ≡ pos b -ℤ pos a
+pub difference-negated : (a b : ℕ) → negℤ (pos a -ℤ pos b) ≡ pos b -ℤ pos a
 difference-negated a b = negℤ-+ℤ (pos a) (negℤ (pos b)) ∙ ap (λ z. negℤ (pos a) +ℤ z) (negℤ-negℤ (pos b))
     ∙ +ℤ-comm (negℤ (pos a)) (pos b)
 
@@ -57,7 +57,7 @@ pos-injective : {m n : ℕ} → pos m ≡ pos n → m ≡ n
 pos-injective e = cc
 
 -- two differences are equal exactly when the crosswise sums are
-difference-equal : (a b c d : ℕ) → (pos a -ℤ pos b ≡ pos c -ℤ pos d) ↔ (a + d ≡ c + b)
+pub difference-equal : (a b c d : ℕ) → (pos a -ℤ pos b ≡ pos c -ℤ pos d) ↔ (a + d ≡ c + b)
 difference-equal a b c d = (to, back)
   where
     to : pos a -ℤ pos b ≡ pos c -ℤ pos d → a + d ≡ c + b

@@ -4,6 +4,7 @@ pub mod Order
 pub mod Members
 pub mod Tests
 pub mod Bridge
+pub mod Negated
 pub mod Nets
 pub mod Pigeonhole
 pub mod Units
@@ -15,6 +16,7 @@ pub mod Sums
 pub mod Groups
 pub mod WrongRows
 pub mod Counts
+pub mod Multisets
 pub mod Taken
 pub mod Replaced
 pub mod Pattern

@@ -6,3 +6,4 @@ pub mod Promises
 pub mod Verdicts
 pub mod Decided
 pub mod Dropped
+pub mod Alike

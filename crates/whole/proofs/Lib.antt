@@ -12,3 +12,5 @@ pub mod Substitutions
 pub mod Unifiers
 pub mod Apart
 pub mod Matches
+pub mod Alike
+pub mod AlikeGroups

@@ -1,3 +1,4 @@
 pub mod Whole
 pub mod Matching
 pub mod Unifiers
+pub mod Alike

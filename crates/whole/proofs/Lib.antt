@@ -14,3 +14,4 @@ pub mod Apart
 pub mod Matches
 pub mod Alike
 pub mod AlikeGroups
+pub mod AlikeAnswers

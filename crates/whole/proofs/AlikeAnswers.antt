@@ -1,0 +1,162 @@
+-- Pairs that are alike get the same answers from Rows, Page and Values (document 02, R-6): `alike-answers`. What meets a
+-- promise on the one pair meets it on the other: `rows-carried`, `page-carried`, `values-carried`.
+use Prim.Native.Nat.{ℕ, _<_}
+use mathlib.Core.Path.{_≡_, sym, ap, subst}
+use mathlib.Core.List.{List, List·Memᴰ}
+use lib.ListN.{length}
+use Rattle.ac.specs.Lists.{receives}
+use Rattle.ac.specs.Limits.{limits}
+use Rattle.ac.specs.Pair.{Mode}
+use Rattle.ac.specs.Rows.{Groups}
+use Rattle.ac.specs.Selection.{taken, valueAt, placeOf}
+use Rattle.ac.specs.Keys.{layout, keys, selectionAt, Beginning}
+use Rattle.ac.specs.Values.{laidOut, bindings}
+use Rattle.ac.specs.Pages.{page, more}
+use Rattle.numbers.specs.Order.{rowsNumbers, pageNumbers, valuesNumbers}
+use Rattle.numbers.specs.Outcome.{Outcome}
+use Rattle.numbers.proofs.Alike.{Agree, promise-carried, outcomes-agree}
+use Rattle.pair.specs.Given.{LowestFar}
+use Rattle.list.specs.Given.{ListGiven}
+use Rattle.solver.specs.Rows.{GroupSizes, RowsGiven, RowsGives, RowsPromise, rows}
+use Rattle.solver.specs.Rows as of-rows
+use Rattle.solver.specs.Page.{PageGiven, PageWritten, PageGives, PagePromise, next, wantedCount}
+use Rattle.solver.specs.Page as of-page
+use Rattle.solver.specs.Values.{LongValue, longestValue, ValuesGiven, ValuesGives, ValuesPromise, valuesOf, values}
+use Rattle.solver.specs.Values as of-values
+use Rattle.solver.proofs.Determined.{one-rows, one-page, one-values}
+use Rattle.whole.specs.Alike.{Alike, SameAnswers}
+use Rattle.whole.proofs.Alike.{alike-symmetric, lowest-carried}
+use Rattle.whole.proofs.AlikeGroups.{groups-carried, keys-alike, value-alike, pair-given-alike}
+
+-- ---- the numbers that a question gives of the one pair it gives of the other
+
+module _ {M M′ : Mode} {L R L′ R′ : List ℕ} (alike : Alike limits M L R M′ L′ R′) where
+  rows-given : {out : List ℕ} {n : ℕ} → RowsGiven M L R out n → RowsGiven M′ L′ R′ out n
+  rows-given (of-rows.of-the-sides given) = of-rows.of-the-sides (pair-given-alike alike _ .0 given)
+  rows-given (of-rows.short-buffer short) = of-rows.short-buffer short
+
+  -- the list's numbers, since the lists are the same
+  list-given : {begin : Beginning} {n : ℕ} (G : Groups) → ListGiven (keys M layout L R G) begin n
+      → ListGiven (keys M′ layout L′ R′ G) begin n
+  list-given {begin} {n} G given = subst (λ ks. ListGiven ks begin n) (keys-alike alike layout G) given
+
+  page-given : {begin : Beginning} {wanted : ℕ} {out : List ℕ} {n : ℕ} → PageGiven M L R begin wanted out n
+      → PageGiven M′ L′ R′ begin wanted out n
+  page-given (of-page.of-the-sides given) = of-page.of-the-sides (pair-given-alike alike _ .0 given)
+  page-given (of-page.of-the-list {G = G} of given) =
+      of-page.of-the-list (groups-carried alike of) (list-given G given)
+  page-given (of-page.short-buffer short) = of-page.short-buffer short
+
+  -- a value that is too long in the one pair is so in the other
+  long-carried : {G : Groups} {key : ℕ} → LongValue M L R G key → LongValue M′ L′ R′ G key
+  long-carried {G} {key} value =
+      record {
+        variable = value .variable;
+        of-the-pair = subst (List·Memᴰ (value .variable)) (alike .same-variables) (value .of-the-pair);
+        long = subst (λ (atoms : List ℕ). longestValue < length atoms)
+            (value-alike alike (layout .new) G (selectionAt layout G key) (value .variable)) (value .long);
+      }
+
+  values-given : {key : ℕ} {out : List ℕ} {n : ℕ} → ValuesGiven M L R key out n → ValuesGiven M′ L′ R′ key out n
+  values-given (of-values.of-the-sides given) = of-values.of-the-sides (pair-given-alike alike _ .0 given)
+  values-given (of-values.of-the-list {G = G} of given) =
+      of-values.of-the-list (groups-carried alike of) (list-given G given)
+  values-given (of-values.short-buffer short) = of-values.short-buffer short
+  values-given (of-values.long-value of long) = of-values.long-value (groups-carried alike of) (long-carried long)
+
+  -- ---- and so are its results
+
+  rows-result : {out : List ℕ} (sizes : GroupSizes) (exit : List ℕ) → RowsGives M L R out sizes exit
+      → RowsGives M′ L′ R′ out sizes exit
+  rows-result _ _ (rows of) = rows (groups-carried alike of)
+
+  page-result : {begin : Beginning} {wanted : ℕ} {out : List ℕ} (keys : PageWritten) (exit : List ℕ)
+      → PageGives M L R begin wanted out keys exit → PageGives M′ L′ R′ begin wanted out keys exit
+  page-result {begin} {wanted} {out} _ _ (next {G = G} of) =
+      subst
+      (λ ks. PageGives M′ L′ R′ begin wanted out
+      (record { written = length (page begin (wantedCount wanted) ks); more = more begin (wantedCount wanted) ks })
+      (receives out (page begin (wantedCount wanted) ks)))
+      (sym (keys-alike alike layout G)) (next (groups-carried alike of))
+
+  -- what is written of a key is the same
+  bytes-alike : (G : Groups) (key : ℕ) → valuesOf M L R G key ≡ valuesOf M′ L′ R′ G key
+  bytes-alike G key =
+      ap (λ xs. laidOut
+      (bindings (λ x. valueAt (taken (layout .new) G (selectionAt layout G key)) (placeOf x xs)) xs))
+      (alike .same-variables)
+
+  values-result : {key : ℕ} {out : List ℕ} (size : ℕ) (exit : List ℕ) → ValuesGives M L R key out size exit
+      → ValuesGives M′ L′ R′ key out size exit
+  values-result {key} {out} _ _ (values {G = G} of) =
+      subst (λ (bytes : List ℕ). ValuesGives M′ L′ R′ key out (length bytes) (receives out bytes))
+      (sym (bytes-alike G key)) (values (groups-carried alike of))
+
+-- ---- so each question agrees with itself on the two pairs
+
+module _ {M M′ : Mode} {L R L′ R′ : List ℕ} (alike : Alike limits M L R M′ L′ R′) where
+  back : Alike limits M′ L′ R′ M L R
+  back = alike-symmetric alike
+
+  rows-agree : (out : List ℕ)
+      → Agree (RowsGiven M L R out) (RowsGiven M′ L′ R′ out) (LowestFar limits L R) (LowestFar limits L′ R′)
+      rowsNumbers (RowsGives M L R out) (RowsGives M′ L′ R′ out)
+  rows-agree out =
+      record {
+        same-numbers = λ n m. (rows-given alike, rows-given back);
+        same-atom = lowest-carried (alike .nets-alike);
+        same-result = rows-result alike;
+      }
+
+  page-agree : (begin : Beginning) (wanted : ℕ) (out : List ℕ)
+      → Agree (PageGiven M L R begin wanted out) (PageGiven M′ L′ R′ begin wanted out) (LowestFar limits L R)
+      (LowestFar limits L′ R′) pageNumbers (PageGives M L R begin wanted out) (PageGives M′ L′ R′ begin wanted out)
+  page-agree begin wanted out =
+      record {
+        same-numbers = λ n m. (page-given alike, page-given back);
+        same-atom = lowest-carried (alike .nets-alike);
+        same-result = page-result alike;
+      }
+
+  values-agree : (key : ℕ) (out : List ℕ)
+      → Agree (ValuesGiven M L R key out) (ValuesGiven M′ L′ R′ key out) (LowestFar limits L R)
+      (LowestFar limits L′ R′) valuesNumbers (ValuesGives M L R key out) (ValuesGives M′ L′ R′ key out)
+  values-agree key out =
+      record {
+        same-numbers = λ n m. (values-given alike, values-given back);
+        same-atom = lowest-carried (alike .nets-alike);
+        same-result = values-result alike;
+      }
+
+  -- Two outcomes, each with its buffer, that meet a question's promises on the two pairs are identical.
+  pub rows-alike : {out : List ℕ} {o o′ : Outcome GroupSizes} {b b′ : List ℕ} → RowsPromise M L R out o b
+      → RowsPromise M′ L′ R′ out o′ b′
+      → (o ≡ o′) × (b ≡ b′)
+  rows-alike {out} = outcomes-agree (rows-agree out) one-rows
+
+  pub page-alike : {begin : Beginning} {wanted : ℕ} {out : List ℕ} {o o′ : Outcome PageWritten} {b b′ : List ℕ}
+      → PagePromise M L R begin wanted out o b → PagePromise M′ L′ R′ begin wanted out o′ b′
+      → (o ≡ o′) × (b ≡ b′)
+  page-alike {begin} {wanted} {out} = outcomes-agree (page-agree begin wanted out) one-page
+
+  pub values-alike : {key : ℕ} {out : List ℕ} {o o′ : Outcome ℕ} {b b′ : List ℕ} → ValuesPromise M L R key out o b
+      → ValuesPromise M′ L′ R′ key out o′ b′
+      → (o ≡ o′) × (b ≡ b′)
+  values-alike {key} {out} = outcomes-agree (values-agree key out) one-values
+
+  -- All three together.
+  pub alike-answers : SameAnswers M L R M′ L′ R′
+  alike-answers = record { from-rows = rows-alike; from-page = page-alike; from-values = values-alike }
+
+  -- What meets a promise on the one pair meets it on the other.
+  pub rows-carried : {out : List ℕ} {o : Outcome GroupSizes} {b : List ℕ} → RowsPromise M L R out o b
+      → RowsPromise M′ L′ R′ out o b
+  rows-carried {out} = promise-carried (rows-agree out)
+
+  pub page-carried : {begin : Beginning} {wanted : ℕ} {out : List ℕ} {o : Outcome PageWritten} {b : List ℕ}
+      → PagePromise M L R begin wanted out o b → PagePromise M′ L′ R′ begin wanted out o b
+  page-carried {begin} {wanted} {out} = promise-carried (page-agree begin wanted out)
+
+  pub values-carried : {key : ℕ} {out : List ℕ} {o : Outcome ℕ} {b : List ℕ} → ValuesPromise M L R key out o b
+      → ValuesPromise M′ L′ R′ key out o b
+  values-carried {key} {out} = promise-carried (values-agree key out)

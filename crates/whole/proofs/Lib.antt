@@ -15,3 +15,4 @@ pub mod Matches
 pub mod Alike
 pub mod AlikeGroups
 pub mod AlikeAnswers
+pub mod Rewritten

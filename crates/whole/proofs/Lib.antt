@@ -16,3 +16,4 @@ pub mod Alike
 pub mod AlikeGroups
 pub mod AlikeAnswers
 pub mod Rewritten
+pub mod AlikeBlocks

@@ -6,13 +6,14 @@ use mathlib.Core.Logic.{_↔_}
 use mathlib.Core.Bool.{false}
 use mathlib.Core.List.{List, _∷_, List·Memᴰ}
 use lib.IntN.{negℤ}
-use lib.ListN.{length}
+use lib.ListN.{length, take}
 use Rattle.ac.specs.Limits.{Limits, limits}
 use Rattle.ac.specs.Pair.{Mode, net, variables, unbalanced}
 use Rattle.ac.specs.Keys.{Beginning}
 use Rattle.ac.specs.Replacement.{SameSum}
 use Rattle.numbers.specs.Order.{uncountedNumbers}
-use Rattle.numbers.specs.Outcome.{Outcome}
+use Rattle.numbers.specs.Outcome.{Outcome, given}
+use Rattle.block.specs.Read.{SideLengths, ReadPromise}
 use Rattle.pair.specs.Given.{PairGiven}
 use Rattle.solver.specs.Rows.{GroupSizes, RowsPromise}
 use Rattle.solver.specs.Page.{PageWritten, PagePromise}
@@ -61,3 +62,9 @@ pub record ConstantAdded (M : Mode) (L R L′ R′ : List ℕ) : Type 0 where
   pub right-some : 0 < length R
   pub left-within : length L′ ≤ limits .most-atoms
   pub right-within : length R′ ≤ limits .most-atoms
+
+-- Read gives these sides of the block, whatever number it is asked for and whatever it is lent.
+pub data Reads (block : List ℕ) : List ℕ → List ℕ → Type 0 where
+  reads : {number : ℕ} {left right left′ right′ : List ℕ} {lengths : SideLengths}
+      → ReadPromise block number left right (given lengths) left′ right′
+      → Reads block (take (lengths .left) left′) (take (lengths .right) right′)

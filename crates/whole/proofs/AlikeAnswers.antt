@@ -80,7 +80,7 @@ module _ {M M′ : Mode} {L R L′ R′ : List ℕ} (alike : Alike limits M L R 
       (sym (keys-alike alike layout G)) (next (groups-carried alike of))
 
   -- what is written of a key is the same
-  bytes-alike : (G : Groups) (key : ℕ) → valuesOf M L R G key ≡ valuesOf M′ L′ R′ G key
+  pub bytes-alike : (G : Groups) (key : ℕ) → valuesOf M L R G key ≡ valuesOf M′ L′ R′ G key
   bytes-alike G key =
       ap (λ xs. laidOut
       (bindings (λ x. valueAt (taken (layout .new) G (selectionAt layout G key)) (placeOf x xs)) xs))

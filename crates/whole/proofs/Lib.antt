@@ -17,3 +17,4 @@ pub mod AlikeGroups
 pub mod AlikeAnswers
 pub mod Rewritten
 pub mod AlikeBlocks
+pub mod AlikeLists

@@ -14,3 +14,4 @@ pub mod TooFrequent
 pub mod WrongAtoms
 pub mod Writing
 pub mod WrongWrites
+pub mod Rewritten

@@ -44,7 +44,7 @@ module _ (L R : List ℕ) (passes : all (tests L R) ≡ true) where
   never n = never-given L R (each (tests L R) passes 0)
 
   -- so the questions answer by the groups that the search finds
-  computed : AnswersBy L R (groups unifying L R)
+  pub computed : AnswersBy L R (groups unifying L R)
   computed =
       record {
         the-rows = rows-of-groups (groups-exist unifying L R) never;

@@ -3,3 +3,4 @@ pub mod Answers
 pub mod Programs
 pub mod Example
 pub mod Document
+pub mod Rewritten

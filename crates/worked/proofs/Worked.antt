@@ -28,7 +28,7 @@ module _ (L R : List ℕ) where
   list = keys unifying layout L R (groups unifying L R)
 
   -- the limits are kept, and there are at most 200 keys
-  abbrev tests : List Bool
+  abbrev pub tests : List Bool
   tests = within L R ∷ leb (length list) 200 ∷ []
 
 -- the tests of a pair

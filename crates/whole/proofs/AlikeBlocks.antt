@@ -31,7 +31,7 @@ renamed-equal name (symmetric equal) = symmetric (renamed-equal name equal)
 renamed-equal name (transitive first second) = transitive (renamed-equal name first) (renamed-equal name second)
 
 -- the sides that Read gives of a block are its terms flattened, the right one renamed
-sides-are : {block L R : List ℕ} {s t : Term} → Reads block L R → Writes (leftTerm block) s
+pub sides-are : {block L R : List ℕ} {s t : Term} → Reads block L R → Writes (leftTerm block) s
     → Writes (rightTerm block) t → (L ≡ flatten s) × (R ≡ flatten (renamed onTheRight t))
 sides-are (reads read) of-left of-right = read-sides (given-gives read) of-left of-right
 

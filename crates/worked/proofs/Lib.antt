@@ -15,3 +15,4 @@ pub mod WrongAtoms
 pub mod Writing
 pub mod WrongWrites
 pub mod Rewritten
+pub mod SwappedBlocks

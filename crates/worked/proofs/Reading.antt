@@ -20,7 +20,7 @@ use Rattle.worked.specs.Answers.{ReadAnswers}
 use Rattle.worked.specs.Example.{block-0, block-1, overlapping}
 
 -- a block of a good header, with two terms and zeros after them, is read as their sides
-block-gives : {block : List ℕ} {number : ℕ} {s t : Term} → GoodHeader block number → Writes (leftTerm block) s
+pub block-gives : {block : List ℕ} {number : ℕ} {s t : Term} → GoodHeader block number → Writes (leftTerm block) s
     → Writes (rightTerm block) t
     → allZero (filler block) ≡ true → ReadAnswers block number (leftSide s) (rightSide t)
 block-gives good left right zeros lent left-fits right-fits =
@@ -35,7 +35,7 @@ block-gives good left right zeros lent left-fits right-fits =
     }
 
 -- a header is good if the block's length, check, number and terms' lengths are
-header :
+pub header :
     {block : List ℕ} {number : ℕ} →
     length block ≡ 512 →
     check block ≡ checkOfBytes block →
@@ -52,11 +52,11 @@ header whole checked numbered lengths =
     }
 
 -- v0 to v31 may be written
-variable : (a : ℕ) → a < 32 → Writable (atom a)
+pub variable : (a : ℕ) → a < 32 → Writable (atom a)
 variable a h = one (inl h)
 
 -- and so may every constant
-constant : (a : ℕ) → (64 ≤ a) × (a < 128) → Writable (atom a)
+pub constant : (a : ℕ) → (64 ≤ a) × (a < 128) → Writable (atom a)
 constant a h = one (inr h)
 
 -- block 0: v0+v1 and c0+c1

@@ -2,7 +2,7 @@
 -- from 0, so the atom that 10 names is the same.
 use Prim.Native.Nat.{ℕ, _<_}
 use mathlib.Core.Path.{_≡_, sym, ap, subst, _∙_}
-use mathlib.Core.Logic.{Iff·symm, Iff·trans}
+use mathlib.Core.Logic.{_↔_, Iff·symm, Iff·trans}
 use mathlib.Core.List.{List}
 use lib.IntN.{negℤ, natAbs, negℤ-negℤ}
 use Rattle.ac.specs.Limits.{Limits}
@@ -58,8 +58,8 @@ pub far-carried : (limits : Limits) {L R L′ R′ : List ℕ} → NetsAlike L R
     → Far limits L′ R′ a
 far-carried limits nets a far = subst (λ distance. limits .net-count < distance) (equally-far nets a) far
 
--- .. and the lowest one is the same.
-pub lowest-carried : {limits : Limits} {L R L′ R′ : List ℕ} → NetsAlike L R L′ R′ → (a : ℕ) → LowestFar limits L R a
+-- .. and the lowest one of the one pair is that of the other.
+lowest-carried : {limits : Limits} {L R L′ R′ : List ℕ} → NetsAlike L R L′ R′ → (a : ℕ) → LowestFar limits L R a
     → LowestFar limits L′ R′ a
 lowest-carried {limits} nets a lowest =
     record {
@@ -67,3 +67,8 @@ lowest-carried {limits} nets a lowest =
       lowest = λ lower below far. lowest .lowest lower below
           (far-carried limits (nets-symmetric nets) lower far);
     }
+
+-- So 10 names the same atom.
+pub lowest-alike : {limits : Limits} {L R L′ R′ : List ℕ} → NetsAlike L R L′ R′ → (a : ℕ)
+    → LowestFar limits L R a ↔ LowestFar limits L′ R′ a
+lowest-alike nets a = (lowest-carried nets a, lowest-carried (nets-symmetric nets) a)

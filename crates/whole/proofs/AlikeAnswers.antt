@@ -25,7 +25,7 @@ use Rattle.solver.specs.Values.{LongValue, longestValue, ValuesGiven, ValuesGiv
 use Rattle.solver.specs.Values as of-values
 use Rattle.solver.proofs.Determined.{one-rows, one-page, one-values}
 use Rattle.whole.specs.Alike.{Alike, SameAnswers}
-use Rattle.whole.proofs.Alike.{alike-symmetric, lowest-carried}
+use Rattle.whole.proofs.Alike.{alike-symmetric, lowest-alike}
 use Rattle.whole.proofs.AlikeGroups.{groups-carried, keys-alike, value-alike, pair-given-alike}
 
 -- ---- the numbers that a question gives of the one pair it gives of the other
@@ -104,7 +104,7 @@ module _ {M M′ : Mode} {L R L′ R′ : List ℕ} (alike : Alike limits M L R 
   rows-agree out =
       record {
         same-numbers = λ n m. (rows-given alike, rows-given back);
-        same-atom = lowest-carried (alike .nets-alike);
+        same-atom = λ a. lowest-alike (alike .nets-alike) a .0;
         same-result = rows-result alike;
       }
 
@@ -114,7 +114,7 @@ module _ {M M′ : Mode} {L R L′ R′ : List ℕ} (alike : Alike limits M L R 
   page-agree begin wanted out =
       record {
         same-numbers = λ n m. (page-given alike, page-given back);
-        same-atom = lowest-carried (alike .nets-alike);
+        same-atom = λ a. lowest-alike (alike .nets-alike) a .0;
         same-result = page-result alike;
       }
 
@@ -124,7 +124,7 @@ module _ {M M′ : Mode} {L R L′ R′ : List ℕ} (alike : Alike limits M L R 
   values-agree key out =
       record {
         same-numbers = λ n m. (values-given alike, values-given back);
-        same-atom = lowest-carried (alike .nets-alike);
+        same-atom = λ a. lowest-alike (alike .nets-alike) a .0;
         same-result = values-result alike;
       }
 

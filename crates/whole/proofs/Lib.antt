@@ -15,6 +15,7 @@ pub mod Matches
 pub mod Alike
 pub mod AlikeGroups
 pub mod AlikeAnswers
+pub mod AlikeInMode
 pub mod Rewritten
 pub mod AlikeBlocks
 pub mod AlikeLists

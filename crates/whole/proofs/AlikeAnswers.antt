@@ -1,5 +1,5 @@
--- Pairs that are alike get the same answers from Rows, Page and Values (document 02, R-6): `alike-answers`. What meets a
--- promise on the one pair meets it on the other: `rows-carried`, `page-carried`, `values-carried`.
+-- Pairs that are alike get the same answers from Rows, Page and Values (document 02, R-6): `alike-answers`. What
+-- meets a promise on the one pair meets it on the other: `rows-carried`, `page-carried`, `values-carried`.
 use Prim.Native.Nat.{ℕ, _<_}
 use mathlib.Core.Path.{_≡_, sym, ap, subst}
 use mathlib.Core.List.{List, List·Memᴰ}
@@ -17,13 +17,16 @@ use Rattle.numbers.specs.Outcome.{Outcome}
 use Rattle.numbers.proofs.Alike.{Agree, promise-carried, outcomes-agree}
 use Rattle.pair.specs.Given.{LowestFar}
 use Rattle.list.specs.Given.{ListGiven}
-use Rattle.solver.specs.Rows.{GroupSizes, RowsGiven, RowsGives, RowsPromise, rows}
+use Rattle.solver.specs.Rows.{GroupSizes, toldRows, RowsGiven, RowsGives, RowsPromise, rows}
 use Rattle.solver.specs.Rows as of-rows
-use Rattle.solver.specs.Page.{PageGiven, PageWritten, PageGives, PagePromise, next, wantedCount}
+use Rattle.solver.specs.Page.{PageGiven, PageWritten, toldPage, PageGives, PagePromise, next, wantedCount}
 use Rattle.solver.specs.Page as of-page
-use Rattle.solver.specs.Values.{LongValue, longestValue, ValuesGiven, ValuesGives, ValuesPromise, valuesOf, values}
+use Rattle.solver.specs.Values.{LongValue, longestValue, toldValues, ValuesGiven, ValuesGives, ValuesPromise, valuesOf, values}
 use Rattle.solver.specs.Values as of-values
-use Rattle.solver.proofs.Determined.{one-rows, one-page, one-values}
+use Rattle.solver.specs.declared.rows.RowsAnswer.{RowsAnswer}
+use Rattle.solver.specs.declared.page.PageAnswer.{PageAnswer}
+use Rattle.solver.specs.declared.values.ValuesAnswer.{ValuesAnswer}
+use Rattle.solver.proofs.Determined.{one-rows, one-page, one-values, rows-determined, page-determined, values-determined}
 use Rattle.whole.specs.Alike.{Alike, SameAnswers}
 use Rattle.whole.proofs.Alike.{alike-symmetric, lowest-alike}
 use Rattle.whole.proofs.AlikeGroups.{groups-carried, keys-alike, value-alike, pair-given-alike}
@@ -148,7 +151,7 @@ module _ {M M′ : Mode} {L R L′ R′ : List ℕ} (alike : Alike limits M L R 
   pub alike-answers : SameAnswers M L R M′ L′ R′
   alike-answers = record { from-rows = rows-alike; from-page = page-alike; from-values = values-alike }
 
-  -- What meets a promise on the one pair meets it on the other.
+  -- What meets a promise on the one pair meets it on the other, ..
   pub rows-carried : {out : List ℕ} {o : Outcome GroupSizes} {b : List ℕ} → RowsPromise M L R out o b
       → RowsPromise M′ L′ R′ out o b
   rows-carried {out} = promise-carried (rows-agree out)
@@ -160,3 +163,19 @@ module _ {M M′ : Mode} {L R L′ R′ : List ℕ} (alike : Alike limits M L R 
   pub values-carried : {key : ℕ} {out : List ℕ} {o : Outcome ℕ} {b : List ℕ} → ValuesPromise M L R key out o b
       → ValuesPromise M′ L′ R′ key out o b
   values-carried {key} {out} = promise-carried (values-agree key out)
+
+  -- .. so the answers that the functions return are identical, too.
+  pub rows-answers : {out : List ℕ} {a a′ : RowsAnswer} {b b′ : List ℕ} → RowsPromise M L R out (toldRows a) b
+      → RowsPromise M′ L′ R′ out (toldRows a′) b′
+      → (a ≡ a′) × (b ≡ b′)
+  rows-answers promise promise′ = rows-determined (rows-carried promise) promise′
+
+  pub page-answers : {begin : Beginning} {wanted : ℕ} {out : List ℕ} {a a′ : PageAnswer} {b b′ : List ℕ}
+      → PagePromise M L R begin wanted out (toldPage a) b → PagePromise M′ L′ R′ begin wanted out (toldPage a′) b′
+      → (a ≡ a′) × (b ≡ b′)
+  page-answers promise promise′ = page-determined (page-carried promise) promise′
+
+  pub values-answers : {key : ℕ} {out : List ℕ} {a a′ : ValuesAnswer} {b b′ : List ℕ}
+      → ValuesPromise M L R key out (toldValues a) b → ValuesPromise M′ L′ R′ key out (toldValues a′) b′
+      → (a ≡ a′) × (b ≡ b′)
+  values-answers promise promise′ = values-determined (values-carried promise) promise′

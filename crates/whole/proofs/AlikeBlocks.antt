@@ -1,10 +1,11 @@
--- The way the terms of a block are written (document 02, R-6): "for blocks, the first part holds of each term". The swap is
--- not claimed for blocks, since Read renumbers the right term; worked/proofs/Swapped.antt shows that it would be wrong.
+-- The way the terms of a block are written (document 02, R-6): "for blocks, the first part holds of each term". The
+-- swap is not claimed for blocks, since Read renumbers the right term; worked/proofs/SwappedBlocks.antt shows that it would
+-- be wrong.
 --
--- `block-answers`. Two blocks whose left terms have the same atoms equally often, and whose right terms do, and which Read
--- accepts, get the same answers from Rows, Page and Values, asked of the sides that Read gave.
--- `block-answers-modulo`. The same in the words of source document 000 (Fages, RR-0287): the left terms are equal modulo
--- associativity and commutativity, and so are the right terms.
+-- `block-answers`. Two blocks whose left terms have the same atoms equally often, and whose right terms do, and which
+-- Read accepts, get the same answers from Rows, Page and Values, asked of the sides that Read gave.
+-- `block-answers-modulo`. The same in the words of source document 000 (Fages, RR-0287): the left terms are equal
+-- modulo associativity and commutativity, and so are the right terms.
 use Prim.Native.Nat.{ℕ}
 use mathlib.Core.Path.{_≡_, sym, ap, _∙_}
 use mathlib.Core.List.{List}

@@ -1,5 +1,5 @@
--- What makes two pairs of one mode alike: the same atoms that move stand in them, their net counts are alike, and 7 and 8
--- are given of both or of neither. The unbalanced constants are then the same.
+-- What makes two pairs of one mode alike: the same atoms that move stand in them, their net counts are alike, and 7
+-- and 8 are given of both or of neither. The unbalanced constants are then the same.
 use Prim.Native.Nat.{ℕ, _+_, _<_}
 use native.Mathlib.Omega.{arith}
 use native.Mathlib.Decide.{ℕ-discrete}
@@ -58,8 +58,7 @@ uncounted-carried length byte n m (far-net-count a far) = absurd (not-elsewhere 
 uncounted-carried length byte n m (many-constants many) = absurd (not-elsewhere uncountedNumbers refl m)
 uncounted-carried length byte n m (many-rows of many) = absurd (not-elsewhere uncountedNumbers refl m)
 
--- Two pairs of one mode are alike if the same atoms that move stand in them, their net counts are alike, and 7 and 8 are
--- given of both or of neither.
+-- So the two pairs are alike.
 pub alike-in-mode : {limits : Limits} {M : Mode} {L R L′ R′ : List ℕ}
     → ((a : ℕ) → M .moves a ≡ true → occurs L R a ≡ occurs L′ R′ a)
     → NetsAlike L R L′ R′

@@ -1,7 +1,7 @@
--- Of pairs that are alike whole lists can be compared, "last week's list with this one" (document 02, R-6): however the
--- pages were asked for, and whatever was lent, the keys are the same (`lists-alike`) and so are the answers of Values to
--- them (`answers-alike`). Such pages and answers, and results of each question, exist of both pairs wherever no number is
--- given of one (`rows-exist`, `page-exist`, `values-exist`, `lists-exist`).
+-- Of pairs that are alike whole lists can be compared, "last week's list with this one" (document 02, R-6): however
+-- the pages were asked for, and whatever was lent, the keys are the same (`lists-alike`) and so are the answers of
+-- Values to them (`answers-alike`). Such pages and answers, and results of each question, exist of both pairs
+-- wherever no number is given of one (`rows-exist`, `page-exist`, `values-exist`, `lists-exist`).
 use Prim.Native.Nat.{ℕ}
 use mathlib.Core.Path.{_≡_, refl, sym, ap, ap₂, _∙_}
 use mathlib.Core.List.{List, _∷_}

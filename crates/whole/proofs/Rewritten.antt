@@ -1,10 +1,10 @@
--- Three ways of writing a pair anew (document 02, R-6), after each of which the two pairs are alike and so get the same
--- answers from Rows, Page and Values, refusals among them.
+-- Three ways of writing a pair anew (document 02, R-6), after each of which the two pairs are alike and so get the
+-- same answers from Rows, Page and Values, refusals among them.
 --
 -- `multisets-answers`. The left sides have the same atoms equally often, and so have the right sides; in every mode.
 -- `swapped-answers`. Left and right are swapped; in unifying.
--- `added-answers`. One constant is added to both sides, where neither was empty and both stay within 64 atoms; in every
--- mode. `front-answers` is the case of a constant put in front.
+-- `added-answers`. One constant is added to both sides, where neither was empty and both stay within 64 atoms; in
+-- every mode. `front-answers` is the case of a constant put in front.
 use Prim.Native.Nat.{ℕ, _+_, _≤_, _<_}
 use native.Mathlib.Omega.{arith}
 use mathlib.Core.Path.{_≡_, refl, sym, ap, ap₂, _∙_}

@@ -37,8 +37,9 @@ pub record Alike (limits : Limits) (M : Mode) (L R : List ℕ) (M′ : Mode) (L�
   pub same-uncounted : (n : ℕ) → List·Memᴰ n uncountedNumbers
       → PairGiven limits M L R n ↔ PairGiven limits M′ L′ R′ n
 
--- Two pairs get the same answers: asked with the same request or key, and with the same buffer lent, two outcomes, results
--- or refusals, each with its buffer at exit, that meet the promises of a question on the two pairs are identical.
+-- Two pairs get the same answers: asked with the same request or key, and with the same buffer lent, two outcomes,
+-- results or refusals, each with its buffer at exit, that meet the promises of a question on the two pairs are
+-- identical.
 pub record SameAnswers (M : Mode) (L R : List ℕ) (M′ : Mode) (L′ R′ : List ℕ) : Type 0 where
   pub from-rows : {out : List ℕ} {o o′ : Outcome GroupSizes} {b b′ : List ℕ}
       → RowsPromise M L R out o b → RowsPromise M′ L′ R′ out o′ b′ → (o ≡ o′) × (b ≡ b′)

@@ -1,14 +1,15 @@
--- 2·v0+c0 and v1+v2+c1, reordered, swapped and with c2 added (document 02, R-6): what the questions answer is computed of
--- each of the four. That it is the same follows without computing, from the theorems of whole/proofs/Rewritten.antt.
+-- 2·v0+c0 and v1+v2+c1, reordered, swapped and with c2 added (document 02, R-6): what the questions answer is
+-- computed of each of the four. That it is the same follows without computing, from the theorems of
+-- whole/proofs/Rewritten.antt.
 use Prim.Native.Nat.{ℕ}
 use native.Mathlib.Omega.{arith}
 use mathlib.Core.Path.{_≡_, refl, sym, subst, subst₂}
 use mathlib.Core.Bool.{true}
-use mathlib.Core.List.{List, [], _∷_, List·Memᴰ, List·Memᴰ·head, List·Memᴰ·tail}
+use mathlib.Core.List.{List, List·Memᴰ, List·Memᴰ·head, List·Memᴰ·tail}
 use Rattle.ac.specs.Pair.{unifying}
 use Rattle.ac.specs.Search.{groups}
 use Rattle.ac.specs.Keys.{layout, keys}
-use Rattle.solver.specs.Rows.{GroupSizes, sizesAs, sizesOf, allRows}
+use Rattle.solver.specs.Rows.{sizesAs, sizesOf, allRows}
 use Rattle.solver.specs.Values.{valuesOf}
 use Rattle.whole.specs.Alike.{SameAnswers}
 use Rattle.whole.proofs.Rewritten.{multisets-answers, swapped-answers, added-answers}

@@ -1,5 +1,5 @@
--- The swap is not claimed for blocks, since Read renumbers the right term (document 02, R-6), and it would be wrong: the
--- block of v0 and v1+c0 and the block of v1+c0 and v0 get different answers.
+-- The swap is not claimed for blocks, since Read renumbers the right term (document 02, R-6), and it would be wrong:
+-- the block of v0 and v1+c0 and the block of v1+c0 and v0 get different answers.
 use Prim.Native.Nat.{ℕ}
 use native.Mathlib.Omega.{arith}
 use mathlib.Core.Path.{_≡_, refl, ap, subst₂}

@@ -1,5 +1,5 @@
--- One pair written in four ways, and what the questions answer of it however it is written (document 02, R-6); and a block
--- with its two terms swapped, of which they answer otherwise.
+-- One pair written in four ways, and what the questions answer of it however it is written (document 02, R-6); and a
+-- block with its two terms swapped, of which they answer otherwise.
 use Prim.Native.Nat.{ℕ}
 use mathlib.Core.List.{List, [], _∷_}
 use Rattle.solver.specs.Rows.{sizesAs}

@@ -1,6 +1,6 @@
 -- The way the terms of a block are written (document 02, R-6): "for blocks, the first part holds of each term". The
--- swap is not claimed for blocks, since Read renumbers the right term; worked/proofs/SwappedBlocks.antt shows that it would
--- be wrong.
+-- swap is not claimed for blocks, since Read renumbers the right term; that it would be wrong is
+-- `swapped-blocks-differ`, worked/proofs/SwappedBlocks.antt.
 --
 -- `block-answers`. Two blocks whose left terms have the same atoms equally often, and whose right terms do, and which
 -- Read accepts, get the same answers from Rows, Page and Values, asked of the sides that Read gave.

@@ -1,5 +1,5 @@
--- What makes two pairs of one mode alike: the same atoms that move stand in them, their net counts are alike, and 7
--- and 8 are given of both or of neither. The unbalanced constants are then the same.
+-- What makes two pairs of one mode alike (`alike-in-mode`): less than the relation says, since the unbalanced constants
+-- follow from the net counts.
 use Prim.Native.Nat.{ℕ, _+_, _<_}
 use native.Mathlib.Omega.{arith}
 use native.Mathlib.Decide.{ℕ-discrete}
@@ -19,6 +19,35 @@ use Rattle.numbers.proofs.Carried.{not-elsewhere}
 use Rattle.pair.specs.Given.{SideOf, WrongLength, WrongByte, PairGiven, side-length, no-atom, many-variables, far-net-count, many-constants, many-rows}
 use Rattle.pair.proofs.Lists.{filter-same}
 use Rattle.whole.specs.Alike.{NetsAlike, equal, opposite, Alike}
+
+-- 7 and 8 are carried from one pair to another if what is wrong with a side of the one makes the other give the number
+pub uncounted-carried : {limits : Limits} {M : Mode} {L R L′ R′ : List ℕ}
+    → ((side : List ℕ) → SideOf L R side → WrongLength limits side → PairGiven limits M L′ R′ 7)
+    → ((side : List ℕ) → SideOf L R side → WrongByte limits side → PairGiven limits M L′ R′ 8)
+    → (n : ℕ) → List·Memᴰ n uncountedNumbers → PairGiven limits M L R n → PairGiven limits M L′ R′ n
+uncounted-carried length byte n m (side-length {side} one wrong) = length side one wrong
+uncounted-carried length byte n m (no-atom {side} one wrong) = byte side one wrong
+uncounted-carried length byte n m (many-variables many) = absurd (not-elsewhere uncountedNumbers refl m)
+uncounted-carried length byte n m (far-net-count a far) = absurd (not-elsewhere uncountedNumbers refl m)
+uncounted-carried length byte n m (many-constants many) = absurd (not-elsewhere uncountedNumbers refl m)
+uncounted-carried length byte n m (many-rows of many) = absurd (not-elsewhere uncountedNumbers refl m)
+
+-- so they are where each side of the one pair is, as a multiset, a side of the other: it is as long and has the same
+-- members
+pub sides-carried : {limits : Limits} {M : Mode} {L R L′ R′ : List ℕ}
+    → ((side : List ℕ) → SideOf L R side → (other : List ℕ) × SideOf L′ R′ other × SameSum side other)
+    → (n : ℕ) → List·Memᴰ n uncountedNumbers → PairGiven limits M L R n → PairGiven limits M L′ R′ n
+sides-carried {limits} among =
+    uncounted-carried
+    (λ side one wrong.
+    let found = among side one in
+    side-length (found .1)
+    (subst (λ size. (size < limits .least-atoms) ⊎ (limits .most-atoms < size))
+    (same-lengths side (found .0) (found .2)) wrong))
+    (λ side one wrong.
+    let found = among side one in
+    no-atom (found .1)
+    (record { byte = wrong .byte; held = same-members (found .2) (wrong .held); above = wrong .above }))
 
 -- a test tells the same of two equalities of which each follows from the other
 eqb-same : (m n p q : ℕ) → (m ≡ n) ↔ (p ≡ q) → eqb m n ≡ eqb p q
@@ -46,19 +75,8 @@ and-same : (b : Bool) {p q : Bool} → (b ≡ true → p ≡ q) → (b && p) ≡
 and-same true agree = agree refl
 and-same false agree = refl
 
--- one pair gives 7 or 8 where the other does, if what is wrong with a side of the other makes it give the number
-pub uncounted-carried : {limits : Limits} {M : Mode} {L R L′ R′ : List ℕ}
-    → ((side : List ℕ) → SideOf L R side → WrongLength limits side → PairGiven limits M L′ R′ 7)
-    → ((side : List ℕ) → SideOf L R side → WrongByte limits side → PairGiven limits M L′ R′ 8)
-    → (n : ℕ) → List·Memᴰ n uncountedNumbers → PairGiven limits M L R n → PairGiven limits M L′ R′ n
-uncounted-carried length byte n m (side-length {side} one wrong) = length side one wrong
-uncounted-carried length byte n m (no-atom {side} one wrong) = byte side one wrong
-uncounted-carried length byte n m (many-variables many) = absurd (not-elsewhere uncountedNumbers refl m)
-uncounted-carried length byte n m (far-net-count a far) = absurd (not-elsewhere uncountedNumbers refl m)
-uncounted-carried length byte n m (many-constants many) = absurd (not-elsewhere uncountedNumbers refl m)
-uncounted-carried length byte n m (many-rows of many) = absurd (not-elsewhere uncountedNumbers refl m)
-
--- So the two pairs are alike.
+-- Two pairs of one mode are alike if the same atoms that move stand in them, their net counts are alike, and 7 and 8
+-- are given of both or of neither.
 pub alike-in-mode : {limits : Limits} {M : Mode} {L R L′ R′ : List ℕ}
     → ((a : ℕ) → M .moves a ≡ true → occurs L R a ≡ occurs L′ R′ a)
     → NetsAlike L R L′ R′
@@ -74,20 +92,3 @@ alike-in-mode {M = M} {L} {R} {L′} {R′} occurring nets uncounted =
       nets-alike = nets;
       same-uncounted = uncounted;
     }
-
--- 7 and 8 are carried, too, if each side of the one pair is, as a multiset, a side of the other: it is as long and has
--- the same members
-pub sides-carried : {limits : Limits} {M : Mode} {L R L′ R′ : List ℕ}
-    → ((side : List ℕ) → SideOf L R side → (other : List ℕ) × SideOf L′ R′ other × SameSum side other)
-    → (n : ℕ) → List·Memᴰ n uncountedNumbers → PairGiven limits M L R n → PairGiven limits M L′ R′ n
-sides-carried {limits} among =
-    uncounted-carried
-    (λ side one wrong.
-    let found = among side one in
-    side-length (found .1)
-    (subst (λ size. (size < limits .least-atoms) ⊎ (limits .most-atoms < size))
-    (same-lengths side (found .0) (found .2)) wrong))
-    (λ side one wrong.
-    let found = among side one in
-    no-atom (found .1)
-    (record { byte = wrong .byte; held = same-members (found .2) (wrong .held); above = wrong .above }))

@@ -35,6 +35,7 @@ module _ {limits : Limits} {M M′ : Mode} {L R L′ R′ : List ℕ} (alike : A
         same-constants = sym (alike .same-constants);
         nets-alike = nets-symmetric (alike .nets-alike);
         same-uncounted = λ n m. Iff·symm (alike .same-uncounted n m);
+        same-shared = Iff·symm (alike .same-shared);
       }
 
   -- and alike to what the second is alike to
@@ -46,6 +47,7 @@ module _ {limits : Limits} {M M′ : Mode} {L R L′ R′ : List ℕ} (alike : A
         same-constants = alike .same-constants ∙ next .same-constants;
         nets-alike = nets-transitive (alike .nets-alike) (next .nets-alike);
         same-uncounted = λ n m. Iff·trans (alike .same-uncounted n m) (next .same-uncounted n m);
+        same-shared = Iff·trans (alike .same-shared) (next .same-shared);
       }
 
 -- net counts that are alike are equally far from 0

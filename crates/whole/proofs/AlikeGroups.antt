@@ -1,5 +1,5 @@
 -- Pairs that are alike have the same groups, the same list, and for each key the same values; and the same of the
--- numbers 7 to 12 are given.
+-- numbers 7 to 12 and 19 are given.
 use Prim.Native.Nat.{ℕ, _<_}
 use mathlib.Core.Path.{_≡_, refl, sym, ap, ap₂, subst, _∙_, fun-ext}
 use mathlib.Core.Logic.{_↔_}
@@ -17,7 +17,7 @@ use Rattle.ac.proofs.Vectors.{least-same, exactly-same}
 use Rattle.ac.proofs.Negated.{weigh-negated}
 use Rattle.numbers.specs.Order.{uncountedNumbers}
 use Rattle.numbers.proofs.Carried.{its-member}
-use Rattle.pair.specs.Given.{PairGiven, side-length, no-atom, many-variables, far-net-count, many-constants, many-rows}
+use Rattle.pair.specs.Given.{PairGiven, side-length, no-atom, on-both-sides, many-variables, far-net-count, many-constants, many-rows}
 use Rattle.whole.specs.Alike.{NetsAlike, equal, opposite, Alike}
 use Rattle.whole.proofs.Alike.{alike-symmetric, far-carried}
 
@@ -110,13 +110,14 @@ module _ {limits : Limits} {M M′ : Mode} {L R L′ R′ : List ℕ} (alike : A
 
 -- ---- the numbers
 
--- What the one pair gives of the numbers 7 to 12, the other gives.
+-- What the one pair gives of the numbers 7 to 12 and 19, the other gives.
 given-carried : {limits : Limits} {M M′ : Mode} {L R L′ R′ : List ℕ} → Alike limits M L R M′ L′ R′ → {n : ℕ}
     → PairGiven limits M L R n → PairGiven limits M′ L′ R′ n
 given-carried alike (side-length one wrong) =
     alike .same-uncounted 7 (its-member uncountedNumbers refl) .0 (side-length one wrong)
 given-carried alike (no-atom one wrong) =
     alike .same-uncounted 8 (its-member uncountedNumbers refl) .0 (no-atom one wrong)
+given-carried alike (on-both-sides separate shared) = alike .same-shared .0 (on-both-sides separate shared)
 given-carried {limits} alike (many-variables many) =
     many-variables (subst (λ xs. limits .variables < length xs) (alike .same-variables) many)
 given-carried {limits} alike (far-net-count a far) = far-net-count a (far-carried limits (alike .nets-alike) a far)

@@ -5,7 +5,7 @@ use native.Mathlib.Omega.{arith}
 use native.Mathlib.Decide.{ℕ-discrete}
 use mathlib.Core.Path.{_≡_, refl, sym, ap, subst, _∙_}
 use mathlib.Core.Logic.{_↔_, _⊎_}
-use mathlib.Core.Bool.{Bool, true, false, not, _&&_}
+use mathlib.Core.Bool.{true, not, _&&_}
 use mathlib.Core.List.{List, List·Memᴰ}
 use borrow.Author.Tests.{eq-eqb, ne-eqb}
 use lib.Dec.{eqb}
@@ -16,8 +16,9 @@ use Rattle.ac.proofs.Bridge.{difference-negated, difference-equal}
 use Rattle.ac.proofs.Multisets.{same-members, same-lengths}
 use Rattle.numbers.specs.Order.{uncountedNumbers}
 use Rattle.numbers.proofs.Carried.{not-elsewhere}
-use Rattle.pair.specs.Given.{SideOf, WrongLength, WrongByte, PairGiven, side-length, no-atom, many-variables, far-net-count, many-constants, many-rows}
+use Rattle.pair.specs.Given.{SideOf, WrongLength, WrongByte, OnBothSides, PairGiven, side-length, no-atom, on-both-sides, many-variables, far-net-count, many-constants, many-rows}
 use Rattle.pair.proofs.Lists.{filter-same}
+use Rattle.pair.proofs.Modes.{and-same}
 use Rattle.whole.specs.Alike.{NetsAlike, equal, opposite, Alike}
 
 -- 7 and 8 are carried from one pair to another if what is wrong with a side of the one makes the other give the number
@@ -27,6 +28,7 @@ pub uncounted-carried : {limits : Limits} {M : Mode} {L R L′ R′ : List ℕ}
     → (n : ℕ) → List·Memᴰ n uncountedNumbers → PairGiven limits M L R n → PairGiven limits M L′ R′ n
 uncounted-carried length byte n m (side-length {side} one wrong) = length side one wrong
 uncounted-carried length byte n m (no-atom {side} one wrong) = byte side one wrong
+uncounted-carried length byte n m (on-both-sides separate shared) = absurd (not-elsewhere uncountedNumbers refl m)
 uncounted-carried length byte n m (many-variables many) = absurd (not-elsewhere uncountedNumbers refl m)
 uncounted-carried length byte n m (far-net-count a far) = absurd (not-elsewhere uncountedNumbers refl m)
 uncounted-carried length byte n m (many-constants many) = absurd (not-elsewhere uncountedNumbers refl m)
@@ -70,19 +72,20 @@ balanced-alike {L} {R} {L′} {R′} (opposite nets) a =
     (nets a ∙ difference-negated (count a L′) (count a R′)) in
     (λ e. omega (arith, crosswise), λ e. omega (arith, crosswise))
 
--- two tests after one that both ask first
-and-same : (b : Bool) {p q : Bool} → (b ≡ true → p ≡ q) → (b && p) ≡ (b && q)
-and-same true agree = agree refl
-and-same false agree = refl
+-- 19 is carried if a variable on both sides of the one pair makes for one of the other
+shared-carried : {limits : Limits} {M : Mode} {L R L′ R′ : List ℕ} → (OnBothSides L R → OnBothSides L′ R′)
+    → PairGiven limits M L R 19 → PairGiven limits M L′ R′ 19
+shared-carried other (on-both-sides separate shared) = on-both-sides separate (other shared)
 
--- Two pairs of one mode are alike if the same atoms that move stand in them, their net counts are alike, and 7 and 8
--- are given of both or of neither.
+-- Two pairs of one mode are alike if the same atoms that move stand in them, their net counts are alike, 7 and 8 are
+-- given of both or of neither, and a variable stands on both sides of both or of neither.
 pub alike-in-mode : {limits : Limits} {M : Mode} {L R L′ R′ : List ℕ}
     → ((a : ℕ) → M .moves a ≡ true → occurs L R a ≡ occurs L′ R′ a)
     → NetsAlike L R L′ R′
     → ((n : ℕ) → List·Memᴰ n uncountedNumbers → PairGiven limits M L R n ↔ PairGiven limits M L′ R′ n)
+    → OnBothSides L R ↔ OnBothSides L′ R′
     → Alike limits M L R M L′ R′
-alike-in-mode {M = M} {L} {R} {L′} {R′} occurring nets uncounted =
+alike-in-mode {M = M} {L} {R} {L′} {R′} occurring nets uncounted shared =
     record {
       same-emptying = refl;
       same-variables = filter-same _ _ atoms (λ a. and-same (M .moves a) (occurring a));
@@ -91,4 +94,5 @@ alike-in-mode {M = M} {L} {R} {L′} {R′} occurring nets uncounted =
           (eqb-same (count a L) (count a R) (count a L′) (count a R′) (balanced-alike nets a)));
       nets-alike = nets;
       same-uncounted = uncounted;
+      same-shared = (shared-carried (shared .0), shared-carried (shared .1));
     }

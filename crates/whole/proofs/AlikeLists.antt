@@ -99,7 +99,8 @@ module _ {M M′ : Mode} {L R L′ R′ : List ℕ} (alike : Alike limits M L R 
   answers-carried no-more = no-more
   answers-carried (one-more promise others) = one-more (values-carried alike promise) (answers-carried others)
 
-  -- Sides that give none of 7 to 12 and have a unifier have pages, and answers to their keys, that are those of both.
+  -- Sides that give none of 7 to 12 and 19 and have a unifier have pages, and answers to their keys, that are those of
+  -- both.
   pub lists-exist : NoneOf (PairGiven limits M L R) sidesNumbers → SomeUnifies M L R
       → (asked answers : List (List ℕ))
       × (PagesAsked M L R start asked × ValuesAsked M L R (together asked) answers)

@@ -3,7 +3,6 @@
 use Prim.Native.Nat.{ℕ, _≤_, _<_}
 use mathlib.Core.Path.{_≡_}
 use mathlib.Core.Logic.{_↔_}
-use mathlib.Core.Bool.{false}
 use mathlib.Core.List.{List, _∷_, List·Memᴰ}
 use lib.IntN.{negℤ}
 use lib.ListN.{length, take}
@@ -36,6 +35,8 @@ pub record Alike (limits : Limits) (M : Mode) (L R : List ℕ) (M′ : Mode) (L�
   -- the numbers that are settled before atoms are counted, 7 and 8, are given of both or of neither
   pub same-uncounted : (n : ℕ) → List·Memᴰ n uncountedNumbers
       → PairGiven limits M L R n ↔ PairGiven limits M′ L′ R′ n
+  -- and so is 19, a variable on both sides where none may stand there
+  pub same-shared : PairGiven limits M L R 19 ↔ PairGiven limits M′ L′ R′ 19
 
 -- Two pairs get the same answers: asked with the same request or key, and with the same buffer lent, two outcomes,
 -- results or refusals, each with its buffer at exit, that meet the promises of a question on the two pairs are
@@ -49,12 +50,11 @@ pub record SameAnswers (M : Mode) (L R : List ℕ) (M′ : Mode) (L′ R′ : Li
       → ValuesPromise M L R key out o b → ValuesPromise M′ L′ R′ key out o′ b′ → (o ≡ o′) × (b ≡ b′)
 
 -- One constant is added to both sides, at whatever places.
-pub record ConstantAdded (M : Mode) (L R L′ R′ : List ℕ) : Type 0 where
-  -- a constant, 64 to 127, that does not move
+pub record ConstantAdded (L R L′ R′ : List ℕ) : Type 0 where
+  -- a constant, 64 to 127
   pub constant : ℕ
   pub from-64 : 64 ≤ constant
   pub to-127 : constant < 128
-  pub stays : M .moves constant ≡ false
   -- each side has one more of it, and of every other atom as many as before
   pub on-left : SameSum L′ (constant ∷ L)
   pub on-right : SameSum R′ (constant ∷ R)

@@ -6,15 +6,16 @@ use native.Mathlib.Omega.{arith}
 use mathlib.Core.Path.{_≡_, refl, sym, subst, subst₂}
 use mathlib.Core.Bool.{true}
 use mathlib.Core.List.{List, List·Memᴰ, List·Memᴰ·head, List·Memᴰ·tail}
-use Rattle.ac.specs.Pair.{unifying}
+use Rattle.ac.specs.Pair.{unifying, matching}
 use Rattle.ac.specs.Search.{groups}
 use Rattle.ac.specs.Keys.{layout, keys}
+use Rattle.pair.specs.declared.ways.Way.the-variants.{Unifying, Matching}
 use Rattle.solver.specs.Rows.{sizesAs, sizesOf, allRows}
 use Rattle.solver.specs.Values.{valuesOf}
 use Rattle.whole.specs.Alike.{SameAnswers}
 use Rattle.whole.proofs.Rewritten.{multisets-answers, swapped-answers, added-answers}
 use Rattle.worked.specs.Answers.{RowsAnswers, PageAnswers, ValuesAnswers}
-use Rattle.worked.specs.Rewritten.{left, right, leftReordered, rightReordered, leftWithC2, rightWithC2, itsRows, itsKeys, valuesOfSix, AnswersOfExample}
+use Rattle.worked.specs.Rewritten.{left, right, leftReordered, rightReordered, leftWithC2, rightWithC2, pattern, subject, patternWithC1, subjectWithC1, itsRows, itsKeys, valuesOfSix, AnswersOfExample}
 use Rattle.worked.proofs.Within.{all}
 use Rattle.worked.proofs.Worked.{tests, computed}
 
@@ -53,7 +54,7 @@ with-c2 = found leftWithC2 rightWithC2 refl refl refl refl refl
 
 -- All answers are the same, whatever is asked and lent.
 pub reordered-same : SameAnswers unifying left right unifying leftReordered rightReordered
-reordered-same = multisets-answers (λ a. omega arith) (λ a. omega arith)
+reordered-same = multisets-answers Unifying (λ a. omega arith) (λ a. omega arith)
 
 pub swapped-same : SameAnswers unifying left right unifying right left
 swapped-same = swapped-answers
@@ -65,7 +66,6 @@ with-c2-same =
       constant = 66;
       from-64 = omega arith;
       to-127 = omega arith;
-      stays = refl;
       on-left = λ a. omega arith;
       on-right = λ a. omega arith;
       left-some = omega arith;
@@ -73,3 +73,22 @@ with-c2-same =
       left-within = omega arith;
       right-within = omega arith;
     })
+    Unifying
+
+-- Matching, so it is of v0+v1 and v2+c0, which have two matches (`two-matches`, ac/proofs/MatchingExample.antt),
+-- reordered and with c1 added.
+pub matching-same : SameAnswers (matching pattern) pattern subject (matching patternWithC1) patternWithC1 subjectWithC1
+matching-same =
+    added-answers
+    (record {
+      constant = 65;
+      from-64 = omega arith;
+      to-127 = omega arith;
+      on-left = λ a. omega arith;
+      on-right = λ a. omega arith;
+      left-some = omega arith;
+      right-some = omega arith;
+      left-within = omega arith;
+      right-within = omega arith;
+    })
+    Matching

@@ -1,5 +1,5 @@
--- One pair written in four ways, and what the questions answer of it however it is written (document 02, R-6); and a
--- block with its two terms swapped, of which they answer otherwise.
+-- One pair written in four ways, and what the questions answer of it however it is written (document 02, R-6); a
+-- pattern and a subject written in two; and a block with its two terms swapped, of which they answer otherwise.
 use Prim.Native.Nat.{ℕ}
 use mathlib.Core.List.{List, [], _∷_}
 use Rattle.solver.specs.Rows.{sizesAs}
@@ -54,6 +54,20 @@ pub record AnswersOfExample (L R : List ℕ) : Type 0 where
   pub the-rows : RowsAnswers L R (sizesAs 3 2 2 2 0 0) itsRows
   pub the-list : PageAnswers L R itsKeys
   pub values-of-six : ValuesAnswers L R 6 valuesOfSix
+
+-- v0+v1 and v2+c0, a pattern and a subject
+abbrev pub pattern : List ℕ
+pattern = 0 ∷ 1 ∷ []
+
+abbrev pub subject : List ℕ
+subject = 2 ∷ 64 ∷ []
+
+-- the same reordered and with c1 added
+abbrev pub patternWithC1 : List ℕ
+patternWithC1 = 1 ∷ 65 ∷ 0 ∷ []
+
+abbrev pub subjectWithC1 : List ℕ
+subjectWithC1 = 64 ∷ 2 ∷ 65 ∷ []
 
 -- v0 and v1+c0, as block 0
 abbrev pub oneWay : List ℕ

@@ -165,7 +165,11 @@ impl Questions {
         if way == Way::Matching && !self.chance.one_in(8) {
             sides = apart(&sides);
         }
+        let from = self.number();
         self.ask_sampled(way, &sides);
+        if self.chance.one_in(4) {
+            self.ask_rewritten(way, from)?;
+        }
         let is_short =
             Solved::of(way, &sides).is_ok_and(|solved| (1..=SHORT_LIST).contains(&solved.list.number()));
         if is_short && self.chance.one_in(4) {

@@ -1,9 +1,16 @@
 //! The questions of a comparison: the fixed ones, then random ones up to the stated number.
 
+use crate::answer::answer;
 use crate::block::Sides;
 use crate::chance::Chance;
-use crate::pair::Way;
+use crate::names::told;
+use crate::pair::{Way, FIRST_CONSTANT, LAST_ATOM};
 use crate::question::{Ask, Question};
+use crate::sides::shuffled;
+use crate::solved::Solved;
+
+/// A side of this many atoms takes no further one.
+const MOST_ATOMS: usize = 64;
 
 /// The longest buffer in bytes.
 const LONGEST_BUFFER: usize = 4096;
@@ -41,6 +48,47 @@ pub fn questions(seed: u64, total: usize) -> Result<Vec<Question>, String> {
 }
 
 impl Questions {
+    /// Asks the questions from a place on once more, of the same pair in another order, swapped where all variables move,
+    /// and with a constant added to both sides. An error if an own answer is another then (document 02, R-6).
+    pub fn ask_rewritten(&mut self, way: Way, from: usize) -> Result<(), String> {
+        for question in self.asked[from..].to_vec() {
+            for sides in self.rewritten(way, &question.sides) {
+                let again = Question { sides, ..question.clone() };
+                if answer(&again, Solved::of) != answer(&question, Solved::of) {
+                    return Err(format!(
+                        "{} is answered otherwise than {}",
+                        told(&again.sides),
+                        told(&question.sides)
+                    ));
+                }
+                self.asked.push(again);
+            }
+        }
+        Ok(())
+    }
+
+    /// How many questions have been asked.
+    pub fn number(&self) -> usize {
+        self.asked.len()
+    }
+
+    /// The other ways in which a pair may be written.
+    fn rewritten(&mut self, way: Way, sides: &Sides) -> Vec<Sides> {
+        let mut rewritten = vec![shuffled(&mut self.chance, sides)];
+        if way == Way::Unifying {
+            rewritten.push(Sides { left: sides.right.clone(), right: sides.left.clone() });
+        }
+        let (left, right) = (&sides.left, &sides.right);
+        let constant = self.chance.byte(FIRST_CONSTANT, LAST_ATOM);
+        if [left, right].iter().all(|side| (1..MOST_ATOMS).contains(&side.len())) {
+            rewritten.push(Sides {
+                left: [&[constant], &left[..]].concat(),
+                right: [&right[..], &[constant]].concat(),
+            });
+        }
+        rewritten
+    }
+
     /// Adds a question whose buffers are long enough.
     pub fn ask(&mut self, ask: Ask, sides: &Sides) {
         let first = self.long_enough(ask);

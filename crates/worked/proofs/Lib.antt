@@ -12,6 +12,7 @@ pub mod WrongValues
 pub mod WrongTallies
 pub mod TooFrequent
 pub mod WrongAtoms
+pub mod WrongMatches
 pub mod Writing
 pub mod WrongWrites
 pub mod Rewritten

@@ -29,7 +29,7 @@ module _ (L R : List ℕ) where
 
   -- the limits are kept, and there are at most 200 keys
   abbrev pub tests : List Bool
-  tests = within L R ∷ leb (length list) 200 ∷ []
+  tests = within unifying L R ∷ leb (length list) 200 ∷ []
 
 -- the tests of a pair
 abbrev testPair : Pair → Bool
@@ -41,7 +41,7 @@ all-pass = refl
 
 module _ (L R : List ℕ) (passes : all (tests L R) ≡ true) where
   never : (n : ℕ) → PairGiven limits unifying L R n → ⊥
-  never n = never-given L R (each (tests L R) passes 0)
+  never n = never-given unifying L R (each (tests L R) passes 0)
 
   -- so the questions answer by the groups that the search finds
   pub computed : AnswersBy L R (groups unifying L R)

@@ -43,7 +43,7 @@ one-key =
 -- pair 2: after key 6, six follow
 six-follow : (out : List ℕ) → 200 ≤ length out
     → Answers pageQuestion (asked 2 (after 6)) out (given (pageOf 6 false)) (receives out (7 ∷ 9 ∷ 11 ∷ 13 ∷ 14 ∷ 15 ∷ []))
-six-follow = page-from (groups-exist unifying L R) (λ n. never-given L R refl) (after 6) on-list 7
+six-follow = page-from (groups-exist unifying L R) (λ n. never-given unifying L R refl) (after 6) on-list 7
     (9 ∷ 11 ∷ 13 ∷ 14 ∷ 15 ∷ []) refl (omega arith)
   where
     L : List ℕ

@@ -1,7 +1,9 @@
 -- The questions of document 01, and Write of document 02, in one form: what is asked, what is lent, what it comes to, and what is promised.
 use Prim.Native.Nat.{ℕ}
 use mathlib.Core.List.{List}
-use Rattle.ac.specs.Pair.{unifying}
+use Rattle.pair.specs.Ways.{modeOf}
+use Rattle.pair.specs.declared.ways.Way.{Way}
+use Rattle.pair.specs.declared.ways.Way.the-variants.{Unifying}
 use Rattle.ac.specs.Keys.{Beginning}
 use Rattle.numbers.specs.Outcome.{Outcome}
 use Rattle.block.specs.Read.{SideLengths, ReadPromise}
@@ -58,23 +60,32 @@ ofSides Also Values Promise =
       Promise = λ asked. Promise (asked .left) (asked .right) (asked .also);
     }
 
--- Rows: two sides, and nothing else
+-- Rows, by each way of listing: two sides, and nothing else
+abbrev pub rowsQuestionBy : Way → Question
+rowsQuestionBy way = ofSides (Unit {0}) GroupSizes (λ L R nothing. RowsPromise (modeOf way L R) L R)
+
 abbrev pub rowsQuestion : Question
-rowsQuestion = ofSides (Unit {0}) GroupSizes (λ L R nothing. RowsPromise unifying L R)
+rowsQuestion = rowsQuestionBy Unifying
 
 -- Page: and a request made of where to begin and how many are wanted
 pub record Request : Type 0 where
   pub begin : Beginning
   pub wanted : ℕ
 
--- Page
-abbrev pub pageQuestion : Question
-pageQuestion =
-    ofSides Request PageWritten (λ L R request. PagePromise unifying L R (request .begin) (request .wanted))
+-- Page, by each way of listing
+abbrev pub pageQuestionBy : Way → Question
+pageQuestionBy way =
+    ofSides Request PageWritten (λ L R request. PagePromise (modeOf way L R) L R (request .begin) (request .wanted))
 
--- Values: and a key
+abbrev pub pageQuestion : Question
+pageQuestion = pageQuestionBy Unifying
+
+-- Values, by each way of listing: and a key
+abbrev pub valuesQuestionBy : Way → Question
+valuesQuestionBy way = ofSides ℕ ℕ (λ L R key. ValuesPromise (modeOf way L R) L R key)
+
 abbrev pub valuesQuestion : Question
-valuesQuestion = ofSides ℕ ℕ (λ L R key. ValuesPromise unifying L R key)
+valuesQuestion = valuesQuestionBy Unifying
 
 -- Write: and the number that the block is to have
 abbrev pub writeQuestion : Question

@@ -4,12 +4,15 @@
 -- stands on both sides and none of 16, 7 and 8 is given.
 -- `rows-without-19`, `page-without-19`, `values-without-19`. Where a variable may stand on both sides, as in unifying, 19
 -- is never given, and a question promises what it promises over its list without 19.
+-- `read-never-19`. Of the sides that Read gave of a block it is never given, in no way of listing.
 use Prim.Native.Nat.{ℕ}
 use native.Mathlib.Omega.{arith}
 use mathlib.Core.Path.{_≡_, refl, sym, subst, _∙_}
 use mathlib.Core.Logic.{_↔_}
 use mathlib.Core.Bool.{true, false, true≢false}
 use mathlib.Core.List.{List, [], _∷_, _++_}
+use borrow.Author.Tests.{ltb-true}
+use lib.ListN.{take}
 use Rattle.ac.specs.Limits.{limits}
 use Rattle.ac.specs.Pair.{Mode, matching}
 use Rattle.ac.specs.Keys.{Beginning}
@@ -17,13 +20,14 @@ use Rattle.ac.proofs.Groups.{groups-exist}
 use Rattle.numbers.specs.First.{NoneOf}
 use Rattle.numbers.specs.Numbers.{saidOf}
 use Rattle.numbers.specs.Order.{sidesNumbers}
-use Rattle.numbers.specs.Outcome.{Outcome, refused, Promise, is-refused}
+use Rattle.numbers.specs.Outcome.{Outcome, refused, given, Promise, is-refused}
 use Rattle.numbers.specs.declared.Refusal.the-variants as why
 use Rattle.numbers.proofs.Carried.{first-exactly, its-member}
 use Rattle.numbers.proofs.Dropped.{never-given-dropped}
 use Rattle.numbers.proofs.Parts.{given-sides}
 use Rattle.numbers.proofs.Promises.{OneResult, refused-first, outcome-determined}
 use Rattle.numbers.proofs.Said.{refuses-other}
+use Rattle.block.specs.Read.{SideLengths, ReadPromise}
 use Rattle.pair.specs.Given.{LowestFar, OnBothSides, PairGiven, side-length, no-atom, on-both-sides, many-variables, far-net-count, many-constants, many-rows}
 use Rattle.solver.specs.Rows.{GroupSizes, RowsGiven, RowsGives, RowsPromise}
 use Rattle.solver.specs.Rows as its-rows
@@ -33,6 +37,7 @@ use Rattle.solver.specs.Values.{ValuesGiven, ValuesGives, ValuesPromise}
 use Rattle.solver.specs.Values as its-values
 use Rattle.solver.proofs.Determined.{one-rows, one-page, one-values}
 use Rattle.solver.proofs.Given.{rows-made, page-made, values-made}
+use Rattle.whole.proofs.Apart.{no-variable-on-both}
 
 -- the numbers before 19, in order
 abbrev pub beforeNineteen : List ℕ
@@ -51,7 +56,7 @@ module _ {M : Mode} {L R : List ℕ} where
 
   -- a question that gives it exactly where the sides do never gives it where a variable may stand on both
   never : {ItsNineteen : Type 0} → PairGiven limits M L R 19 ↔ ItsNineteen → M .separate ≡ false → ItsNineteen → ⊥
-  never same shared given = true≢false (sym (of-both refl (same .1 given) .0) ∙ shared)
+  never same shared nineteen = true≢false (sym (of-both refl (same .1 nineteen) .0) ∙ shared)
 
   -- and where none may, exactly where one does and no number before it is given
   nineteen-exactly : {Given : ℕ → Type 0} → PairGiven limits M L R 19 ↔ Given 19 → M .separate ≡ true
@@ -67,8 +72,8 @@ module _ {M : Mode} {L R : List ℕ} where
         let both = first-exactly beforeNineteen others refl .0 first in
         (both .0, of-both refl (same .1 (both .1)) .1),
     λ both.
-        let given = same .0 (on-both-sides separate (both .1)) in
-        let first = first-exactly beforeNineteen others refl .1 (both .0, given) in
+        let nineteen = same .0 (on-both-sides separate (both .1)) in
+        let first = first-exactly beforeNineteen others refl .1 (both .0, nineteen) in
         outcome-determined one promise (is-refused (refuses-other why.OnBothSides refl first)) .0,
   )
 
@@ -124,3 +129,12 @@ module _ {M : Mode} (shared : M .separate ≡ false) {L R : List ℕ} where
       (16 ∷ 7 ∷ 8 ∷ 9 ∷ 10 ∷ 11 ∷ 12 ∷ 13 ∷ 14 ∷ 17 ∷ []) (ValuesGives M L R key out) out outcome out′
   values-without-19 =
       never-given-dropped 19 (never values-of-sides shared) beforeNineteen (9 ∷ 10 ∷ 11 ∷ 12 ∷ 13 ∷ 14 ∷ 17 ∷ [])
+
+-- Read gives the right term's variables other numbers than the left one's.
+pub read-never-19 : {M : Mode} {block : List ℕ} {number : ℕ} {left right left′ right′ : List ℕ} {lengths : SideLengths}
+    → ReadPromise block number left right (given lengths) left′ right′
+    → PairGiven limits M (take (lengths .left) left′) (take (lengths .right) right′) 19 → ⊥
+read-never-19 read shared =
+    let both = of-both refl shared .1 in
+    no-variable-on-both read (both .variable) (ltb-true (both .variable) 64 (both .is-variable))
+    (both .on-left) (both .on-right)

@@ -1,15 +1,16 @@
--- The nightly program's text is determined: two texts of the same blocks are identical.
+-- A library's text is determined: two texts of the same blocks by one way of listing are identical.
 use Prim.Native.Nat.{ℕ}
 use mathlib.Core.Path.{_≡_, refl, ap, ap₂, sym, subst₂, _∙_}
 use mathlib.Core.Bool.{Bool}
 use mathlib.Core.List.{List, [], _∷_, _++_}
 use lib.ListN.{take}
-use Rattle.ac.specs.Pair.{unifying}
 use Rattle.ac.specs.Values.{Binding}
 use Rattle.ac.proofs.Groups.{groups-unique}
 use Rattle.numbers.specs.Outcome.{Said, Outcome, refused, given}
 use Rattle.numbers.proofs.Promises.{outcome-determined, refused-not-given, same-values}
 use Rattle.block.specs.Read.{SideLengths}
+use Rattle.pair.specs.Ways.{modeOf}
+use Rattle.pair.specs.declared.ways.Way.{Way}
 use Rattle.block.proofs.Determined.{one-read}
 use Rattle.solver.specs.Rows.{GroupSizes}
 use Rattle.solver.specs.Page.{PageWritten}
@@ -33,8 +34,8 @@ same-refusal {said = said} {said′} e =
     let same : said ≡ said′ = cc e in
     record { same-returned = ap refused same; same-page = refl }
 
-pub pair-determined : {L R : List ℕ} {r r′ : Outcome BlockFound} {p p′ : List (List Binding)}
-    → PairFound L R r p → PairFound L R r′ p′ → SameFound r r′ p p′
+pub pair-determined : {way : Way} {L R : List ℕ} {r r′ : Outcome BlockFound} {p p′ : List (List Binding)}
+    → PairFound way L R r p → PairFound way L R r′ p′ → SameFound r r′ p p′
 pair-determined (rows-refused f) (rows-refused g) = same-refusal (outcome-determined one-rows f g .0)
 pair-determined (rows-refused f) (page-refused g page) =
     absurd (refused-not-given (outcome-determined one-rows f g .0))
@@ -50,9 +51,9 @@ pair-determined (a-page f page of) (rows-refused g) =
     absurd (refused-not-given (outcome-determined one-rows g f .0))
 pair-determined (a-page f page of) (page-refused g page′) =
     absurd (refused-not-given (outcome-determined one-page page′ page .0))
-pair-determined {L} {R} (a-page {sizes = z} {page = w} {keys = keys} {G = G} f page of)
+pair-determined {way} {L} {R} (a-page {sizes = z} {page = w} {keys = keys} {G = G} f page of)
     (a-page {sizes = z′} {page = w′} {keys = keys′} {G = H} g page′ of′) =
-    let same-groups : G ≡ H = groups-unique unifying L R of of′ in
+    let same-groups : G ≡ H = groups-unique (modeOf way L R) L R of of′ in
     let same-sizes : z ≡ z′ = same-values (outcome-determined one-rows f g .0) in
     let both = outcome-determined one-page page page′ in
     let same-written : w ≡ w′ = same-values (both .0) in
@@ -64,14 +65,14 @@ pair-determined {L} {R} (a-page {sizes = z} {page = w} {keys = keys} {G = G} f p
     }
 
 -- what a block comes to
-pub found-determined : {block : List ℕ} {number : ℕ} {r r′ : Outcome BlockFound} {p p′ : List (List Binding)}
-    → Returns block number r p → Returns block number r′ p′ → SameFound r r′ p p′
+pub found-determined : {way : Way} {block : List ℕ} {number : ℕ} {r r′ : Outcome BlockFound} {p p′ : List (List Binding)}
+    → Returns way block number r p → Returns way block number r′ p′ → SameFound r r′ p p′
 found-determined (read-refused f) (read-refused g) = same-refusal (outcome-determined one-read f g .0)
 found-determined (read-refused f) (sides g pair) =
     absurd (refused-not-given (outcome-determined one-read f g .0))
 found-determined (sides f pair) (read-refused g) =
     absurd (refused-not-given (outcome-determined one-read g f .0))
-found-determined {r = r} {r′} {p} {p′}
+found-determined {way} {r = r} {r′} {p} {p′}
     (sides {lengths = n} {left = left} {right = right} f pair)
     (sides {lengths = n′} {left = left′} {right = right′} g pair′) =
     let same = outcome-determined one-read f g in
@@ -80,17 +81,17 @@ found-determined {r = r} {r′} {p} {p′}
     let right-length = ap (λ (n : SideLengths). n .right) lengths in
     let same-left = ap₂ (λ (k : ℕ) (l : List ℕ). take k l) left-length (ap (λ b. b .0) (same .1)) in
     let same-right = ap₂ (λ (k : ℕ) (l : List ℕ). take k l) right-length (ap (λ b. b .1) (same .1)) in
-    pair-determined (subst₂ (λ L R. PairFound L R r p) same-left same-right pair) pair′
+    pair-determined (subst₂ (λ L R. PairFound way L R r p) same-left same-right pair) pair′
 
 -- the lines and the text of blocks
 pub record SameText (ls ls′ : List Line) (t t′ : List ℕ) : Type 0 where
   pub same-lines : ls ≡ ls′
   pub same-text : t ≡ t′
 
-pub blocks-determined : {place : ℕ} {blocks : List (List ℕ)} {ls ls′ : List Line} {t t′ : List ℕ}
-    → BlocksText place blocks ls t → BlocksText place blocks ls′ t′ → SameText ls ls′ t t′
+pub blocks-determined : {way : Way} {place : ℕ} {blocks : List (List ℕ)} {ls ls′ : List Line} {t t′ : List ℕ}
+    → BlocksText way place blocks ls t → BlocksText way place blocks ls′ t′ → SameText ls ls′ t t′
 blocks-determined no-more no-more = record { same-lines = refl; same-text = refl }
-blocks-determined {place} (one-more {returned = r} {page = p} found rest)
+blocks-determined {place = place} (one-more {returned = r} {page = p} found rest)
     (one-more {returned = r′} {page = p′} found′ rest′) =
     let same = found-determined found found′ in
     let others = blocks-determined rest rest′ in
@@ -102,8 +103,8 @@ blocks-determined {place} (one-more {returned = r} {page = p} found rest)
     }
 
 -- Two texts of the same blocks are identical.
-pub library-determined : {blocks : List (List ℕ)} {remains : Bool} {text text′ : List ℕ}
-    → LibraryText blocks remains text → LibraryText blocks remains text′ → text ≡ text′
+pub library-determined : {way : Way} {blocks : List (List ℕ)} {remains : Bool} {text text′ : List ℕ}
+    → LibraryText way blocks remains text → LibraryText way blocks remains text′ → text ≡ text′
 library-determined {remains = remains} first second =
     let same = blocks-determined (first .of-blocks) (second .of-blocks) in
     first .whole

@@ -7,7 +7,6 @@ use mathlib.Core.Logic.{_⊎_, inl, inr, ⊎-elim}
 use mathlib.Core.List.{List, [], _∷_, List·Memᴰ}
 use lib.ListN.{length}
 use Rattle.ac.specs.Lists.{receives}
-use Rattle.ac.specs.Pair.{unifying}
 use Rattle.ac.specs.Rows.{Groups, GroupsOf}
 use Rattle.ac.specs.Keys.{start, layout, keys}
 use Rattle.ac.specs.Values.{Binding}
@@ -23,6 +22,8 @@ use Rattle.block.proofs.Faults.{term-or-fault, fault-is-no-term}
 use Rattle.list.specs.Given.{ListGiven}
 use Rattle.ac.specs.Limits.{limits}
 use Rattle.pair.specs.Given.{PairGiven}
+use Rattle.pair.specs.Ways.{modeOf}
+use Rattle.pair.specs.declared.ways.Way.{Way}
 use Rattle.numbers.specs.Order.{readNumbers, sidesNumbers, beginningNumbers}
 use Rattle.numbers.specs.Outcome.{Outcome, given, is-refused, is-given}
 use Rattle.numbers.proofs.Parts.{first-of-sides, none-of-sides}
@@ -37,28 +38,28 @@ use Rattle.lines.specs.Library.{mostBlocks, lent, PairFound, rows-refuse
 use Rattle.lines.proofs.Decided.{read-settled, pair-settled, list-settled}
 
 -- something is returned for two sides, and for a block
-record SomePair (L R : List ℕ) : Type 0 where
+record SomePair (way : Way) (L R : List ℕ) : Type 0 where
   pub returned : Outcome BlockFound
   pub page : List (List Binding)
-  pub found : PairFound L R returned page
+  pub found : PairFound way L R returned page
 
-pub record SomeFound (block : List ℕ) (number : ℕ) : Type 0 where
+pub record SomeFound (way : Way) (block : List ℕ) (number : ℕ) : Type 0 where
   pub returned : Outcome BlockFound
   pub page : List (List Binding)
-  pub found : Returns block number returned page
+  pub found : Returns way block number returned page
 
-module _ (L R : List ℕ) {G : Groups} (of : GroupsOf unifying L R G) where
-  module _ (none : NoneOf (PairGiven limits unifying L R) sidesNumbers) where
+module _ (way : Way) (L R : List ℕ) {G : Groups} (of : GroupsOf (modeOf way L R) L R G) where
+  module _ (none : NoneOf (PairGiven limits (modeOf way L R) L R) sidesNumbers) where
     -- sides within the limits have their rows ..
-    rows-given : RowsPromise unifying L R (lent rowsBuffer) (given (sizesOf G))
+    rows-given : RowsPromise (modeOf way L R) L R (lent rowsBuffer) (given (sizesOf G))
         (receives (lent rowsBuffer) (bytesOf (allRows G)))
     rows-given = is-given (none-of-sides rows-made (omega arith) none) (rows of)
 
     -- .. and a page, or 13
-    some-page : SomePair L R
-    some-page = by-list (list-settled (keys unifying layout L R G))
+    some-page : SomePair way L R
+    some-page = by-list (list-settled (keys (modeOf way L R) layout L R G))
       where
-        by-list : Settled (ListGiven (keys unifying layout L R G) start) beginningNumbers → SomePair L R
+        by-list : Settled (ListGiven (keys (modeOf way L R) layout L R G) start) beginningNumbers → SomePair way L R
         by-list (settled-given first) =
             record {
               returned = _;
@@ -74,10 +75,10 @@ module _ (L R : List ℕ) {G : Groups} (of : GroupsOf unifying L R G) where
               found = a-page rows-given (is-given (page-none of none (omega arith) nothing) (next of)) of;
             }
 
-  some-pair : SomePair L R
-  some-pair = by-sides (pair-settled unifying L R of)
+  some-pair : SomePair way L R
+  some-pair = by-sides (pair-settled (modeOf way L R) L R of)
     where
-      by-sides : Settled (PairGiven limits unifying L R) sidesNumbers → SomePair L R
+      by-sides : Settled (PairGiven limits (modeOf way L R) L R) sidesNumbers → SomePair way L R
       by-sides (settled-given first) =
           let said = something-said lowest-exists first in
           record {
@@ -88,8 +89,8 @@ module _ (L R : List ℕ) {G : Groups} (of : GroupsOf unifying L R G) where
       by-sides (settled-none none) = some-page none
 
 -- The questions return something for every block.
-pub some-found : (block : List ℕ) (number : ℕ) → SomeFound block number
-some-found block number = by-read (read-settled block number (lent 64) (lent 64) long)
+pub some-found : (way : Way) (block : List ℕ) (number : ℕ) → SomeFound way block number
+some-found way block number = by-read (read-settled block number (lent 64) (lent 64) long)
   where
     long : (length (lent 64) < 64) ⊎ (length (lent 64) < 64) → ⊥
     long (inl short) = omega arith
@@ -99,7 +100,7 @@ some-found block number = by-read (read-settled block number (lent 64) (lent 64)
     a-term : {bytes : List ℕ} → (NoTerm bytes → ⊥) → (t : Term) × Writes bytes t
     a-term {bytes} some = ⊎-elim (λ term. term) (λ fault. absurd (some (fault-is-no-term fault))) (term-or-fault bytes)
 
-    by-read : Settled (ReadGiven block number (lent 64) (lent 64)) readNumbers → SomeFound block number
+    by-read : Settled (ReadGiven block number (lent 64) (lent 64)) readNumbers → SomeFound way block number
     by-read (settled-given first) =
         record { returned = _; page = []; found = read-refused (is-refused (number-alone refl first)) }
     by-read (settled-none none) =
@@ -107,27 +108,27 @@ some-found block number = by-read (read-settled block number (lent 64) (lent 64)
         let left = a-term (λ no-left. none-given none five (no-term (inl no-left))) in
         let right = a-term (λ no-right. none-given none five (no-term (inr no-right))) in
         let promise = is-given none (read.sides (left .1) (right .1)) in
-        let pair = some-pair _ _ (groups-exist unifying _ _) in
+        let pair = some-pair way _ _ (groups-exist _ _ _) in
         record { returned = pair .returned; page = pair .page; found = sides promise (pair .found) }
 
 -- blocks have their text, from every place on
-record SomeText (place : ℕ) (blocks : List (List ℕ)) : Type 0 where
+record SomeText (way : Way) (place : ℕ) (blocks : List (List ℕ)) : Type 0 where
   pub lines : List Line
   pub text : List ℕ
-  pub of-blocks : BlocksText place blocks lines text
+  pub of-blocks : BlocksText way place blocks lines text
 
-some-text : (place : ℕ) (blocks : List (List ℕ)) → SomeText place blocks
-some-text place [] = record { lines = []; text = []; of-blocks = no-more }
-some-text place (block ∷ blocks) =
-    let first = some-found block (place % 65536) in
-    let rest = some-text (place + 1) blocks in
+some-text : (way : Way) (place : ℕ) (blocks : List (List ℕ)) → SomeText way place blocks
+some-text way place [] = record { lines = []; text = []; of-blocks = no-more }
+some-text way place (block ∷ blocks) =
+    let first = some-found way block (place % 65536) in
+    let rest = some-text way (place + 1) blocks in
     record { lines = _; text = _; of-blocks = one-more (first .found) (rest .of-blocks) }
 
 -- Every list of as many blocks as may be read has its text; input remains only after the last of them.
-pub library-exists : (blocks : List (List ℕ)) (remains : Bool) → length blocks ≤ mostBlocks
-    → (remains ≡ true → length blocks ≡ mostBlocks) → (text : List ℕ) × LibraryText blocks remains text
-library-exists blocks remains few only =
-    let all = some-text 0 blocks in (
+pub library-exists : (way : Way) (blocks : List (List ℕ)) (remains : Bool) → length blocks ≤ mostBlocks
+    → (remains ≡ true → length blocks ≡ mostBlocks) → (text : List ℕ) × LibraryText way blocks remains text
+library-exists way blocks remains few only =
+    let all = some-text way 0 blocks in (
       _,
       record {
         at-most = few;

@@ -7,6 +7,7 @@ use mathlib.Core.List.{List, [], _∷_, _++_, append-assoc, append-nil}
 use lib.ListN.{length, length-append}
 use Rattle.ac.specs.Lists.{keep, filter}
 use Rattle.ac.specs.Values.{Binding}
+use Rattle.pair.specs.declared.ways.Way.{Way}
 use Rattle.output.specs.Step.{linesJoined}
 use Rattle.tally.specs.Line.{BlockFound, lineOf}
 use Rattle.numbers.specs.Outcome.{Outcome}
@@ -18,30 +19,30 @@ use Rattle.lines.specs.Lines.{blockLines}
 use Rattle.lines.specs.Library.{Returns, BlocksText, no-more, one-more, isListed, isNone, isRefused, howMany, countsOf}
 
 -- every block has one line
-pub line-each : {place : ℕ} {blocks : List (List ℕ)} {lines : List Line} {text : List ℕ}
-    → BlocksText place blocks lines text → length lines ≡ length blocks
+pub line-each : {way : Way} {place : ℕ} {blocks : List (List ℕ)} {lines : List Line} {text : List ℕ}
+    → BlocksText way place blocks lines text → length lines ≡ length blocks
 line-each no-more = refl
 line-each (one-more found rest) = ap suc (line-each rest)
 
 -- one block more stands at the place after the others
-pub blocks-more : {place : ℕ} {blocks : List (List ℕ)} {lines : List Line} {text : List ℕ}
+pub blocks-more : {way : Way} {place : ℕ} {blocks : List (List ℕ)} {lines : List Line} {text : List ℕ}
     {block : List ℕ} {returned : Outcome BlockFound} {page : List (List Binding)}
-    → BlocksText place blocks lines text → Returns block ((place + length blocks) % 65536) returned page
-    → BlocksText place (blocks ++ (block ∷ [])) (lines ++ (lineOf returned ∷ []))
+    → BlocksText way place blocks lines text → Returns way block ((place + length blocks) % 65536) returned page
+    → BlocksText way place (blocks ++ (block ∷ [])) (lines ++ (lineOf returned ∷ []))
     (text ++ linesJoined (blockLines (place + length blocks) (lineOf returned) page))
-blocks-more {place} {block = block} {returned = returned} {page = page} no-more found =
+blocks-more {way} {place} {block = block} {returned = returned} {page = page} no-more found =
     let same : place + 0 ≡ place = omega arith in
-    subst (λ (t : List ℕ). BlocksText place (block ∷ []) (lineOf returned ∷ []) t)
+    subst (λ (t : List ℕ). BlocksText way place (block ∷ []) (lineOf returned ∷ []) t)
     (append-nil (linesJoined (blockLines place (lineOf returned) page))
     ∙ ap (λ (k : ℕ). linesJoined (blockLines k (lineOf returned) page)) (sym same))
-    (one-more (subst (λ (k : ℕ). Returns block (k % 65536) returned page) same found) no-more)
-blocks-more {place} {blocks = first ∷ blocks} {block = block} {returned = returned} {page = page}
+    (one-more (subst (λ (k : ℕ). Returns way block (k % 65536) returned page) same found) no-more)
+blocks-more {way} {place} {blocks = first ∷ blocks} {block = block} {returned = returned} {page = page}
     (one-more {returned = r} {page = p} {lines = lines} {text = text} found-first rest) found =
     let same : place + suc (length blocks) ≡ place + 1 + length blocks = omega arith in
     let own = linesJoined (blockLines place (lineOf r) p) in
-    let more = blocks-more rest (subst (λ (k : ℕ). Returns block (k % 65536) returned page) same found) in
+    let more = blocks-more rest (subst (λ (k : ℕ). Returns way block (k % 65536) returned page) same found) in
     subst
-    (λ (t : List ℕ). BlocksText place (first ∷ blocks ++ (block ∷ [])) (lineOf r ∷ lines ++ (lineOf returned ∷ [])) t)
+    (λ (t : List ℕ). BlocksText way place (first ∷ blocks ++ (block ∷ [])) (lineOf r ∷ lines ++ (lineOf returned ∷ [])) t)
     (sym (append-assoc own text _)
     ∙ ap (λ (k : ℕ). own ++ text ++ linesJoined (blockLines k (lineOf returned) page)) (sym same))
     (one-more found-first more)

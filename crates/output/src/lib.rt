@@ -5,6 +5,8 @@
 // lines as long as there is room for one, and its contract is `Goes` and `Steps`: what was left before the step is
 // what was put and then what is left after it. What a call of `write` answers becomes a value here, so that only the
 // call itself stands outside the contracts.
+pub mod ending;
+
 use buffer::least;
 ghost use mathlib.Core.Path.{_≡_};
 ghost use Prim.Native.Nat.{_+_, _≤_};

@@ -8,10 +8,10 @@ mod packing;
 mod tell;
 
 use libc::STDIN_FILENO;
-use libc::STDOUT_FILENO;
 use library::Next;
-use output::Written;
-use output::write_out;
+use output::ending::give_verdict;
+use output::ending::tell_unwritten;
+use output::ending::write_last;
 use packing::Packing;
 use packing::Went;
 use packing::begin;
@@ -24,26 +24,11 @@ ghost use Rattle.pack.specs.Packing.{Ready, Finishes, PackedTo};
 // The input is read in so many pieces of 512 bytes at most, so that the program ends.
 const MOST_PIECES: u64 = 1_000_000_000_000_000;
 
-// Where the program says that every line was good and the last block was written out, if it is asked to.
-const VERDICT: i32 = 3;
-
 fn main() {
     let mut input = io::large_buffer();
     let mut output = io::large_buffer();
     if run(&mut input, &mut output) {
         give_verdict();
-    }
-}
-
-// The line `done`, where the program's only argument is `verdict`.
-fn give_verdict() {
-    if os::arg_count() != 2 {
-        return;
-    }
-    let mut word = [0u8; 8];
-    let length = os::arg(1, &mut word);
-    if check::same(&word[..length], b"verdict") {
-        io::write_all(VERDICT, b"done\n");
     }
 }
 
@@ -75,27 +60,6 @@ fn run(input: &mut [u8], output: &mut [u8]) -> bool
             tell_unwritten(error);
             false
         }
-    }
-}
-
-// Writes out what was not yet, and says whether all of it was taken.
-fn write_last(output: &[u8], at: usize) -> bool
-    requires { ⌜ at ≤ length (now output) ⌝ }
-{
-    let written = write_out(STDOUT_FILENO, output, at);
-    match written {
-        Written::All => true,
-        Written::Failed(error) => {
-            tell_unwritten(error);
-            false
-        }
-    }
-}
-
-// That writing failed is told, unless nobody reads any more.
-fn tell_unwritten(error: i32) {
-    if error != libc::EPIPE {
-        os::fail(b"standard output");
     }
 }
 

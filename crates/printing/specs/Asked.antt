@@ -1,0 +1,56 @@
+-- What is asked of a block: Read, and of the sides that it gives Rows and Page by a way of listing. What each returned
+-- is what its own promise says.
+use Prim.Native.Nat.{ℕ}
+use mathlib.Core.Path.{_≡_}
+use mathlib.Core.Bool.{Bool}
+use mathlib.Core.List.{List}
+use lib.ListN.{take, replicate}
+use Rattle.ac.specs.Keys.{start}
+use Rattle.block.specs.Read.{toldRead, ReadPromise}
+use Rattle.block.specs.declared.ReadAnswer.{ReadAnswer}
+use Rattle.block.specs.declared.ReadAnswer.the-variants.{Sides}
+use Rattle.block.specs.declared.ReadAnswer.the-variants as read
+use Rattle.solver.specs.Rows.{rowsBuffer, toldRows, RowsPromise}
+use Rattle.solver.specs.Page.{toldPage, PagePromise}
+use Rattle.solver.specs.declared.page.PageAnswer.the-variants.{Page}
+use Rattle.numbers.specs.First.{NoneOf}
+use Rattle.ac.specs.Limits.{limits}
+use Rattle.pair.specs.Given.{PairGiven}
+use Rattle.pair.specs.Ways.{modeOf}
+use Rattle.pair.specs.declared.ways.Way.{Way}
+use Rattle.numbers.specs.Order.{sidesNumbers}
+use Rattle.table.specs.Table.{TableOf}
+use Rattle.table.specs.declared.Table.{Table}
+use Rattle.printing.specs.declared.ask.Asked.{Asked}
+
+-- the lengths of the sides that Read gave; a refused block has none
+abbrev pub leftGiven : ReadAnswer → ℕ
+leftGiven (Sides left right) = left
+leftGiven (read.Refused refusal) = 0
+
+abbrev pub rightGiven : ReadAnswer → ℕ
+rightGiven (Sides left right) = right
+rightGiven (read.Refused refusal) = 0
+
+-- the table is that of two sides that give none of 7 to 12
+pub record SolvedPair (way : Way) (L R : List ℕ) (table : Table) : Type 0 where
+  pub none-given : NoneOf (PairGiven limits (modeOf way L R) L R) sidesNumbers
+  pub the-table : TableOf (modeOf way L R) L R table
+
+-- Rows and Page, of two sides, the page the first of 200
+pub record PairAsked (way : Way) (read : ReadAnswer) (L R keys : List ℕ) (a : Asked) (keys-after : List ℕ) : Type 0 where
+  pub same-read : a .read ≡ read
+  pub rows-after : List ℕ
+  pub rows-promise : RowsPromise (modeOf way L R) L R (replicate rowsBuffer 0) (toldRows (a .rows)) rows-after
+  pub page-promise : PagePromise (modeOf way L R) L R start 200 keys (toldPage (a .page)) keys-after
+  -- where there is a page, the table is that of the sides
+  pub solved : {written : ℕ} {more : Bool} → a .page ≡ Page written more → SolvedPair way L R (a .table)
+
+-- Read, of the block and the number that it is to have, and the other questions of the sides
+pub record BlockAsked (way : Way) (block : List ℕ) (number : ℕ) (keys : List ℕ) (a : Asked) (keys-after : List ℕ)
+    : Type 0 where
+  pub left : List ℕ
+  pub right : List ℕ
+  pub read-promise : ReadPromise block number (replicate 64 0) (replicate 64 0) (toldRead (a .read)) left right
+  pub pair : PairAsked way (a .read) (take (leftGiven (a .read)) left) (take (rightGiven (a .read)) right) keys
+      a keys-after

@@ -103,9 +103,9 @@ pub fn answer_with(question: &Question, fault: Option<Fault>) -> Answer {
 
 /// The nightly text of a library, wrong where a fault is planted.
 pub fn nightly_with(library: impl Read, mut output: impl Write, fault: Option<Fault>) -> io::Result<()> {
-    let Some(fault) = fault else { return text::nightly(library, output) };
+    let Some(fault) = fault else { return text::print_library(Way::Unifying, library, output) };
     let mut right_text = Vec::new();
-    text::nightly(library, &mut right_text)?;
+    text::print_library(Way::Unifying, library, &mut right_text)?;
     let text = String::from_utf8_lossy(&right_text);
     let spoiled = match fault {
         Fault::TextMore => text.replace("end 200\n", "more\n"),

@@ -34,6 +34,7 @@ mod tests;
 
 use crate::faults::Fault;
 use crate::library::Library;
+use crate::pair::Way;
 use std::io::{self, BufWriter};
 use std::process::ExitCode;
 
@@ -44,6 +45,7 @@ const DEFAULT_BLOCKS: u64 = 2000;
 const USAGE: &str = "second probe [--fault NAME]
 second compare [--seed N] [--questions N] --probe COMMAND [ARGUMENT ..]
 second nightly [--fault NAME]
+second matches
 second library [--seed N] [--blocks N] [--zeros N]
 second semantic [--probe COMMAND [ARGUMENT ..]]
 second faults --probe-self [--seed N] [--questions N]";
@@ -69,6 +71,9 @@ fn run(arguments: &[String]) -> Result<(), String> {
         "compare" => compare_with(&options),
         "nightly" => {
             faults::nightly_with(io::stdin().lock(), standard_output(), options.fault).map_err(in_words)
+        }
+        "matches" => {
+            text::print_library(Way::Matching, io::stdin().lock(), standard_output()).map_err(in_words)
         }
         "library" => options.library().write(standard_output()).map_err(in_words),
         "semantic" => check_semantic(&options),

@@ -14,7 +14,7 @@ use crate::refusal::Refusal;
 use crate::rows::{at_or_below, weight, Groups, Row, MOST_ROWS};
 use crate::sides::{all_pairs, apart, multisets, random_sides};
 use crate::solved::Solved;
-use crate::text::nightly;
+use crate::text::print_library;
 use std::collections::BTreeSet;
 
 /// A pair that must not be refused before its list.
@@ -338,11 +338,16 @@ fn block(beginning: &[u8], check: [u8; 2]) -> Vec<u8> {
     block
 }
 
+/// The text of a library by a way of listing.
+fn text_by(way: Way, library: &[u8]) -> String {
+    let mut text = Vec::new();
+    print_library(way, library, &mut text).expect("memory can be read and written");
+    String::from_utf8(text).expect("the text is in plain letters")
+}
+
 /// The nightly text of a library.
 fn text(library: &[u8]) -> String {
-    let mut text = Vec::new();
-    nightly(library, &mut text).expect("memory can be read and written");
-    String::from_utf8(text).expect("the text is in plain letters")
+    text_by(Way::Unifying, library)
 }
 
 /// Document 01's two blocks.
@@ -396,21 +401,34 @@ fn read_number(change: impl Fn(&mut Vec<u8>)) -> u8 {
     read(&changed, 0x0102).map_or_else(Refusal::number, |_| 0)
 }
 
-/// The text of a block whose terms are one atom or two.
-fn text_of(left: &[u8], right: &[u8]) -> String {
+/// The text of a block of two terms by a way of listing, without the counts.
+fn text_of(way: Way, left: &[u8], right: &[u8]) -> String {
     let lengths = [left, right].map(|term| term.len() as u8);
     let mut block = block(&[&[0, 0], &lengths[..], left, right].concat(), [0, 0]);
     seal(&mut block);
-    text(&block).lines().take_while(|line| !line.starts_with("blocks")).collect::<Vec<_>>().join(" / ")
+    let text = text_by(way, &block);
+    text.lines().take_while(|line| !line.starts_with("blocks")).collect::<Vec<_>>().join(" / ")
 }
 
 #[test]
 fn patterns_have_separate_variables() {
+    let text_of = |left, right| text_of(Way::Unifying, left, right);
     let overlap = "block 0 rows 1 2 / v3=c1 v35=c0 / v3=c1+n0 v35=c0+n0 / end 2";
     assert_eq!(text_of(&[PLUS, 3, 64], &[PLUS, 3, 65]), overlap);
     assert_eq!(text_of(&[0], &[0]), "block 0 rows 1 0 / v0=n0 v32=n0 / end 1");
     assert_eq!(text_of(&[0], &[PLUS, 0, 1]), "block 0 rows 2 0 / v0=n0+n1 v32=n1 v33=n0 / end 1");
     assert_eq!(text_of(&[31], &[31]), "block 0 rows 1 0 / v31=n0 v63=n0 / end 1");
+}
+
+#[test]
+fn matches_of_a_block() {
+    let text_of = |left, right| text_of(Way::Matching, left, right);
+    let four = "block 0 rows 0 5 / v0=v33 v1=v32+v32 / v0=v32 v1=v32+v33 / v0=v32+v33 v1=v32 / \
+                v0=v32+v32 v1=v33 / end 4";
+    assert_eq!(text_of(&[PLUS, 0, 1], &[PLUS, 0, PLUS, 0, 1]), four);
+    assert_eq!(text_of(&[PLUS, 0, 64], &[PLUS, 0, 64]), "block 0 rows 0 1 / v0=v32 / end 1");
+    assert_eq!(text_of(&[PLUS, 0, 0], &[PLUS, 64, 65]), "block 0 none");
+    assert_eq!(text_of(&[64], &[64]), "block 0 rows 0 0 / - / end 1");
 }
 
 #[test]

@@ -1,4 +1,4 @@
-//! The nightly text (document 01, The nightly program).
+//! The text of a library (document 01, The nightly program), of unifiers or of matches.
 
 use crate::block::{self, BLOCK};
 use crate::names::{name, sum};
@@ -18,8 +18,8 @@ struct Counts {
     refused: u64,
 }
 
-/// Reads a library and writes its nightly text.
-pub fn nightly(mut library: impl Read, mut text: impl Write) -> io::Result<()> {
+/// Reads a library and writes its text: the nightly one, or in matching the same of each block's matches.
+pub fn print_library(way: Way, mut library: impl Read, mut text: impl Write) -> io::Result<()> {
     let mut counts = Counts::default();
     let mut blocks = 0;
     let mut input_remains = false;
@@ -32,7 +32,7 @@ pub fn nightly(mut library: impl Read, mut text: impl Write) -> io::Result<()> {
             input_remains = true;
             break;
         }
-        write_block(&mut text, blocks, &block, &mut counts)?;
+        write_block(way, &mut text, blocks, &block, &mut counts)?;
         blocks += 1;
     }
     if input_remains {
@@ -56,8 +56,14 @@ fn next_block(library: &mut impl Read) -> io::Result<Vec<u8>> {
 }
 
 /// Writes the lines of one block and counts it by the kind of its line.
-fn write_block(text: &mut impl Write, place: u64, block: &[u8], counts: &mut Counts) -> io::Result<()> {
-    match block_lines(place, block) {
+fn write_block(
+    way: Way,
+    text: &mut impl Write,
+    place: u64,
+    block: &[u8],
+    counts: &mut Counts,
+) -> io::Result<()> {
+    match block_lines(way, place, block) {
         Ok(lines) => {
             counts.listed += 1;
             text.write_all(lines.as_bytes())
@@ -75,9 +81,9 @@ fn write_block(text: &mut impl Write, place: u64, block: &[u8], counts: &mut Cou
 }
 
 /// The lines of a listed block: its rows, its first page and whether that is all.
-fn block_lines(place: u64, block: &[u8]) -> Result<String, Refusal> {
+fn block_lines(way: Way, place: u64, block: &[u8]) -> Result<String, Refusal> {
     let expected = (place % 65_536) as u16;
-    let solved = Solved::of(Way::Unifying, &block::read(block, expected)?)?;
+    let solved = Solved::of(way, &block::read(block, expected)?)?;
     let page = solved.page(None, USUAL_COUNT as usize)?;
     let constant_rows: usize = solved.groups.constants.iter().map(Vec::len).sum();
     let mut lines = format!("block {place} rows {} {constant_rows}\n", solved.groups.balanced.len());

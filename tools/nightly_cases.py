@@ -1,9 +1,10 @@
 #!/usr/bin/env python3
-"""Make what tests/nightly runs: the libraries in tests/libraries, and what must be printed of them and of the examples.
+"""Make what tests/nightly runs: the libraries in tests/libraries, and what the nightly program and `matches` must print of
+them and of the examples.
 
     tools/nightly_cases.py SECOND
 
-SECOND is the second solver's program; it prints, the proved program does not.
+SECOND is the second solver's program; it prints, the proved programs do not.
 """
 import subprocess
 import sys
@@ -14,6 +15,9 @@ from library import block, left_brackets, library, pair, right_brackets
 ROOT = Path(__file__).resolve().parent.parent
 EXAMPLES = sorted((ROOT / "examples").glob("*.txt"))
 LIBRARIES = ROOT / "tests" / "libraries"
+
+# the programs, and the ending of the file with what each must print of a library
+PROGRAMS = {"nightly": ".out", "matches": ".matches"}
 
 # 204 unifiers (source document 002, B.2), more than a page
 LONG = "v0+v1+c0 = v2+v3+v4+c1"
@@ -43,20 +47,22 @@ def cases():
     yield "no_variables", b"".join(library(["c0 = c0", "c0+c1 = c1+c0", "c0 = c1"]))
 
 
-def printed(program, made):
-    """What the second solver prints of a library."""
-    return subprocess.run([program, "nightly"], input=made, capture_output=True, check=True).stdout
+def store(second, made, beside):
+    """What the second solver prints of a library for each of the programs, beside the library's own file."""
+    for program, ending in PROGRAMS.items():
+        text = subprocess.run([second, program], input=made, capture_output=True, check=True).stdout
+        beside.with_suffix(ending).write_bytes(text)
 
 
 def main():
     if len(sys.argv) != 2:
         sys.exit(__doc__)
     for name, made in cases():
-        (LIBRARIES / f"{name}.lib").write_bytes(made)
-        (LIBRARIES / f"{name}.out").write_bytes(printed(sys.argv[1], made))
+        path = LIBRARIES / f"{name}.lib"
+        path.write_bytes(made)
+        store(sys.argv[1], made, path)
     for example in EXAMPLES:
-        made = b"".join(library(example.open()))
-        example.with_suffix(".out").write_bytes(printed(sys.argv[1], made))
+        store(sys.argv[1], b"".join(library(example.open())), example)
 
 
 main()

@@ -1,4 +1,4 @@
--- What the program prints of a library: the blocks that reading it hands on, one after the other, and last what stands
+-- What is printed of a library: the blocks that reading it hands on, one after the other, and last what stands
 -- at the end.
 use Prim.Native.Nat.{ℕ, _≤_}
 use mathlib.Core.Bool.{true, false}

@@ -57,22 +57,27 @@ bits-mask (suc n) m =
 pub bits-mask-below : (n m : ℕ) → m < 2 ^ n → mask (bits n m) ≡ m
 bits-mask-below n m h = bits-mask n m ∙ mod-eq-of-lt h
 
+-- a number that is twice another, or one more, has one bit below the other's
+pub bits-next : (t : Bool) (n m : ℕ) → bits (suc n) (cond t 1 0 + 2 * m) ≡ t ∷ bits n m
+bits-next t n m =
+    ap₂ {C = List Bool} (λ b bs. b ∷ bs) (lowest t)
+    (bits-of-half (cond t 1 0 + 2 * m) 0 n ∙ ap (bits n) (halved t))
+  where
+    lowest : (b : Bool) → bit (cond b 1 0 + 2 * m) 0 ≡ b
+    lowest true = eq-eqb ((1 + 2 * m) / 1 % 2) 1 (omega arith)
+    lowest false = let none : (0 + 2 * m) / 1 % 2 ≡ 0 = omega arith in ap (λ (k : ℕ). eqb k 1) none
+
+    halved : (b : Bool) → (cond b 1 0 + 2 * m) / 2 ≡ m
+    halved true = omega arith
+    halved false = omega arith
+
 -- the bits of a mask are the truth values that it was made of
 pub mask-bits : (n : ℕ) (ts : List Bool) → length ts ≡ n → bits n (mask ts) ≡ ts
 mask-bits zero [] e = refl
 mask-bits zero (t ∷ ts) e = absurd (omega arith)
 mask-bits (suc n) [] e = absurd (omega arith)
 mask-bits (suc n) (t ∷ ts) e =
-    ap₂ {C = List Bool} (λ b bs. b ∷ bs) (lowest t)
-    (bits-of-half (mask (t ∷ ts)) 0 n ∙ ap (bits n) (halved t) ∙ mask-bits n ts (omega arith))
-  where
-    lowest : (b : Bool) → bit (cond b 1 0 + 2 * mask ts) 0 ≡ b
-    lowest true = eq-eqb ((1 + 2 * mask ts) / 1 % 2) 1 (omega arith)
-    lowest false = let none : (0 + 2 * mask ts) / 1 % 2 ≡ 0 = omega arith in ap (λ (m : ℕ). eqb m 1) none
-
-    halved : (b : Bool) → (cond b 1 0 + 2 * mask ts) / 2 ≡ mask ts
-    halved true = omega arith
-    halved false = omega arith
+    bits-next t n (mask ts) ∙ ap {B = List Bool} (λ bs. t ∷ bs) (mask-bits n ts (omega arith))
 
 -- a mask of n truth values is below 2 ^ n
 pub mask-below : (n : ℕ) (ts : List Bool) → length ts ≡ n → mask ts < 2 ^ n

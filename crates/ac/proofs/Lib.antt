@@ -32,8 +32,10 @@ pub mod Independent
 pub mod Theorems
 pub mod WrongSelections
 pub mod Keys
+pub mod HowMany
 pub mod Fields
 pub mod Listed
+pub mod Counting
 pub mod Pages
 pub mod Fages
 pub mod Atoms

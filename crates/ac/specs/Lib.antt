@@ -9,6 +9,7 @@ pub mod Budgets
 pub mod Search
 pub mod Selection
 pub mod Keys
+pub mod Counting
 pub mod Replacement
 pub mod Values
 pub mod Pages

@@ -281,6 +281,16 @@ module _ (M : Mode) (lay : Layout) (L R : List ℕ) (G : Groups) where
   pub keys-counted : length (keys M lay L R G) ≡ admissibleCount M L R G
   keys-counted = length-map (listed M lay L R G) (keyOf lay) ∙ listed-counted
 
+  -- Where no variable may be empty, it is the number of those that reach every variable.
+  pub keys-reaching : M .empties ≡ false
+      → length (keys M lay L R G) ≡ selectionsReaching G (length (variables M L R)) []
+  keys-reaching full =
+      keys-counted
+      ∙ ap (λ (b : Bool). elim b [
+        | true ↦ tuplesMissing [] (G .constants)
+        | false ↦ selectionsReaching G (length (variables M L R)) []
+      ]) full
+
   -- It is at most the number of all selections.
   pub keys-at-most : length (keys M lay L R G) ≤ selectionCount G
   keys-at-most =

@@ -19,7 +19,7 @@ use Rattle.ac.specs.Keys.{Layout, fields, mask, keyOf, bit, bits, fields
 -- ---- the mask
 
 -- bit i + 1 of a number is bit i of its half
-bit-of-half : (m i : ℕ) → bit m (suc i) ≡ bit (m / 2) i
+pub bit-of-half : (m i : ℕ) → bit m (suc i) ≡ bit (m / 2) i
 bit-of-half m i =
     ap (λ (n : ℕ). eqb (n % 2) 1) (ap (λ (p : ℕ). m / p) (pow-suc 2 i ∙ mul-comm (2 ^ i) 2)
     ∙ sym (div-div-eq-div-mul m 2 (2 ^ i)))
@@ -30,7 +30,7 @@ bits-of-half m a zero = refl
 bits-of-half m a (suc n) = ap₂ {C = List Bool} (λ t ts. t ∷ ts) (bit-of-half m a) (bits-of-half m (suc a) n)
 
 -- the lowest bit says whether the number is odd
-lowest-bit : (m : ℕ) → cond (bit m 0) 1 0 ≡ m % 2
+pub lowest-bit : (m : ℕ) → cond (bit m 0) 1 0 ≡ m % 2
 lowest-bit m = by-bit (bit m 0) refl
   where
     by-bit : (t : Bool) → bit m 0 ≡ t → cond t 1 0 ≡ m % 2

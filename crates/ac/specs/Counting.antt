@@ -9,6 +9,15 @@ use Rattle.ac.specs.Lists.{every, filter}
 use Rattle.ac.specs.Pair.{Mode, variables}
 use Rattle.ac.specs.Rows.{Group, Groups}
 
+-- the product of some numbers
+abbrev pub product : List ℕ → ℕ
+product [] = 1
+product (n ∷ ns) = n * product ns
+
+-- How many selections there are: the product of the constants' group sizes and of two for each balanced row.
+abbrev pub selectionCount : Groups → ℕ
+selectionCount G = product (map (λ (g : Group). length (g .rows)) (G .constants)) * 2 ^ length (G .balanced)
+
 -- how many members pass the test
 abbrev pub howMany : {A : Type 0} → (A → Bool) → List A → ℕ
 howMany passes members = length (filter passes members)
@@ -20,15 +29,6 @@ misses places row = every (λ place. not (ltb 0 (getD row place 0))) places
 -- how many of the rows reach none of the places
 abbrev pub rowsMissing : List ℕ → List (List ℕ) → ℕ
 rowsMissing places rows = howMany (misses places) rows
-
--- the product of some numbers
-abbrev pub product : List ℕ → ℕ
-product [] = 1
-product (n ∷ ns) = n * product ns
-
--- How many selections there are: the product of the constants' group sizes and of two for each balanced row.
-abbrev pub selectionCount : Groups → ℕ
-selectionCount G = product (map (λ (g : Group). length (g .rows)) (G .constants)) * 2 ^ length (G .balanced)
 
 -- how many ways there are to take such a row for each constant: the product over the constants
 abbrev pub tuplesMissing : List ℕ → List Group → ℕ

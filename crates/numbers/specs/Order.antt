@@ -64,3 +64,7 @@ valuesNumbers = 16 ∷ (sidesNumbers ++ (keyNumbers ++ lengthNumbers))
 -- Write: "7, 8, then 18 for a variable on the wrong side; 16 first" (document 02, R-3)
 abbrev pub writeNumbers : List ℕ
 writeNumbers = 16 ∷ (uncountedNumbers ++ sideNumbers)
+
+-- Count: "Refusals: 7 to 12" (document 02, R-7); no buffer is lent, so 16 is none of them
+abbrev pub countNumbers : List ℕ
+countNumbers = sidesNumbers

@@ -1,4 +1,4 @@
--- The contracts of Rows, Page and Values determine the answer and the buffer.
+-- The contracts of Rows, Page and Values determine the answer and the buffer, and that of Count its answer.
 use Prim.Native.Nat.{ℕ}
 use mathlib.Core.Path.{_≡_, refl, sym, ap, _∙_}
 use mathlib.Core.List.{List}
@@ -7,7 +7,7 @@ use Rattle.ac.specs.Lists.{receives}
 use Rattle.ac.specs.Limits.{limits}
 use Rattle.ac.specs.Pair.{Mode}
 use Rattle.ac.specs.Rows.{Groups, GroupsOf}
-use Rattle.ac.specs.Keys.{Beginning}
+use Rattle.ac.specs.Keys.{Beginning, layout, keys}
 use Rattle.ac.proofs.Groups.{groups-unique}
 use Rattle.numbers.specs.Outcome.{Outcome, refused, given}
 use Rattle.numbers.proofs.Laws.{refusalOf, refusalOf-saidOf}
@@ -19,12 +19,15 @@ use Rattle.solver.specs.Rows as its-rows
 use Rattle.solver.specs.Page.{PageWritten, toldPage, nextKeys, moreFollow, PageGives, next, PagePromise}
 use Rattle.solver.specs.Values.{toldValues, valuesOf, ValuesGives, ValuesPromise}
 use Rattle.solver.specs.Values as its-values
+use Rattle.solver.specs.Count.{toldCount, CountGives, as-listed, CountPromise}
 use Rattle.solver.specs.declared.rows.RowsAnswer.{RowsAnswer}
 use Rattle.solver.specs.declared.rows.RowsAnswer.the-variants as rows
 use Rattle.solver.specs.declared.page.PageAnswer.{PageAnswer}
 use Rattle.solver.specs.declared.page.PageAnswer.the-variants as page
 use Rattle.solver.specs.declared.values.ValuesAnswer.{ValuesAnswer}
 use Rattle.solver.specs.declared.values.ValuesAnswer.the-variants as values
+use Rattle.solver.specs.declared.count.CountAnswer.{CountAnswer}
+use Rattle.solver.specs.declared.count.CountAnswer.the-variants as count
 
 -- which answer an outcome is of
 rowsAnswer : Outcome GroupSizes → RowsAnswer
@@ -39,6 +42,10 @@ pageAnswer (given keys) = page.Page (keys .written) (keys .more)
 valuesAnswer : Outcome ℕ → ValuesAnswer
 valuesAnswer (refused said) = values.Refused (refusalOf said)
 valuesAnswer (given length) = values.Values length
+
+countAnswer : Outcome ℕ → CountAnswer
+countAnswer (refused said) = count.Refused (refusalOf said)
+countAnswer (given unifiers) = count.Count unifiers
 
 rows-told : (a : RowsAnswer) → rowsAnswer (toldRows a) ≡ a
 unfolding rowsAnswer
@@ -55,12 +62,17 @@ unfolding valuesAnswer
 values-told (values.Values length) = refl
 values-told (values.Refused why) = ap values.Refused (refusalOf-saidOf why)
 
+count-told : (a : CountAnswer) → countAnswer (toldCount a) ≡ a
+unfolding countAnswer
+count-told (count.Count unifiers) = refl
+count-told (count.Refused why) = ap count.Refused (refusalOf-saidOf why)
+
 -- a pair has one lowest atom and one set of groups, so each question has one result
 module _ {M : Mode} {L R : List ℕ} where
   -- what groups give is one result
-  one-of-groups : {Values : Type 0} {Gives : Values → List ℕ → Type 0} (values : Groups → Values)
-      (bytes : Groups → List ℕ)
-      → ((v : Values) (b : List ℕ) → Gives v b → (G : Groups) × GroupsOf M L R G × (v ≡ values G) × (b ≡ bytes G))
+  one-of-groups : {Values Buffers : Type 0} {Gives : Values → Buffers → Type 0} (values : Groups → Values)
+      (bytes : Groups → Buffers)
+      → ((v : Values) (b : Buffers) → Gives v b → (G : Groups) × GroupsOf M L R G × (v ≡ values G) × (b ≡ bytes G))
       → OneResult (LowestFar limits L R) Gives
   one-of-groups values bytes of-groups =
       record {
@@ -101,6 +113,13 @@ module _ {M : Mode} {L R : List ℕ} where
           × (b ≡ receives out (valuesOf M L R G key))
       from _ _ (its-values.values {G = G} of) = (G, of, refl, refl)
 
+  pub one-count : OneResult (LowestFar limits L R) (CountGives M L R)
+  one-count = one-of-groups (λ G. length (keys M layout L R G)) (λ G. tt) from
+    where
+      from : (v : ℕ) (b : Unit {0}) → CountGives M L R v b
+          → (G : Groups) × GroupsOf M L R G × (v ≡ length (keys M layout L R G)) × (b ≡ tt)
+      from _ _ (as-listed {G = G} of) = (G, of, refl, refl)
+
   -- Two answers, each with its buffer, that meet the promise are identical.
   pub rows-determined : {out : List ℕ} {a a′ : RowsAnswer} {b b′ : List ℕ} → RowsPromise M L R out (toldRows a) b
       → RowsPromise M L R out (toldRows a′) b′
@@ -116,3 +135,8 @@ module _ {M : Mode} {L R : List ℕ} where
       → ValuesPromise M L R key out (toldValues a) b → ValuesPromise M L R key out (toldValues a′) b′
       → (a ≡ a′) × (b ≡ b′)
   values-determined = answer-determined one-values valuesAnswer values-told
+
+  -- and two that meet Count's, which is lent none
+  pub count-determined : {a a′ : CountAnswer} → CountPromise M L R (toldCount a) → CountPromise M L R (toldCount a′)
+      → a ≡ a′
+  count-determined promise promise′ = answer-determined one-count countAnswer count-told promise promise′ .0

@@ -7,6 +7,7 @@ pub mod ValuesWritten
 pub mod Request
 pub mod Beginning
 pub mod PageWritten
+pub mod Missing
 pub mod Given
 pub mod Promise
 pub mod Determined

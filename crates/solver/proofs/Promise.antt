@@ -1,12 +1,15 @@
 -- The questions' promises from their steps, of a table that is the pair's.
 use Prim.Native.Nat.{ℕ, _≤_}
 use native.Mathlib.Omega.{arith}
-use mathlib.Core.Path.{_≡_, refl, sym, subst, subst₂}
-use mathlib.Core.List.{List, _∷_, List·Memᴰ}
+use mathlib.Core.Path.{_≡_, refl, sym, ap, subst, subst₂, _∙_}
+use mathlib.Core.Bool.{false}
+use mathlib.Core.List.{List, [], _∷_, List·Memᴰ}
 use lib.ListN.{length, getD}
 use Rattle.ac.specs.Limits.{limits}
 use Rattle.ac.specs.Pair.{Mode}
 use Rattle.ac.specs.Keys.{layout, keys, Beginning, after, remaining}
+use Rattle.ac.specs.Counting.{selectionsReaching}
+use Rattle.ac.proofs.Counting.{keys-reaching}
 use Rattle.buffer.specs.Put.{Put}
 use Rattle.buffer.proofs.Puts.{put-received}
 use Rattle.numbers.specs.Numbers.{numberOf, saidOf}
@@ -31,6 +34,7 @@ use Rattle.solver.specs.Rows as its-rows
 use Rattle.solver.specs.Page.{wantedCount, PageWritten, PagePromise, next}
 use Rattle.solver.specs.Values.{valuesBuffer, ValuesPromise}
 use Rattle.solver.specs.Values as its-values
+use Rattle.solver.specs.Count.{CountPromise, as-listed}
 use Rattle.solver.specs.Steps.{SettledOf, to-refuse, to-answer, KeysWritten, WritesValues, too-long, fits}
 use Rattle.solver.specs.declared.page.Settled.{Settled}
 use Rattle.solver.specs.declared.page.Settled.the-variants.{FirstKey, Refused}
@@ -63,6 +67,16 @@ module _ {M : Mode} {L R : List ℕ} {t : Table} (of : TableOf M L R t)
     where
       sizes : sizesOf (groupsIn t) ≡ sizesAs (getD (t .sizes) 0 0) (t .unbalanced) first second third fourth
       sizes = cc (length-groupAt t 0, how-many-constants t (of .within), e₁, e₂, e₃, e₄)
+
+  -- Count: how many selections reach every variable
+  pub count-promised : {n places : ℕ} → M .empties ≡ false → places ≡ t .places
+      → n ≡ selectionsReaching (groupsIn t) places []
+      → CountPromise M L R (given n)
+  count-promised full same counted =
+      subst (λ n. CountPromise M L R (given n))
+      (keys-reaching M layout L R (groupsIn t) full
+      ∙ sym (counted ∙ ap (λ (k : ℕ). selectionsReaching (groupsIn t) k []) (same ∙ of .the-places)))
+      (is-given none (as-listed (of .the-groups)))
 
   module _ {begin : Beginning} {wanted : ℕ} {out : List ℕ} (enough : wantedCount wanted ≤ length out)
       {settled : Settled} (told : SettledOf (keys M layout L R (groupsIn t)) begin settled) where

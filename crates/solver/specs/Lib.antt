@@ -1,7 +1,9 @@
 pub mod Rows
 pub mod Page
 pub mod Values
+pub mod Count
 pub mod Bindings
+pub mod Missing
 pub mod Steps
 pub mod Existence
 pub mod Pages

@@ -24,6 +24,7 @@ use Rattle.list.specs.List.{OfItsPair}
 use Rattle.solver.specs.Rows.{GroupSizes, RowsPromise}
 use Rattle.solver.specs.Page.{PageWritten, beginningOf, PagePromise}
 use Rattle.solver.specs.Values.{LongValue, valuesOf, ValuesPromise}
+use Rattle.solver.specs.Count.{CountPromise}
 use Rattle.solver.specs.declared.page.PageRequest.{PageRequest}
 use Rattle.solver.specs.declared.page.Settled.{Settled}
 use Rattle.solver.specs.declared.page.Settled.the-variants.{FirstKey, Refused}
@@ -45,6 +46,9 @@ PageOfTable table request out outcome out′ =
 abbrev pub ValuesOfTable : Table → ℕ → List ℕ → Outcome ℕ → List ℕ → Type 0
 ValuesOfTable table key out outcome out′ =
     OfSolved table (λ M L R. M .empties ≡ false → ValuesPromise M L R key out outcome out′)
+
+abbrev pub CountOfTable : Table → Outcome ℕ → Type 0
+CountOfTable table outcome = OfSolved table (λ M L R. M .empties ≡ false → CountPromise M L R outcome)
 
 -- 13, 14 or 15, or the first of the keys that remain
 pub data SettledOf (listed : List ℕ) (begin : Beginning) : Settled → Type 0 where

@@ -1,5 +1,6 @@
--- Pairs that are alike get the same answers from Rows, Page and Values (document 02, R-6): `alike-answers`. What
--- meets a promise on the one pair meets it on the other: `rows-carried`, `page-carried`, `values-carried`.
+-- Pairs that are alike get the same answers from Rows, Page and Values (document 02, R-6), and from Count (R-7):
+-- `alike-answers`. What meets a promise on the one pair meets it on the other: `rows-carried`, `page-carried`,
+-- `values-carried`, `count-carried`.
 use Prim.Native.Nat.{ℕ, _<_}
 use mathlib.Core.Path.{_≡_, sym, ap, subst}
 use mathlib.Core.List.{List, List·Memᴰ}
@@ -12,10 +13,10 @@ use Rattle.ac.specs.Selection.{taken, valueAt, placeOf}
 use Rattle.ac.specs.Keys.{layout, keys, selectionAt, Beginning}
 use Rattle.ac.specs.Values.{laidOut, bindings}
 use Rattle.ac.specs.Pages.{page, more}
-use Rattle.numbers.specs.Order.{rowsNumbers, pageNumbers, valuesNumbers}
+use Rattle.numbers.specs.Order.{rowsNumbers, pageNumbers, valuesNumbers, countNumbers}
 use Rattle.numbers.specs.Outcome.{Outcome}
 use Rattle.numbers.proofs.Alike.{Agree, promise-carried, outcomes-agree}
-use Rattle.pair.specs.Given.{LowestFar}
+use Rattle.pair.specs.Given.{LowestFar, PairGiven}
 use Rattle.list.specs.Given.{ListGiven}
 use Rattle.solver.specs.Rows.{GroupSizes, toldRows, RowsGiven, RowsGives, RowsPromise, rows}
 use Rattle.solver.specs.Rows as of-rows
@@ -23,10 +24,12 @@ use Rattle.solver.specs.Page.{PageGiven, PageWritten, toldPage, PageGives, Page
 use Rattle.solver.specs.Page as of-page
 use Rattle.solver.specs.Values.{LongValue, longestValue, toldValues, ValuesGiven, ValuesGives, ValuesPromise, valuesOf, values}
 use Rattle.solver.specs.Values as of-values
+use Rattle.solver.specs.Count.{toldCount, CountGives, CountPromise, as-listed}
 use Rattle.solver.specs.declared.rows.RowsAnswer.{RowsAnswer}
 use Rattle.solver.specs.declared.page.PageAnswer.{PageAnswer}
 use Rattle.solver.specs.declared.values.ValuesAnswer.{ValuesAnswer}
-use Rattle.solver.proofs.Determined.{one-rows, one-page, one-values, rows-determined, page-determined, values-determined}
+use Rattle.solver.specs.declared.count.CountAnswer.{CountAnswer}
+use Rattle.solver.proofs.Determined.{one-rows, one-page, one-values, one-count, rows-determined, page-determined, values-determined, count-determined}
 use Rattle.whole.specs.Alike.{Alike, SameAnswers}
 use Rattle.whole.proofs.Alike.{alike-symmetric, lowest-alike}
 use Rattle.whole.proofs.AlikeGroups.{groups-carried, keys-alike, value-alike, pair-given-alike}
@@ -95,6 +98,11 @@ module _ {M M′ : Mode} {L R L′ R′ : List ℕ} (alike : Alike limits M L R 
       subst (λ (bytes : List ℕ). ValuesGives M′ L′ R′ key out (length bytes) (receives out bytes))
       (sym (bytes-alike G key)) (values (groups-carried alike of))
 
+  count-result : (number : ℕ) (exit : Unit {0}) → CountGives M L R number exit → CountGives M′ L′ R′ number exit
+  count-result _ _ (as-listed {G = G} of) =
+      subst (λ (ks : List ℕ). CountGives M′ L′ R′ (length ks) tt) (sym (keys-alike alike layout G))
+      (as-listed (groups-carried alike of))
+
 -- ---- so each question agrees with itself on the two pairs
 
 module _ {M M′ : Mode} {L R L′ R′ : List ℕ} (alike : Alike limits M L R M′ L′ R′) where
@@ -131,6 +139,15 @@ module _ {M M′ : Mode} {L R L′ R′ : List ℕ} (alike : Alike limits M L R 
         same-result = values-result alike;
       }
 
+  count-agree : Agree (PairGiven limits M L R) (PairGiven limits M′ L′ R′) (LowestFar limits L R) (LowestFar limits L′ R′)
+      countNumbers (CountGives M L R) (CountGives M′ L′ R′)
+  count-agree =
+      record {
+        same-numbers = λ n m. pair-given-alike alike n;
+        same-atom = λ a. lowest-alike (alike .nets-alike) a .0;
+        same-result = count-result alike;
+      }
+
   -- Two outcomes, each with its buffer, that meet a question's promises on the two pairs are identical.
   pub rows-alike : {out : List ℕ} {o o′ : Outcome GroupSizes} {b b′ : List ℕ} → RowsPromise M L R out o b
       → RowsPromise M′ L′ R′ out o′ b′
@@ -147,9 +164,13 @@ module _ {M M′ : Mode} {L R L′ R′ : List ℕ} (alike : Alike limits M L R 
       → (o ≡ o′) × (b ≡ b′)
   values-alike {key} {out} = outcomes-agree (values-agree key out) one-values
 
-  -- All three together.
+  pub count-alike : {o o′ : Outcome ℕ} → CountPromise M L R o → CountPromise M′ L′ R′ o′ → o ≡ o′
+  count-alike promise promise′ = outcomes-agree count-agree one-count promise promise′ .0
+
+  -- All of them together.
   pub alike-answers : SameAnswers M L R M′ L′ R′
-  alike-answers = record { from-rows = rows-alike; from-page = page-alike; from-values = values-alike }
+  alike-answers =
+      record { from-rows = rows-alike; from-page = page-alike; from-values = values-alike; from-count = count-alike }
 
   -- What meets a promise on the one pair meets it on the other, ..
   pub rows-carried : {out : List ℕ} {o : Outcome GroupSizes} {b : List ℕ} → RowsPromise M L R out o b
@@ -163,6 +184,9 @@ module _ {M M′ : Mode} {L R L′ R′ : List ℕ} (alike : Alike limits M L R 
   pub values-carried : {key : ℕ} {out : List ℕ} {o : Outcome ℕ} {b : List ℕ} → ValuesPromise M L R key out o b
       → ValuesPromise M′ L′ R′ key out o b
   values-carried {key} {out} = promise-carried (values-agree key out)
+
+  pub count-carried : {o : Outcome ℕ} → CountPromise M L R o → CountPromise M′ L′ R′ o
+  count-carried = promise-carried count-agree
 
   -- .. so the answers that the functions return are identical, too.
   pub rows-answers : {out : List ℕ} {a a′ : RowsAnswer} {b b′ : List ℕ} → RowsPromise M L R out (toldRows a) b
@@ -179,3 +203,7 @@ module _ {M M′ : Mode} {L R L′ R′ : List ℕ} (alike : Alike limits M L R 
       → ValuesPromise M L R key out (toldValues a) b → ValuesPromise M′ L′ R′ key out (toldValues a′) b′
       → (a ≡ a′) × (b ≡ b′)
   values-answers promise promise′ = values-determined (values-carried promise) promise′
+
+  pub count-answers : {a a′ : CountAnswer} → CountPromise M L R (toldCount a) → CountPromise M′ L′ R′ (toldCount a′)
+      → a ≡ a′
+  count-answers promise promise′ = count-determined (count-carried promise) promise′

@@ -11,7 +11,8 @@ use Rattle.block.specs.Read.{ReadPromise}
 use Rattle.solver.specs.Rows.{RowsPromise}
 use Rattle.solver.specs.Page.{PagePromise}
 use Rattle.solver.specs.Values.{ValuesPromise}
-use Rattle.whole.proofs.Shared.{rows-without-19, page-without-19, values-without-19}
+use Rattle.solver.specs.Count.{CountPromise}
+use Rattle.whole.proofs.Shared.{rows-without-19, page-without-19, values-without-19, count-without-19}
 
 module _ {said : Said} where
   -- Read gives 1 to 6 and 16.
@@ -36,6 +37,11 @@ module _ {said : Said} where
       → ValuesPromise unifying L R key out (refused said) out′
       → List·Memᴰ (said .number) (16 ∷ 7 ∷ 8 ∷ 9 ∷ 10 ∷ 11 ∷ 12 ∷ 13 ∷ 14 ∷ 17 ∷ [])
   values-gives promise = refused-listed (values-without-19 refl .0 promise)
+
+  -- Count gives 7 to 12 (document 02, R-7).
+  pub count-gives : {L R : List ℕ} → CountPromise unifying L R (refused said)
+      → List·Memᴰ (said .number) (7 ∷ 8 ∷ 9 ∷ 10 ∷ 11 ∷ 12 ∷ [])
+  count-gives promise = refused-listed (count-without-19 refl .0 promise)
 
   -- Matching, each gives 19 as well, after 8 (document 02, R-4).
   pub matching-rows-gives : {L R out out′ : List ℕ} → RowsPromise (matching L) L R out (refused said) out′

@@ -2,8 +2,8 @@
 --
 -- `rows-nineteen`, `page-nineteen`, `values-nineteen`. Matching, each of the questions gives 19 exactly where a variable
 -- stands on both sides and none of 16, 7 and 8 is given.
--- `rows-without-19`, `page-without-19`, `values-without-19`. Where a variable may stand on both sides, as in unifying, 19
--- is never given, and a question promises what it promises over its list without 19.
+-- `rows-without-19`, `page-without-19`, `values-without-19`, `count-without-19`. Where a variable may stand on both
+-- sides, as in unifying, 19 is never given, and a question promises what it promises over its list without 19.
 -- `read-never-19`. Of the sides that Read gave of a block it is never given, in no way of listing.
 use Prim.Native.Nat.{ℕ}
 use native.Mathlib.Omega.{arith}
@@ -35,6 +35,7 @@ use Rattle.solver.specs.Page.{PageWritten, PageGiven, PageGives, PagePromise}
 use Rattle.solver.specs.Page as its-page
 use Rattle.solver.specs.Values.{ValuesGiven, ValuesGives, ValuesPromise}
 use Rattle.solver.specs.Values as its-values
+use Rattle.solver.specs.Count.{CountGives, CountPromise}
 use Rattle.solver.proofs.Determined.{one-rows, one-page, one-values}
 use Rattle.solver.proofs.Given.{rows-made, page-made, values-made}
 use Rattle.whole.proofs.Apart.{no-variable-on-both}
@@ -129,6 +130,15 @@ module _ {M : Mode} (shared : M .separate ≡ false) {L R : List ℕ} where
       (16 ∷ 7 ∷ 8 ∷ 9 ∷ 10 ∷ 11 ∷ 12 ∷ 13 ∷ 14 ∷ 17 ∷ []) (ValuesGives M L R key out) out outcome out′
   values-without-19 =
       never-given-dropped 19 (never values-of-sides shared) beforeNineteen (9 ∷ 10 ∷ 11 ∷ 12 ∷ 13 ∷ 14 ∷ 17 ∷ [])
+
+  pub count-without-19 : {outcome : Outcome ℕ}
+      → CountPromise M L R outcome
+      ↔ Promise (PairGiven limits M L R) (LowestFar limits L R) (7 ∷ 8 ∷ 9 ∷ 10 ∷ 11 ∷ 12 ∷ []) (CountGives M L R) tt
+      outcome tt
+  count-without-19 = never-given-dropped 19 (never itself shared) (7 ∷ 8 ∷ []) (9 ∷ 10 ∷ 11 ∷ 12 ∷ [])
+    where
+      itself : PairGiven limits M L R 19 ↔ PairGiven limits M L R 19
+      itself = (λ given. given, λ given. given)
 
 -- Read gives the right term's variables other numbers than the left one's.
 pub read-never-19 : {M : Mode} {block : List ℕ} {number : ℕ} {left right left′ right′ : List ℕ} {lengths : SideLengths}

@@ -1,5 +1,5 @@
 -- The way a pair is written must not matter (document 02, R-6): what two pairs have in common that are two ways of
--- writing one, and that they get the same answers from Rows, Page and Values.
+-- writing one, and that they get the same answers from Rows, Page and Values, and from Count (R-7).
 use Prim.Native.Nat.{ℕ, _≤_, _<_}
 use mathlib.Core.Path.{_≡_}
 use mathlib.Core.Logic.{_↔_}
@@ -17,6 +17,7 @@ use Rattle.pair.specs.Given.{PairGiven}
 use Rattle.solver.specs.Rows.{GroupSizes, RowsPromise}
 use Rattle.solver.specs.Page.{PageWritten, PagePromise}
 use Rattle.solver.specs.Values.{ValuesPromise}
+use Rattle.solver.specs.Count.{CountPromise}
 
 -- Every net count of the one pair is that of the other, or every one is its opposite.
 pub data NetsAlike (L R L′ R′ : List ℕ) : Type 0 where
@@ -48,6 +49,7 @@ pub record SameAnswers (M : Mode) (L R : List ℕ) (M′ : Mode) (L′ R′ : Li
       → PagePromise M L R begin wanted out o b → PagePromise M′ L′ R′ begin wanted out o′ b′ → (o ≡ o′) × (b ≡ b′)
   pub from-values : {key : ℕ} {out : List ℕ} {o o′ : Outcome ℕ} {b b′ : List ℕ}
       → ValuesPromise M L R key out o b → ValuesPromise M′ L′ R′ key out o′ b′ → (o ≡ o′) × (b ≡ b′)
+  pub from-count : {o o′ : Outcome ℕ} → CountPromise M L R o → CountPromise M′ L′ R′ o′ → o ≡ o′
 
 -- One constant is added to both sides, at whatever places.
 pub record ConstantAdded (L R L′ R′ : List ℕ) : Type 0 where

@@ -15,5 +15,7 @@ pub mod WrongAtoms
 pub mod WrongMatches
 pub mod Writing
 pub mod WrongWrites
+pub mod Counted
+pub mod WrongCounts
 pub mod Rewritten
 pub mod SwappedBlocks

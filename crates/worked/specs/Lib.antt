@@ -4,3 +4,4 @@ pub mod Programs
 pub mod Example
 pub mod Document
 pub mod Rewritten
+pub mod Counted

@@ -1,4 +1,5 @@
--- The questions of document 01, and Write of document 02, in one form: what is asked, what is lent, what it comes to, and what is promised.
+-- The questions of document 01, and Write and Count of document 02, in one form: what is asked, what is lent, what it comes
+-- to, and what is promised.
 use Prim.Native.Nat.{ℕ}
 use mathlib.Core.List.{List}
 use Rattle.pair.specs.Ways.{modeOf}
@@ -10,6 +11,7 @@ use Rattle.block.specs.Read.{SideLengths, ReadPromise}
 use Rattle.solver.specs.Rows.{GroupSizes, RowsPromise}
 use Rattle.solver.specs.Page.{PageWritten, PagePromise}
 use Rattle.solver.specs.Values.{ValuesPromise}
+use Rattle.solver.specs.Count.{CountPromise}
 use Rattle.writing.specs.Write.{WritePromise}
 
 -- a question: what is asked of it, what it is lent, what it comes to, and what it promises of that
@@ -90,3 +92,13 @@ valuesQuestion = valuesQuestionBy Unifying
 -- Write: and the number that the block is to have
 abbrev pub writeQuestion : Question
 writeQuestion = ofSides ℕ (Unit {0}) (λ L R number. WritePromise L R number)
+
+-- Count: two sides, and nothing else; nothing is lent
+abbrev pub countQuestion : Question
+countQuestion =
+    record {
+      Asked = SidesAsked (Unit {0});
+      Lent = Unit {0};
+      Values = ℕ;
+      Promise = λ asked lent outcome exit. CountPromise (modeOf Unifying (asked .left) (asked .right)) (asked .left) (asked .right) outcome;
+    }

@@ -1,6 +1,6 @@
 -- Pairs and how many unifiers they have (document 02, R-7).
-use Prim.Native.Nat.{ℕ, _+_}
-use mathlib.Core.List.{List, [], _∷_}
+use Prim.Native.Nat.{ℕ, zero, suc, _+_}
+use mathlib.Core.List.{List, [], _∷_, _++_}
 use Rattle.numbers.specs.Outcome.{given}
 use Rattle.worked.specs.Questions.{countQuestion}
 use Rattle.worked.specs.Answers.{Answers}
@@ -14,6 +14,11 @@ pub record CountedPair : Type 0 where
 -- the constant ci
 abbrev c : ℕ → ℕ
 c i = 64 + i
+
+-- atoms, each as often
+abbrev times : ℕ → List ℕ → List ℕ
+times zero atoms = []
+times (suc n) atoms = atoms ++ times n atoms
 
 -- Pairs 2, 9, 13 and 17 of document 01, and those whose numbers source document 002 prints.
 abbrev pub countedPairs : List CountedPair
@@ -34,6 +39,12 @@ countedPairs =
     ∷ record { left = 0 ∷ 0 ∷ 1 ∷ []; right = 2 ∷ 3 ∷ c 0 ∷ c 1 ∷ []; unifiers = 228 }
     -- v0+v0+v0 and v1+v2+v3+c0
     ∷ record { left = 0 ∷ 0 ∷ 0 ∷ []; right = 1 ∷ 2 ∷ 3 ∷ c 0 ∷ []; unifiers = 6_006 }
+    -- the longest list within the limits of document 01: net counts 6, -8, -7, -7, and 6 of each of four constants
+    ∷ record {
+      left = times 6 (0 ∷ c 0 ∷ c 1 ∷ c 2 ∷ c 3 ∷ []);
+      right = times 8 (1 ∷ []) ++ times 7 (2 ∷ 3 ∷ []);
+      unifiers = 4_294_651_782;
+    }
     ∷ []
 
 -- Count gives this number of the two sides.

@@ -3,6 +3,7 @@ use crate::room::put;
 use block::ReadAnswer;
 use buffer::wide;
 use numbers::Refusal;
+use solver::count::CountAnswer;
 use solver::page::PageAnswer;
 use solver::rows::RowsAnswer;
 use solver::values::ValuesAnswer;
@@ -65,6 +66,14 @@ pub fn of_values(values: ValuesAnswer) -> Returned {
     }
 }
 
+// Count: the high 32 bits of the number, and the low ones.
+pub fn of_count(count: CountAnswer) -> Returned {
+    match count {
+        CountAnswer::Count { unifiers } => given((unifiers >> 32) as usize, unifiers as usize),
+        CountAnswer::Refused(refusal) => refused(refusal),
+    }
+}
+
 // Write: nothing beside what stands in the buffer.
 pub fn of_write(written: WriteAnswer) -> Returned {
     match written {
@@ -96,7 +105,7 @@ fn refused(refusal: Refusal) -> Returned {
     }
 }
 
-// A value in four bytes: none that is returned needs more.
+// A value in four bytes, the low ones.
 fn small(n: usize) -> u32 {
     (n % 4_294_967_296) as u32
 }

@@ -1,5 +1,6 @@
 // The questions, each with the buffers that it is lent.
 use crate::answer::Returned;
+use crate::answer::of_count;
 use crate::answer::of_page;
 use crate::answer::of_read;
 use crate::answer::of_rows;
@@ -7,6 +8,7 @@ use crate::answer::of_values;
 use crate::answer::of_write;
 use crate::answer::put_numbers;
 use crate::answer::put_returned;
+use crate::question::COUNT;
 use crate::question::Header;
 use crate::question::MATCH_PAGE;
 use crate::question::MATCH_ROWS;
@@ -77,6 +79,7 @@ fn returned_by(
             asked.number,
             first_lent,
         )),
+        COUNT => of_count(solver::count::count(first, second)),
         WRITE => of_write(writing::write(
             first,
             second,

@@ -16,6 +16,8 @@ pub const MATCH_PAGE: u8 = 7;
 
 pub const MATCH_VALUES: u8 = 8;
 
+pub const COUNT: u8 = 9;
+
 // What is asked: which question, the byte that fills the lent buffers, the lengths of what follows, the
 // number that the question takes, whether a page begins after it, how many keys are wanted, and the lengths
 // of the lent buffers in bytes.

@@ -21,6 +21,7 @@ PROMISES = {
     "PagePromise": "solver/specs/Page.antt",
     "PageExistence": "solver/specs/Existence.antt",
     "ValuesPromise": "solver/specs/Values.antt",
+    "CountPromise": "solver/specs/Count.antt",
     "WritePromise": "writing/specs/Write.antt",
     "Tallies": "tally/specs/Counts.antt",
     "LibraryText": "lines/specs/Library.antt",

@@ -1,4 +1,4 @@
-//! The questions with their lent buffers (document 01, The questions; document 02, R-3 and R-4).
+//! The questions with their lent buffers (document 01, The questions; document 02, R-3, R-4 and R-7).
 
 use crate::block::{self, Sides};
 use crate::pair::Way;
@@ -62,6 +62,7 @@ fn give(
             solve(way, &question.sides)?.values(key).map(|values| give_values(&values))
         }
         Ask::Write { number } => block::write(&question.sides, number).map(give_block),
+        Ask::Count => solve(Way::Unifying, &question.sides).map(|solved| give_number(solved.list.number())),
     }
 }
 
@@ -82,6 +83,16 @@ fn give_sides(sides: Sides) -> Given {
 /// Write gives the block.
 fn give_block(block: Vec<u8>) -> Given {
     Given { first: block, ..Given::default() }
+}
+
+/// Count gives the number.
+fn give_number(number: u64) -> Given {
+    Given { figures: in_halves(number), ..Given::default() }
+}
+
+/// A number of 64 bits as two of 32, the high one first.
+pub fn in_halves(number: u64) -> [u32; FIGURES] {
+    [(number >> 32) as u32, number as u32, 0, 0, 0, 0]
 }
 
 /// Rows gives the size of each group and the rows one after the other.

@@ -110,6 +110,7 @@ fn asked(question: &Question) -> String {
         }
         Ask::Values { way, key } => format!("{way:?}, Values of {} for key {key}", told(&question.sides)),
         Ask::Write { number } => format!("Write of {} as block {number}", told(&question.sides)),
+        Ask::Count => format!("Count of {}", told(&question.sides)),
     };
     let Question { fill, first_buffer, second_buffer, .. } = question;
     format!("{what}, buffers of {first_buffer} and {second_buffer}, filled with {fill}")

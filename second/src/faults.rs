@@ -1,10 +1,12 @@
 //! Planted faults: answers that are wrong in one known way, to show that the comparison can fail. One for
 //! each question, one for the variables of a right term, two for the atom that 10 names, two for the shape that
-//! is written, three for matching, one for each plausible error of document 01, and two in the nightly text.
+//! is written, three for matching, three for Count, one for each plausible error of document 01, two in the nightly
+//! text and two in the census text.
 
-use crate::answer::answer;
+use crate::answer::{answer, in_halves};
 use crate::block::{seal, Sides, APART, BLOCK, PLUS, TERMS};
-use crate::list::{stages, List};
+use crate::census::{census, MOST_BLOCKS};
+use crate::list::{stages, List, Stage};
 use crate::pair::{net_counts, shared_variables, Pair, Way, FIRST_CONSTANT, FURTHEST_NET_COUNT};
 use crate::question::{Answer, Ask, Question};
 use crate::refusal::Refusal;
@@ -54,14 +56,24 @@ pub enum Fault {
     SharedByNetCount,
     /// Matching counts the variables of both sides for 9.
     NineCountsBoth,
+    /// Count adds the selections that leave a variable uncovered where it should take them away.
+    CountSign,
+    /// Count takes the rows of constants as if they covered no variable.
+    CountUnrestricted,
+    /// Count gives 13 where there is no unifier.
+    CountThirteen,
     /// The nightly text says `more` for a list of exactly 200.
     TextMore,
     /// The nightly text counts blocks without unifier as refused.
     TextCounts,
+    /// The census text counts each refused block as one unifier.
+    CensusRefused,
+    /// The census text goes on for one block more.
+    CensusLimit,
 }
 
 /// All faults by name.
-pub const FAULTS: [(&str, Fault); 20] = [
+pub const FAULTS: [(&str, Fault); 25] = [
     ("number-before-check", Fault::NumberBeforeCheck),
     ("right-as-written", Fault::RightAsWritten),
     ("byte-after-rows", Fault::ByteAfterRows),
@@ -80,8 +92,13 @@ pub const FAULTS: [(&str, Fault); 20] = [
     ("subject-moves", Fault::SubjectMoves),
     ("shared-by-net-count", Fault::SharedByNetCount),
     ("nine-counts-both", Fault::NineCountsBoth),
+    ("count-sign", Fault::CountSign),
+    ("count-unrestricted", Fault::CountUnrestricted),
+    ("count-thirteen", Fault::CountThirteen),
     ("text-more", Fault::TextMore),
     ("text-counts", Fault::TextCounts),
+    ("census-refused", Fault::CensusRefused),
+    ("census-limit", Fault::CensusLimit),
 ];
 
 /// The fault with a name.
@@ -115,6 +132,30 @@ pub fn nightly_with(library: impl Read, mut output: impl Write, fault: Option<Fa
     output.write_all(spoiled.as_bytes())
 }
 
+/// The census text of a library, wrong where a fault is planted.
+pub fn census_with(library: impl Read, mut output: impl Write, fault: Option<Fault>) -> io::Result<()> {
+    match fault {
+        Some(Fault::CensusLimit) => census(library, output, MOST_BLOCKS + 1),
+        Some(Fault::CensusRefused) => {
+            let mut right_text = Vec::new();
+            census(library, &mut right_text, MOST_BLOCKS)?;
+            let text = String::from_utf8_lossy(&right_text);
+            let refused = text.lines().filter(|line| line.contains(" refused ")).count() as u64;
+            let spoiled: String = text.lines().map(|line| with_more_in_total(line, refused)).collect();
+            output.write_all(spoiled.as_bytes())
+        }
+        _ => census(library, output, MOST_BLOCKS),
+    }
+}
+
+/// A line of the census text; the last one's total has so many more.
+fn with_more_in_total(line: &str, more: u64) -> String {
+    match line.strip_prefix("total ").and_then(|total| total.parse::<u64>().ok()) {
+        Some(total) => format!("total {}\n", total + more),
+        None => format!("{line}\n"),
+    }
+}
+
 /// A line of the text; of the last one, the blocks without unifier are moved to the refused ones.
 fn none_counted_as_refused(line: &str) -> String {
     let words: Vec<&str> = line.split(' ').collect();
@@ -128,7 +169,8 @@ fn none_counted_as_refused(line: &str) -> String {
 }
 
 impl Fault {
-    /// Whether the fault changes which unifiers are given, so that the semantic check must object as well.
+    /// Whether the fault changes which unifiers are given or how many are counted, so that the semantic check must
+    /// object as well.
     pub fn changes_unifiers(self) -> bool {
         matches!(
             self,
@@ -138,12 +180,20 @@ impl Fault {
                 | Fault::ConstantsMixed
                 | Fault::HalfSumsLeftOut
                 | Fault::LastRowOnly
+                | Fault::CountSign
+                | Fault::CountUnrestricted
+                | Fault::CountThirteen
         )
     }
 
     /// Whether the fault is in the nightly text.
     pub fn in_text(self) -> bool {
         matches!(self, Fault::TextMore | Fault::TextCounts)
+    }
+
+    /// Whether the fault is in the census text.
+    pub fn in_census(self) -> bool {
+        matches!(self, Fault::CensusRefused | Fault::CensusLimit)
     }
 
     /// A pair solved with the fault.
@@ -226,6 +276,11 @@ impl Fault {
                 leave_right_as_it_was(answer)
             }
             (Fault::NestedToTheLeft, Ask::Write { .. }) if answer.number == 0 => nest_to_the_left(answer),
+            (Fault::CountSign | Fault::CountUnrestricted | Fault::CountThirteen, Ask::Count) => {
+                if let Ok(solved) = Solved::of(Way::Unifying, &question.sides) {
+                    self.spoil_count(&solved, answer);
+                }
+            }
             (Fault::HighestAtom | Fault::FirstAtom, _) if answer.number == Refusal::NetCount(0).number() => {
                 let far = far_atoms(&question.sides);
                 let first =
@@ -236,6 +291,31 @@ impl Fault {
             _ => (),
         }
     }
+
+    /// Changes the number of unifiers of a pair, or gives 13 in its place.
+    fn spoil_count(self, solved: &Solved, answer: &mut Answer) {
+        let mut stages = stages(&solved.groups);
+        let variables = solved.pair.variables.len();
+        match self {
+            Fault::CountSign => {
+                let sets = 0..1u8 << variables;
+                answer.figures = in_halves(sets.map(|set| runs_avoiding(&stages, set)).sum());
+            }
+            Fault::CountUnrestricted => {
+                let of_constants = stages.iter_mut().filter(|stage| stage.field >= 1 << MOST_ROWS);
+                of_constants.flat_map(|stage| &mut stage.choices).for_each(|choice| choice.cover = 0);
+                answer.figures = in_halves(List::of_stages(stages, variables).number());
+            }
+            _ if solved.list.is_empty() => answer.number = Refusal::NoUnifier.number(),
+            _ => (),
+        }
+    }
+}
+
+/// How many runs of choices cover nothing of a set of variables.
+fn runs_avoiding(stages: &[Stage], set: u8) -> u64 {
+    let choices = |stage: &Stage| stage.choices.iter().filter(|choice| choice.cover & set == 0).count();
+    stages.iter().map(|stage| choices(stage) as u64).product()
 }
 
 /// The atoms whose net counts are too far from 0, ascending.

@@ -10,6 +10,11 @@ use crate::rows::{Groups, Row, MOST_ROWS};
 const CONSTANT_FIELDS: usize = 4;
 const HIGHEST_FIELD: usize = 28;
 const FIELD_BITS: usize = 4;
+/// How many sets of six variables there are.
+const SETS: usize = 64;
+
+/// How many runs of choices cover just the variables of a set, by the set.
+type Runs = [u64; SETS];
 
 /// One way to decide a stage: its bits of the key and the set of variables that it covers.
 #[derive(Clone, Debug)]
@@ -127,21 +132,25 @@ impl List {
         Some(key)
     }
 
-    /// How many keys are listed, by inclusion and exclusion over the sets of variables left uncovered: the
-    /// runs of choices that cover nothing of a set are counted with the sign of the set's size.
+    /// How many keys are listed: the runs of choices are counted stage after stage by the set of variables that
+    /// they cover, and those that cover every variable at the end are the keys.
     pub fn number(&self) -> u64 {
-        let signed_total: i128 = (0..=self.every_variable)
-            .map(|uncovered| {
-                let runs: i128 = self.stages.iter().map(|stage| choices_avoiding(stage, uncovered)).product();
-                if uncovered.count_ones() % 2 == 0 {
-                    runs
-                } else {
-                    -runs
-                }
-            })
-            .sum();
-        u64::try_from(signed_total).expect("a list has at most 2^32 keys")
+        let mut before_all = [0; SETS];
+        before_all[0] = 1;
+        let runs = self.stages.iter().fold(before_all, |runs, stage| lengthened(&runs, stage));
+        runs[usize::from(self.every_variable)]
     }
+}
+
+/// The runs that are longer by one choice of a stage.
+fn lengthened(runs: &Runs, stage: &Stage) -> Runs {
+    let mut longer = [0; SETS];
+    for (set, number) in runs.iter().enumerate() {
+        for choice in &stage.choices {
+            longer[set | usize::from(choice.cover)] += number;
+        }
+    }
+    longer
 }
 
 /// The twenty decisions of a selection; a field that is not used has the one choice 0.
@@ -179,13 +188,8 @@ fn cover(row: &Row) -> u8 {
 
 /// The sets of variables from which some choice of a stage leads into one of the given sets.
 fn sets_leading_into(stage: &Stage, later: u64) -> u64 {
-    (0..64)
+    (0..SETS as u8)
         .filter(|set| stage.choices.iter().any(|choice| later >> (set | choice.cover) & 1 == 1))
         .map(|set| 1 << set)
         .sum()
-}
-
-/// How many choices of a stage cover nothing of a set of variables.
-fn choices_avoiding(stage: &Stage, uncovered: u8) -> i128 {
-    stage.choices.iter().map(|choice| i128::from(choice.cover & uncovered == 0)).sum()
 }

@@ -3,6 +3,7 @@
 mod answer;
 mod block;
 mod blocks;
+mod census;
 mod chance;
 mod compare;
 mod examples;
@@ -46,6 +47,7 @@ const USAGE: &str = "second probe [--fault NAME]
 second compare [--seed N] [--questions N] --probe COMMAND [ARGUMENT ..]
 second nightly [--fault NAME]
 second matches
+second census [--fault NAME]
 second library [--seed N] [--blocks N] [--zeros N]
 second semantic [--probe COMMAND [ARGUMENT ..]]
 second faults --probe-self [--seed N] [--questions N]";
@@ -74,6 +76,9 @@ fn run(arguments: &[String]) -> Result<(), String> {
         }
         "matches" => {
             text::print_library(Way::Matching, io::stdin().lock(), standard_output()).map_err(in_words)
+        }
+        "census" => {
+            faults::census_with(io::stdin().lock(), standard_output(), options.fault).map_err(in_words)
         }
         "library" => options.library().write(standard_output()).map_err(in_words),
         "semantic" => check_semantic(&options),

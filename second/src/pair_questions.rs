@@ -103,10 +103,11 @@ impl Questions {
         }
     }
 
-    /// Asks for the rows, the first page, pages that end just before, at and after the last key, and about
-    /// each key of the list, if there are not too many, and about some that are not on it.
+    /// Asks for the rows, the number of unifiers, the first page, pages that end just before, at and after the
+    /// last key, and about each key of the list, if there are not too many, and about some that are not on it.
     fn ask_in_full(&mut self, way: Way, sides: &Sides) {
         self.ask(Ask::Rows { way }, sides);
+        self.ask_count(way, sides);
         self.ask(Ask::Page { way, after: None, wanted: 0 }, sides);
         let Ok(solved) = Solved::of(way, sides) else { return self.ask_about(way, sides, 0) };
         let number = solved.list.number();
@@ -131,6 +132,13 @@ impl Questions {
         }
     }
 
+    /// Asks how many unifiers a pair has; of matches that is not asked.
+    fn ask_count(&mut self, way: Way, sides: &Sides) {
+        if way == Way::Unifying {
+            self.ask(Ask::Count, sides);
+        }
+    }
+
     /// Asks for the page after a key and for its values.
     fn ask_about(&mut self, way: Way, sides: &Sides, key: u32) {
         let wanted = self.wanted();
@@ -141,6 +149,7 @@ impl Questions {
     /// Asks some questions about a pair, with buffers of any length.
     fn ask_sampled(&mut self, way: Way, sides: &Sides) {
         self.ask_any(Ask::Rows { way }, sides);
+        self.ask_count(way, sides);
         let wanted = self.wanted();
         self.ask_any(Ask::Page { way, after: None, wanted }, sides);
         let keys = match Solved::of(way, sides) {
@@ -180,7 +189,7 @@ impl Questions {
     }
 
     /// Asks for all pages of a list, each after the last key of the one before, with the counts in turn. An
-    /// error if the keys are not as many as inclusion and exclusion count or as a source publishes.
+    /// error if the keys are not as many as are counted or as a source publishes.
     fn walk(
         &mut self,
         way: Way,

@@ -20,6 +20,7 @@ pub enum Ask {
     Page { way: Way, after: Option<u32>, wanted: u32 },
     Values { way: Way, key: u32 },
     Write { number: u16 },
+    Count,
 }
 
 impl Ask {
@@ -40,10 +41,11 @@ impl Ask {
             Ask::Page { way, .. } => in_the_way(3, way),
             Ask::Values { way, .. } => in_the_way(4, way),
             Ask::Write { .. } => 5,
+            Ask::Count => 9,
         }
     }
 
-    /// The shortest lent buffer that is long enough, in bytes or, for a page, in numbers.
+    /// The shortest lent buffer that is long enough, in bytes or, for a page, in numbers; Count is lent none.
     pub fn least_buffer(self) -> usize {
         match self {
             Ask::Read { .. } => 64,
@@ -51,6 +53,7 @@ impl Ask {
             Ask::Page { .. } => self.wanted(),
             Ask::Values { .. } => 1212,
             Ask::Write { .. } => BLOCK,
+            Ask::Count => 0,
         }
     }
 }
@@ -80,7 +83,7 @@ impl Question {
     pub fn to_bytes(&self) -> Vec<u8> {
         let (number, after, wanted) = match self.ask {
             Ask::Read { expected: number } | Ask::Write { number } => (u32::from(number), 0, 0),
-            Ask::Rows { .. } => (0, 0, 0),
+            Ask::Rows { .. } | Ask::Count => (0, 0, 0),
             Ask::Page { after, wanted, .. } => (after.unwrap_or(0), u8::from(after.is_some()), wanted),
             Ask::Values { key, .. } => (key, 0, 0),
         };
@@ -141,7 +144,8 @@ fn ask(header: &[u8]) -> io::Result<Ask> {
         }
         4 | 8 => Ok(Ask::Values { way, key: number }),
         5 => Ok(Ask::Write { number: short(header, 8) }),
-        _ => Err(io::Error::new(io::ErrorKind::InvalidData, "there are eight questions, 1 to 8")),
+        9 => Ok(Ask::Count),
+        _ => Err(io::Error::new(io::ErrorKind::InvalidData, "there are nine questions, 1 to 9")),
     }
 }
 

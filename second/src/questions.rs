@@ -24,7 +24,7 @@ pub struct Questions {
 }
 
 /// Exactly so many questions that a seed sets. An error if the fixed ones alone are more, or if a list does
-/// not have the number of keys that inclusion and exclusion count.
+/// not have the number of keys that Count gives.
 pub fn questions(seed: u64, total: usize) -> Result<Vec<Question>, String> {
     let mut questions = Questions { chance: Chance::new(seed), asked: Vec::new() };
     questions.ask_fixed_reads();
@@ -151,6 +151,7 @@ impl Questions {
 fn longest(ask: Ask) -> usize {
     match ask {
         Ask::Page { .. } => LONGEST_PAGE,
+        Ask::Count => 0,
         _ => LONGEST_BUFFER,
     }
 }

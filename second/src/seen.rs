@@ -12,6 +12,10 @@ const TOO_FREQUENT: u8 = 10;
 const NUMBERS: usize = 20;
 /// The refusals of matching.
 const OF_MATCHING: [usize; 11] = [7, 8, 9, 10, 11, 12, 13, 14, 15, 16, 19];
+/// The refusals of Count.
+const OF_COUNT: [usize; 6] = [7, 8, 9, 10, 11, 12];
+/// A list is long if it has more keys than this.
+const THOUSAND_MILLION: u32 = 1_000_000_000;
 
 /// How often each thing was met.
 #[derive(Default)]
@@ -32,6 +36,7 @@ pub struct Seen {
     balanced_sizes: [usize; MOST_ROWS + 1],
     constant_sizes: [usize; MOST_ROWS + 1],
     matching: Matching,
+    counting: Counting,
 }
 
 /// How often each thing was met in matching; rows, pages and values where they were given.
@@ -44,6 +49,14 @@ struct Matching {
     values: usize,
     without_variables: usize,
     largest_group: usize,
+}
+
+/// How often each thing was met where unifiers were counted.
+#[derive(Default)]
+struct Counting {
+    numbers: [usize; NUMBERS],
+    none: usize,
+    long: usize,
 }
 
 impl Seen {
@@ -61,6 +74,7 @@ impl Seen {
             Ask::Page { .. } => self.pages += 1,
             Ask::Values { .. } => self.values += 1,
             Ask::Write { .. } => self.written += 1,
+            Ask::Count => self.counting.note(answer),
         }
         match (answer.number, question.ask) {
             (0, Ask::Rows { .. }) => self.note_rows(question, answer),
@@ -108,6 +122,7 @@ impl Seen {
         ];
         wanted.extend(others.map(|(what, times)| (what.to_string(), times)));
         wanted.extend(self.matching.wanted());
+        wanted.extend(self.counting.wanted());
         wanted
     }
 
@@ -121,12 +136,13 @@ impl Seen {
         let parts: Vec<String> =
             self.wanted().iter().map(|(what, times)| format!("{what}: {times}")).collect();
         format!(
-            "Read {}, Rows {}, Page {}, Values {}, Write {}, of matching {}; met: {}",
+            "Read {}, Rows {}, Page {}, Values {}, Write {}, Count {}, of matching {}; met: {}",
             self.read,
             self.rows,
             self.pages,
             self.values,
             self.written,
+            self.counting.numbers.iter().sum::<usize>(),
             self.matching.numbers.iter().sum::<usize>(),
             parts.join(", ")
         )
@@ -162,6 +178,23 @@ impl Matching {
             ("matching, pattern without variables", self.without_variables),
             ("matching, 16 rows of a constant", self.largest_group),
         ];
+        numbers.into_iter().chain(others.map(|(what, times)| (what.to_string(), times))).collect()
+    }
+}
+
+impl Counting {
+    /// Counts what a right answer of Count shows.
+    fn note(&mut self, answer: &Answer) {
+        self.numbers[usize::from(answer.number)] += 1;
+        let number = &answer.figures[..2];
+        self.none += usize::from(answer.number == 0 && number == [0, 0]);
+        self.long += usize::from(answer.number == 0 && number > &[0, THOUSAND_MILLION]);
+    }
+
+    /// What should have been met where unifiers were counted, with how often it was.
+    fn wanted(&self) -> Vec<(String, usize)> {
+        let numbers = OF_COUNT.map(|number| (format!("Count, number {number}"), self.numbers[number]));
+        let others = [("Count, no unifier", self.none), ("Count, more than a thousand million", self.long)];
         numbers.into_iter().chain(others.map(|(what, times)| (what.to_string(), times))).collect()
     }
 }

@@ -1,6 +1,7 @@
 //! A check that uses no algorithm of the solver, only what a unifier is (source 000): for small pairs, every
 //! replacement of the variables by small non-empty sums that makes the sides equal must come from a listed
-//! substitution, every listed one must make the sides equal, and none may come from another.
+//! substitution, every listed one must make the sides equal, none may come from another, and as many must be
+//! counted as are listed.
 
 use crate::block::Sides;
 use crate::names::{name, sum, told};
@@ -27,11 +28,13 @@ pub struct Checked {
     pub unifiers: usize,
 }
 
-/// A small pair with the substitutions that are listed for it: a value for each variable ascending.
+/// A small pair with the substitutions that are listed for it, a value for each variable ascending, and with the
+/// number that is given without listing them.
 struct Listed {
     sides: Sides,
     variables: Vec<u8>,
     substitutions: Vec<Vec<Sum>>,
+    counted: u64,
 }
 
 /// Checks all small pairs with the answers that the given means gives; the first objection ends it.
@@ -57,7 +60,7 @@ fn small_pairs() -> Vec<Sides> {
     all.into_iter().filter(|sides| !sides.left.is_empty() && !sides.right.is_empty()).collect()
 }
 
-/// Asks for the whole list of each pair and for the values of each key.
+/// Asks for the whole list of each pair, for the values of each key and for their number.
 fn listed_substitutions(
     pairs: Vec<Sides>,
     ask: impl Fn(&[Question]) -> Result<Vec<Answer>, String>,
@@ -74,10 +77,13 @@ fn listed_substitutions(
         })
         .collect();
     let mut values = ask(&value_questions)?.into_iter();
+    let count_questions: Vec<Question> = pairs.iter().map(|sides| question(Ask::Count, sides, 0)).collect();
+    let counts = ask(&count_questions)?;
     pairs
         .into_iter()
         .zip(pages)
-        .map(|(sides, keys)| listed(sides, values.by_ref().take(keys.len())))
+        .zip(&counts)
+        .map(|((sides, keys), count)| listed(sides, values.by_ref().take(keys.len()), number(count)?))
         .collect()
 }
 
@@ -98,8 +104,16 @@ fn keys(page: &Answer) -> Result<Vec<u32>, String> {
     }
 }
 
-/// A pair with the substitutions that answers to Values hold.
-fn listed(sides: Sides, answers: impl Iterator<Item = Answer>) -> Result<Listed, String> {
+/// The number that an answer to Count gives.
+fn number(count: &Answer) -> Result<u64, String> {
+    match (count.number, count.figures) {
+        (0, [high, low, 0, 0, 0, 0]) => Ok(u64::from(high) << 32 | u64::from(low)),
+        (number, _) => Err(format!("a pair whose unifiers are not counted: number {number}")),
+    }
+}
+
+/// A pair with the substitutions that answers to Values hold, and their number.
+fn listed(sides: Sides, answers: impl Iterator<Item = Answer>, counted: u64) -> Result<Listed, String> {
     let atoms: BTreeSet<u8> = sides.left.iter().chain(&sides.right).copied().collect();
     let variables: Vec<u8> = atoms.into_iter().filter(|&atom| atom < FIRST_CONSTANT).collect();
     let substitutions = answers
@@ -107,7 +121,7 @@ fn listed(sides: Sides, answers: impl Iterator<Item = Answer>) -> Result<Listed,
             substitution(&answer, &variables).ok_or(format!("{}: values that cannot be read", told(&sides)))
         })
         .collect::<Result<_, _>>()?;
-    Ok(Listed { sides, variables, substitutions })
+    Ok(Listed { sides, variables, substitutions, counted })
 }
 
 /// The values of all variables ascending from an answer, if it holds just those and none is empty.
@@ -127,8 +141,11 @@ fn substitution(answer: &Answer, variables: &[u8]) -> Option<Vec<Sum>> {
 }
 
 impl Listed {
-    /// Each listed substitution makes the sides equal, and none comes from another.
+    /// As many substitutions are counted as are listed, each makes the sides equal, and none comes from another.
     fn check_listed(&self) -> Result<(), String> {
+        if self.counted != self.substitutions.len() as u64 {
+            return Err(format!("{} are counted and {} listed", self.counted, self.substitutions.len()));
+        }
         for (place, values) in self.substitutions.iter().enumerate() {
             if !self.makes_equal(values) {
                 return Err(format!("{} does not make the sides equal", self.told_values(values)));

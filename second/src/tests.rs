@@ -1,6 +1,8 @@
 //! Document 01's pairs 1 to 17 and its nightly example, the published counts, Fages' rows, and the list
 //! against itself; matches worked by hand and found by trying all replacements.
 
+mod counting;
+
 use crate::block::{read, seal, write, Sides, BLOCK, PLUS};
 use crate::chance::Chance;
 use crate::examples::{
@@ -193,8 +195,7 @@ fn ten_names_the_lowest_atom() {
     assert_eq!(named("v0+v1+v2+v3+v4+v5", "9v6"), Some((9, None)));
 }
 
-/// The list of a pair is ascending, as long as inclusion and exclusion count, and goes on after each of its
-/// keys.
+/// The list of a pair is ascending, as long as it is counted, and goes on after each of its keys.
 fn list_agrees_with_itself(pair: &Solved) {
     let number = pair.list.number();
     if number > 2000 {

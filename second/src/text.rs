@@ -49,7 +49,7 @@ pub fn print_library(way: Way, mut library: impl Read, mut text: impl Write) -> 
 }
 
 /// The next 512 bytes, or fewer at the end of the library.
-fn next_block(library: &mut impl Read) -> io::Result<Vec<u8>> {
+pub fn next_block(library: &mut impl Read) -> io::Result<Vec<u8>> {
     let mut block = Vec::with_capacity(BLOCK);
     library.take(BLOCK as u64).read_to_end(&mut block)?;
     Ok(block)
@@ -74,10 +74,15 @@ fn write_block(
         }
         Err(refusal) => {
             counts.refused += 1;
-            let atom = refusal.atom().map_or(String::new(), |atom| format!(" {}", name(atom)));
-            writeln!(text, "block {place} refused {}{atom}", refusal.number())
+            writeln!(text, "{}", refused(place, refusal))
         }
     }
+}
+
+/// The line of a refused block: the number and the atom that it names.
+pub fn refused(place: u64, refusal: Refusal) -> String {
+    let atom = refusal.atom().map_or(String::new(), |atom| format!(" {}", name(atom)));
+    format!("block {place} refused {}{atom}", refusal.number())
 }
 
 /// The lines of a listed block: its rows, its first page and whether that is all.

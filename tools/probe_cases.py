@@ -4,12 +4,13 @@
     tools/probe_cases.py SECOND
 
 Read is answered by a reader of blocks of its own (read_cases.py), Write by document 01 and by tools/library.py
-(write_cases.py), Rows by hand (tests/rows.txt), Page and Values by the second solver, whose program SECOND is; nothing by
-the program under test.
+(write_cases.py), Rows by hand (tests/rows.txt), Count by hand and by what is published (count_cases.py), Page and Values by
+the second solver, whose program SECOND is; nothing by the program under test.
 """
 import sys
 from pathlib import Path
 
+import count_cases
 import read_cases
 import rows_cases
 import second_cases
@@ -21,7 +22,13 @@ QUESTIONS, ANSWERS = PROBE / "stdin", PROBE / "stdout"
 
 def cases(second):
     """Every case, in the order in which they are stored."""
-    return [*read_cases.cases(), *rows_cases.cases(), *second_cases.cases(second), *write_cases.cases()]
+    return [
+        *read_cases.cases(),
+        *rows_cases.cases(),
+        *second_cases.cases(second),
+        *write_cases.cases(),
+        *count_cases.cases(),
+    ]
 
 
 def main():

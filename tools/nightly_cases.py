@@ -1,6 +1,6 @@
 #!/usr/bin/env python3
-"""Make what tests/nightly runs: the libraries in tests/libraries, and what the nightly program and `matches` must print of
-them and of the examples.
+"""Make what tests/nightly runs: the libraries in tests/libraries, and what the nightly program, `matches` and `census` must
+print of them and of the examples.
 
     tools/nightly_cases.py SECOND
 
@@ -17,10 +17,13 @@ EXAMPLES = sorted((ROOT / "examples").glob("*.txt"))
 LIBRARIES = ROOT / "tests" / "libraries"
 
 # the programs, and the ending of the file with what each must print of a library
-PROGRAMS = {"nightly": ".out", "matches": ".matches"}
+PROGRAMS = {"nightly": ".out", "matches": ".matches", "census": ".census"}
 
 # 204 unifiers (source document 002, B.2), more than a page
 LONG = "v0+v1+c0 = v2+v3+v4+c1"
+
+# the longest list of all, more than 4,000 million; twice it is more than 32 bits hold
+LONGEST = "6v3+6c0+6c1+6c2+6c3 = 8v0+7v1+7v2"
 
 
 def damaged(place, whole):
@@ -45,6 +48,7 @@ def cases():
     one, other = nested(0), nested(1)
     yield "brackets", block(0, left_brackets(one), right_brackets(other)) + block(1, right_brackets(one), left_brackets(other))
     yield "no_variables", b"".join(library(["c0 = c0", "c0+c1 = c1+c0", "c0 = c1"]))
+    yield "counts", b"".join(library([LONG, LONGEST, "2v0 = c0", "v0 = 9v7", "zeros", LONGEST, "v0+v1 = v2+v3"]))
 
 
 def store(second, made, beside):

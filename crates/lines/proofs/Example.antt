@@ -6,10 +6,12 @@ use Prim.Native.Nat.{ℕ}
 use Rattle.ac.specs.Values.{Binding}
 use Rattle.text.specs.Ascii.{ascii}
 use Rattle.text.specs.Decimal.{decimal}
+use Rattle.pair.specs.declared.ways.Way.the-variants.{Unifying}
+use Rattle.tally.specs.Counts.{totals, closingOf}
 use Rattle.tally.specs.declared.Line.{Line}
 use Rattle.tally.specs.declared.Line.the-variants.{Listed, NoUnifier}
 use Rattle.tally.specs.declared.Totals.{Totals}
-use Rattle.tally.specs.declared.Closing.the-variants.{Counted}
+use Rattle.tally.specs.declared.Report.the-variants.{Listing}
 use Rattle.lines.specs.Lines.{blockLine, substitutionLine, endLine, closingLines}
 
 -- v0 and v1 with a constant each
@@ -22,7 +24,7 @@ listed = Listed 0 4 2 false
 
 -- two blocks were read, of which one is listed and one has no unifier
 abbrev counts : Totals
-counts = record { blocks = 2; listed = 1; none = 1; refused = 0 }
+counts = totals 2 1 1 0 0
 
 pub example :
     blockLine 0 listed
@@ -31,7 +33,7 @@ pub example :
     ++ endLine listed
     ++ blockLine 1 NoUnifier
     ++ endLine NoUnifier
-    ++ closingLines (Counted counts)
+    ++ closingLines (closingOf (Listing Unifying) counts false)
     ≡ ascii "block 0 rows 0 4\nv0=c1 v1=c0\nv0=c0 v1=c1\nend 2\nblock 1 none\nblocks 2 listed 1 none 1 refused 0\n"
 unfolding decimal
 example = refl

@@ -1,15 +1,17 @@
 -- The lines that document 01's example does not have, as the documents print them.
 use Prim.Native.Nat.{ℕ}
 use mathlib.Core.Path.{_≡_, refl}
-use mathlib.Core.Bool.{true}
+use mathlib.Core.Bool.{true, false}
 use mathlib.Core.List.{List, [], _∷_, _++_}
 use Rattle.ac.specs.Values.{Binding}
 use Rattle.text.specs.Ascii.{ascii}
 use Rattle.text.specs.Decimal.{decimal}
+use Rattle.pair.specs.declared.ways.Way.the-variants.{Unifying}
+use Rattle.tally.specs.Counts.{totals, closingOf}
 use Rattle.tally.specs.declared.Line.{Line}
-use Rattle.tally.specs.declared.Line.the-variants.{Listed, Refused, RefusedNaming}
+use Rattle.tally.specs.declared.Line.the-variants.{Listed, Counted, Refused, RefusedNaming}
 use Rattle.tally.specs.declared.Totals.{Totals}
-use Rattle.tally.specs.declared.Closing.the-variants.{NothingRead, TooLong}
+use Rattle.tally.specs.declared.Report.the-variants.{Listing, Census}
 use Rattle.lines.specs.Lines.{blockLine, substitutionLine, endLine, closingLines}
 
 -- v0 and v1 with their values
@@ -60,14 +62,36 @@ where-a-constant-is-named = refl
 
 -- as many blocks as are read at most
 abbrev most : Totals
-most = record { blocks = 1_048_576; listed = 1; none = 20; refused = 1_048_555 }
+most = totals 1_048_576 1 20 1_048_555 0
 
 -- If input remains, the line `too long` stands before the last line.
 pub where-input-remains :
-    closingLines (TooLong most) ≡ ascii "too long\nblocks 1048576 listed 1 none 20 refused 1048555\n"
+    closingLines (closingOf (Listing Unifying) most true) ≡ ascii "too long\nblocks 1048576 listed 1 none 20 refused 1048555\n"
 unfolding decimal
 where-input-remains = refl
 
 -- For an empty input only `nothing read`.
-pub where-nothing-is-read : closingLines NothingRead ≡ ascii "nothing read\n"
+pub where-nothing-is-read :
+    closingLines (closingOf (Listing Unifying) (totals 0 0 0 0 0) false) ≡ ascii "nothing read\n"
 where-nothing-is-read = refl
+
+-- In a census `block P unifiers N` for each block, 0 where there are none, and no page (document 02, R-7).
+pub where-counted :
+    blockLine 0 (Counted 265) ++ endLine (Counted 265) ++ blockLine 1 (Counted 0)
+    ≡ ascii "block 0 unifiers 265\nblock 1 unifiers 0\n"
+unfolding decimal
+where-counted = refl
+
+-- Last comes `total T`, for an empty input too; if input remains, after `too long`.
+pub total-at-the-end : closingLines (closingOf Census (totals 3 0 0 1 265) false) ≡ ascii "total 265\n"
+unfolding decimal
+total-at-the-end = refl
+
+pub total-of-nothing : closingLines (closingOf Census (totals 0 0 0 0 0) false) ≡ ascii "total 0\n"
+unfolding decimal
+total-of-nothing = refl
+
+pub total-where-input-remains :
+    closingLines (closingOf Census (totals 32_768 0 0 32_767 32_677) true) ≡ ascii "too long\ntotal 32677\n"
+unfolding decimal
+total-where-input-remains = refl

@@ -1,5 +1,5 @@
--- The nightly program's lines (document 01, "The nightly program"). Numbers are decimal; a line ends in a line
--- feed.
+-- The lines of a listing (document 01, "The nightly program") and of a census (document 02, R-7). Numbers are decimal; a
+-- line ends in a line feed.
 use Prim.Native.Nat.{ℕ}
 use mathlib.Core.Bool.{Bool, cond}
 use mathlib.Core.List.{List, [], _∷_, _++_, map}
@@ -8,10 +8,11 @@ use Rattle.text.specs.Ascii.{ascii}
 use Rattle.text.specs.Decimal.{decimal}
 use Rattle.text.specs.Text.{name, substitution}
 use Rattle.tally.specs.declared.Line.{Line}
-use Rattle.tally.specs.declared.Line.the-variants.{Listed, NoUnifier, Refused, RefusedNaming}
+use Rattle.tally.specs.declared.Line.the-variants.{Listed, Counted, NoUnifier, Refused, RefusedNaming}
 use Rattle.tally.specs.declared.Totals.{Totals}
+use Rattle.tally.specs.declared.LastLine.{LastLine}
+use Rattle.tally.specs.declared.LastLine.the-variants.{NothingRead, Counts, Total}
 use Rattle.tally.specs.declared.Closing.{Closing}
-use Rattle.tally.specs.declared.Closing.the-variants.{NothingRead, Counted, TooLong}
 
 -- a word and a number behind it
 abbrev pub labelled : List ℕ → ℕ → List ℕ
@@ -20,6 +21,10 @@ labelled word number = word ++ decimal number
 -- `block P rows H K` (place in the file from 0, balanced rows, rows of all constants)
 abbrev pub rowsLine : ℕ → ℕ → ℕ → List ℕ
 rowsLine P H K = labelled (ascii "block ") P ++ labelled (ascii " rows ") H ++ labelled (ascii " ") K ++ ascii "\n"
+
+-- in a census `block P unifiers N`
+abbrev pub unifiersLine : ℕ → ℕ → List ℕ
+unifiersLine P N = labelled (ascii "block ") P ++ labelled (ascii " unifiers ") N ++ ascii "\n"
 
 -- No unifier gives `block P none`; ..
 abbrev pub noneLine : ℕ → List ℕ
@@ -39,6 +44,7 @@ namingLine P X atom = refusal P X ++ (ascii " " ++ name atom) ++ ascii "\n"
 -- the line that a block has, whatever was found
 abbrev pub blockLine : ℕ → Line → List ℕ
 blockLine P (Listed H K N more) = rowsLine P H K
+blockLine P (Counted N) = unifiersLine P N
 blockLine P NoUnifier = noneLine P
 blockLine P (Refused X) = refusedLine P X
 blockLine P (RefusedNaming X atom) = namingLine P X atom
@@ -54,6 +60,7 @@ pageEnd N more = cond more (ascii "more\n") (labelled (ascii "end ") N ++ ascii 
 -- where there is no page, nothing
 abbrev pub endLine : Line → List ℕ
 endLine (Listed H K N more) = pageEnd N more
+endLine (Counted N) = []
 endLine NoUnifier = []
 endLine (Refused X) = []
 endLine (RefusedNaming X atom) = []
@@ -71,8 +78,19 @@ countsLine c =
     ++ labelled (ascii " refused ") (c .refused)
     ++ ascii "\n"
 
--- If input remains, the line `too long` stands before the last line; for an empty input only `nothing read`.
+-- in a census `total T`
+abbrev pub totalLine : ℕ → List ℕ
+totalLine T = labelled (ascii "total ") T ++ ascii "\n"
+
+-- the last line; for an empty input `nothing read`, but in a census `total 0`
+abbrev pub lastLine : LastLine → List ℕ
+lastLine NothingRead = ascii "nothing read\n"
+lastLine (Counts c) = countsLine c
+lastLine (Total T) = totalLine T
+
+-- If input remains, the line `too long` stands before the last line.
+abbrev pub tooLong : Bool → List ℕ
+tooLong remains = cond remains (ascii "too long\n") []
+
 abbrev pub closingLines : Closing → List ℕ
-closingLines NothingRead = ascii "nothing read\n"
-closingLines (Counted c) = countsLine c
-closingLines (TooLong c) = ascii "too long\n" ++ countsLine c
+closingLines c = tooLong (c .remains) ++ lastLine (c .last)

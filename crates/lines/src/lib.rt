@@ -1,4 +1,5 @@
-// The nightly program's lines, put into a lent buffer from a place on (document 01, "The nightly program").
+// The lines of a listing (document 01, "The nightly program") and of a census (document 02, R-7), put into a lent buffer
+// from a place on.
 //
 // Every function answers the place after what it put, and leaves every other byte of the buffer as it was. The line
 // of a block takes at most 128 bytes, that of the counts 112: words, and numbers of at most 20 digits.
@@ -11,9 +12,10 @@ ghost use Rattle.buffer.specs.Put.{Put};
 ghost use Rattle.text.specs.Ascii.{ascii};
 ghost use Rattle.text.specs.Text.{name};
 ghost use Rattle.lines.specs.Putting.{PutWithin};
-ghost use Rattle.lines.specs.Lines.{labelled, rowsLine, noneLine, refusal, refusedLine, namingLine, blockLine, pageEnd, endLine, substitutionLine, countsLine, closingLines};
+ghost use Rattle.lines.specs.Lines.{labelled, rowsLine, unifiersLine, noneLine, refusal, refusedLine, namingLine, blockLine, pageEnd, endLine, substitutionLine, countsLine, totalLine, lastLine, tooLong, closingLines};
 use buffer::put_bytes;
 use tally::Closing;
+use tally::LastLine;
 use tally::Line;
 use tally::Totals;
 use text::put_name;
@@ -38,6 +40,16 @@ fn put_rows(out: &mut [u8], at: usize, place: u64, balanced: u64, of_constants: 
     let next = put_labelled(out, at, b"block ", place);
     let next = put_labelled(out, next, b" rows ", balanced);
     let next = put_labelled(out, next, b" ", of_constants);
+    put_bytes(out, next, b"\n")
+}
+
+// `block P unifiers N`.
+fn put_unifiers(out: &mut [u8], at: usize, place: u64, unifiers: u64) -> usize
+    requires { ⌜ at + 128 ≤ length (now out) ⌝ }
+    ensures { λ r. ⌜ PutWithin 128 (now (out .entry)) at (unifiersLine place unifiers) r (now (out .exit)) ⌝ }
+{
+    let next = put_labelled(out, at, b"block ", place);
+    let next = put_labelled(out, next, b" unifiers ", unifiers);
     put_bytes(out, next, b"\n")
 }
 
@@ -99,6 +111,7 @@ pub fn put_block_line(out: &mut [u8], at: usize, place: u64, line: Line) -> usiz
             lines: _,
             more: _,
         } => put_rows(out, at, place, balanced, of_constants),
+        Line::Counted(unifiers) => put_unifiers(out, at, place, unifiers),
         Line::NoUnifier => put_none(out, at, place),
         Line::Refused(number) => put_refused(out, at, place, number),
         Line::RefusedNaming { number, atom } => put_naming(out, at, place, number, atom),
@@ -129,6 +142,7 @@ pub fn put_end_line(out: &mut [u8], at: usize, line: Line) -> usize
             lines,
             more,
         } => put_page_end(out, at, lines, more),
+        Line::Counted(_) => at,
         Line::NoUnifier => at,
         Line::Refused(_) => at,
         Line::RefusedNaming { number: _, atom: _ } => at,
@@ -147,19 +161,46 @@ fn put_counts(out: &mut [u8], at: usize, counts: Totals) -> usize
     put_bytes(out, next, b"\n")
 }
 
+// `total T`.
+fn put_total(out: &mut [u8], at: usize, total: u64) -> usize
+    requires { ⌜ at + 112 ≤ length (now out) ⌝ }
+    ensures { λ r. ⌜ PutWithin 112 (now (out .entry)) at (totalLine total) r (now (out .exit)) ⌝ }
+{
+    let next = put_labelled(out, at, b"total ", total);
+    put_bytes(out, next, b"\n")
+}
+
+// The last line.
+fn put_last(out: &mut [u8], at: usize, last: LastLine) -> usize
+    requires { ⌜ at + 112 ≤ length (now out) ⌝ }
+    ensures { λ r. ⌜ PutWithin 112 (now (out .entry)) at (lastLine last) r (now (out .exit)) ⌝ }
+{
+    match last {
+        LastLine::NothingRead => put_bytes(out, at, b"nothing read\n"),
+        LastLine::Counts(counts) => put_counts(out, at, counts),
+        LastLine::Total(total) => put_total(out, at, total),
+    }
+}
+
+// `too long`, where input remains.
+fn put_too_long(out: &mut [u8], at: usize, remains: bool) -> usize
+    requires { ⌜ at + 16 ≤ length (now out) ⌝ }
+    ensures { λ r. ⌜ PutWithin 16 (now (out .entry)) at (tooLong remains) r (now (out .exit)) ⌝ }
+{
+    if remains {
+        return put_bytes(out, at, b"too long\n");
+    }
+    at
+}
+
 // The lines at the end.
 pub fn put_closing(out: &mut [u8], at: usize, closing: Closing) -> usize
     requires { ⌜ at + 128 ≤ length (now out) ⌝ }
     ensures { λ r. ⌜ PutWithin 128 (now (out .entry)) at (closingLines closing) r (now (out .exit)) ⌝ }
 {
-    match closing {
-        Closing::NothingRead => put_bytes(out, at, b"nothing read\n"),
-        Closing::Counted(counts) => put_counts(out, at, counts),
-        Closing::TooLong(counts) => {
-            let next = put_bytes(out, at, b"too long\n");
-            put_counts(out, next, counts)
-        }
-    }
+    let next = put_too_long(out, at, closing.remains);
+    let last = closing.last;
+    put_last(out, next, last)
 }
 
 // The line of a substitution, from the bytes of Values.

@@ -3,11 +3,12 @@
 // program's form.
 use output::ending::give_verdict;
 use pair::ways::Way;
+use tally::Report;
 
 fn main() {
     let mut input = io::large_buffer();
     let mut output = io::large_buffer();
-    if printing::run(Way::Matching, &mut input, &mut output) {
+    if printing::run(Report::Listing(Way::Matching), &mut input, &mut output) {
         give_verdict();
     }
 }

@@ -9,7 +9,7 @@ use mathlib.Core.List.{List, [], map, List·Memᴰ, List·Memᴰ·not-nil, Mem�
 use lib.Dec.{eqb}
 use lib.ListN.{length, take, drop, replicate, length-append, length-take, take-append-drop}
 use lib.Seq.{take-append-seam}
-use Rattle.ac.specs.Pair.{Mode}
+use Rattle.ac.specs.Pair.{Mode, unifying}
 use Rattle.ac.specs.Rows.{Groups, GroupsOf}
 use Rattle.ac.specs.Keys.{Beginning, start, layout, keys, remaining}
 use Rattle.ac.specs.Values.{Binding}
@@ -21,6 +21,10 @@ use Rattle.solver.specs.declared.rows.RowsAnswer.{RowsAnswer}
 use Rattle.solver.specs.declared.rows.RowsAnswer.the-variants.{Groups as Sizes}
 use Rattle.solver.specs.declared.rows.RowsAnswer.the-variants as rows
 use Rattle.numbers.specs.Outcome.{Said, Outcome, refused, given, is-given}
+use Rattle.solver.specs.Count.{toldCount, CountPromise}
+use Rattle.solver.specs.declared.count.CountAnswer.{CountAnswer}
+use Rattle.solver.specs.declared.count.CountAnswer.the-variants.{Count}
+use Rattle.solver.specs.declared.count.CountAnswer.the-variants as count
 use Rattle.solver.specs.Page.{wantedCount, PagePromise, nextKeys}
 use Rattle.solver.specs.Page as keyed
 use Rattle.solver.specs.declared.page.PageAnswer.{PageAnswer}
@@ -28,15 +32,19 @@ use Rattle.solver.specs.declared.page.PageAnswer.the-variants.{Page}
 use Rattle.solver.specs.declared.page.PageAnswer.the-variants as page
 use Rattle.pair.specs.Ways.{modeOf}
 use Rattle.pair.specs.declared.ways.Way.{Way}
+use Rattle.pair.specs.declared.ways.Way.the-variants.{Unifying}
 use Rattle.table.specs.Table.{groupsIn}
 use Rattle.table.specs.declared.Table.{Table}
-use Rattle.tally.specs.Line.{BlockFound, toldBlock, lineWith, lineOfSaid}
+use Rattle.tally.specs.Line.{BlockFound, a-list, toldList, toldNumber, toldBlock, lineWith, lineOf}
 use Rattle.tally.specs.Counts.{Tallies, counted}
 use Rattle.tally.specs.declared.Line.the-variants.{Listed, NoUnifier, Refused}
 use Rattle.tally.specs.declared.Totals.{Totals}
+use Rattle.tally.specs.declared.Report.{Report}
+use Rattle.tally.specs.declared.Report.the-variants as asks
+use Rattle.tally.specs.declared.Answers.{Answers}
 use Rattle.tally.specs.declared.Tallied.{Tallied}
-use Rattle.lines.specs.Library.{bindingsOf, Returns, read-refused, sides, rows-refused, page-refused, a-page}
-use Rattle.printing.specs.Asked.{SolvedPair, BlockAsked}
+use Rattle.lines.specs.Library.{bindingsOf, SidesFound, listed, count-refused, a-count, Returns, read-refused, sides, rows-refused, page-refused, a-page}
+use Rattle.printing.specs.Asked.{SolvedPair, PairListed, SidesAsked, BlockAsked}
 use Rattle.printing.specs.Printed.{keyCount, ReadyToPrint, StartsBlock}
 use Rattle.printing.specs.declared.ask.Asked.{Asked}
 use Rattle.printing.specs.declared.print.Listing.{Listing}
@@ -77,18 +85,19 @@ no-keys option.none n = go (eqb n 13)
     go true = refl
     go false = refl
 
-module _ {way : Way} {block : List ℕ} {c : Totals} {l : Listing} {after : Totals} (same-place : l .place ≡ c .blocks) where
+module _ {report : Report} {block : List ℕ} {c : Totals} {l : Listing} {after : Totals} (same-place : l .place ≡ c .blocks) where
   -- a block without a page
-  starts-refused : {said : Said} → Returns way block (c .blocks % 65536) (refused said) []
-      → l .line ≡ lineOfSaid said
-      → after ≡ counted c (lineOfSaid said) → StartsBlock way block c l after
-  starts-refused {said} found same-line counts =
-      let none : keyCount (l .line) ≡ 0 = ap keyCount same-line ∙ no-keys (said .atom) (said .number) in
-      let no-page = ap (λ (k : ℕ). map (bindingsOf way [] [] (groupsIn (l .table))) (take k (l .keys))) none in
+  starts-alone : (returned : Outcome BlockFound) → Returns report block (c .blocks % 65536) returned []
+      → keyCount (lineOf returned) ≡ 0 → l .line ≡ lineOf returned
+      → after ≡ counted c (lineOf returned) → StartsBlock report block c l after
+  starts-alone returned found alone same-line counts =
+      let none : keyCount (l .line) ≡ 0 = ap keyCount same-line ∙ alone in
+      let no-page = ap (λ (k : ℕ). map (bindingsOf Unifying [] [] (groupsIn (l .table))) (take k (l .keys))) none in
       record {
+        way = Unifying;
         left = [];
         right = [];
-        returned = refused said;
+        returned = returned;
         page = [];
         found = found;
         the-lines = cc (same-place, same-line, no-page);
@@ -103,18 +112,26 @@ module _ {way : Way} {block : List ℕ} {c : Totals} {l : Listing} {after : Tota
         ready = record { few = omega arith; within = λ some. absurd (omega arith) };
       }
 
+  -- a refused one
+  starts-refused : (said : Said) → Returns report block (c .blocks % 65536) (refused said) []
+      → l .line ≡ lineOf (refused said)
+      → after ≡ counted c (lineOf (refused said)) → StartsBlock report block c l after
+  starts-refused said found = starts-alone (refused said) found (no-keys (said .atom) (said .number))
+
   -- a block with a page
-  starts-page : {L R out : List ℕ} {balanced constants written : ℕ} {more : Bool}
+  starts-page : {way : Way} {L R out : List ℕ} {balanced constants written : ℕ} {more : Bool}
       → SolvedPair way L R (l .table)
       → PagePromise (modeOf way L R) L R start 200 out (given (record { written = written; more = more })) (l .keys)
-      → Returns way block (c .blocks % 65536) (given (record { balanced = balanced; constants = constants; written = written; more = more }))
+      → Returns report block (c .blocks % 65536)
+      (given (a-list (record { balanced = balanced; constants = constants; written = written; more = more })))
       (map (bindingsOf way L R (groupsIn (l .table))) (take written (l .keys)))
       → l .line ≡ Listed balanced constants written more
-      → after ≡ counted c (Listed balanced constants written more) → StartsBlock way block c l after
-  starts-page {L} {R} {written = written} {more = more} solved promise found same-line counts =
+      → after ≡ counted c (Listed balanced constants written more) → StartsBlock report block c l after
+  starts-page {way} {L} {R} {written = written} {more = more} solved promise found same-line counts =
       let count : keyCount (l .line) ≡ written = ap keyCount same-line in
       let same-page = ap (λ (k : ℕ). map (bindingsOf way L R (groupsIn (l .table))) (take k (l .keys))) count in
       record {
+        way = way;
         left = L;
         right = R;
         returned = _;
@@ -133,35 +150,63 @@ module _ {way : Way} {block : List ℕ} {c : Totals} {l : Listing} {after : Tota
       }
 
 -- What was asked of a block and tallied is printed.
-module _ {way : Way} {block keys : List ℕ} {number : ℕ} {c : Totals} (same-number : number ≡ c .blocks % 65536) where
-  pub starts : (a : Asked) {t : Tallied} → BlockAsked way block number (replicate 200 0) a keys
-      → Tallies c (toldBlock (a .read) (a .rows) (a .page)) t
-      → StartsBlock way block c (record { place = t .place; line = t .line; table = a .table; keys = keys }) (t .counts)
-  starts a {t} asked tallied = go (a .read) (a .rows) (a .page) (a .table) asked tallied
-    where
-      numbered : {r : Outcome BlockFound} {p : List (List Binding)} → Returns way block number r p → Returns way block (c .blocks % 65536) r p
-      numbered {r} {p} found = subst (λ k. Returns way block k r p) same-number found
 
-      go : (read : ReadAnswer) (rows : RowsAnswer) (page : PageAnswer) (table : Table)
-          → BlockAsked way block number (replicate 200 0)
-          (record { read = read; rows = rows; page = page; table = table }) keys
-          → Tallies c (toldBlock read rows page) t
-          → StartsBlock way block c (record { place = t .place; line = t .line; table = table; keys = keys }) (t .counts)
-      go (read.Refused why) rows page table asked tallied =
-          starts-refused (tallied .the-place) (numbered (read-refused (asked .read-promise)))
+-- what is printed, from what was tallied, the keys and the table
+abbrev printed : Tallied → List ℕ → Table → Listing
+printed t keys table = record { place = t .place; line = t .line; table = table; keys = keys }
+
+-- what is found of two sides is found of the block
+abbrev FoundOf : Report → List ℕ → ℕ → List ℕ → List ℕ → Type 0
+FoundOf report block number L R =
+    (r : Outcome BlockFound) (p : List (List Binding)) → SidesFound L R report r p → Returns report block number r p
+
+module _ {block keys : List ℕ} {c : Totals} {t : Tallied} where
+  list-starts : {way : Way} {L R : List ℕ} (rows : RowsAnswer) (page : PageAnswer) (table : Table)
+      → FoundOf (asks.Listing way) block (c .blocks % 65536) L R → PairListed way L R (replicate 200 0) rows page table keys
+      → Tallies c (toldList rows page) t → StartsBlock (asks.Listing way) block c (printed t keys table) (t .counts)
+  list-starts (rows.Refused why) page table found asked tallied =
+      starts-refused (tallied .the-place) _ (found _ _ (listed (rows-refused (asked .rows-promise))))
+      (tallied .the-line) (tallied .the-counts)
+  list-starts (Sizes b k s t u v) (page.Refused why) table found asked tallied =
+      starts-refused (tallied .the-place) _
+      (found _ _ (listed (page-refused (asked .rows-promise) (asked .page-promise))))
+      (tallied .the-line) (tallied .the-counts)
+  list-starts (Sizes b k s t u v) (Page written more) table found asked tallied =
+      let solved = asked .solved refl in
+      starts-page (tallied .the-place) solved (asked .page-promise)
+      (found _ _ (listed (a-page (asked .rows-promise) (asked .page-promise) (solved .the-table .the-groups))))
+      (tallied .the-line) (tallied .the-counts)
+
+  count-starts : {L R : List ℕ} (count : CountAnswer) (table : Table) → FoundOf asks.Census block (c .blocks % 65536) L R
+      → CountPromise unifying L R (toldCount count) → Tallies c (toldNumber count) t
+      → StartsBlock asks.Census block c (printed t keys table) (t .counts)
+  count-starts (count.Refused why) table found promise tallied =
+      starts-refused (tallied .the-place) _ (found _ _ (count-refused promise)) (tallied .the-line) (tallied .the-counts)
+  count-starts (Count unifiers) table found promise tallied =
+      starts-alone (tallied .the-place) _ (found _ _ (a-count promise)) refl (tallied .the-line) (tallied .the-counts)
+
+  sides-start : {report : Report} {L R : List ℕ} {a : Answers} {table : Table} (left right : ℕ) → FoundOf report block (c .blocks % 65536) L R
+      → SidesAsked L R (replicate 200 0) report a table keys → Tallies c (toldBlock (Sides left right) a) t
+      → StartsBlock report block c (printed t keys table) (t .counts)
+  sides-start left right found (SidesAsked.listing {rows = rows} {page = page} {table = table} asked) tallied =
+      list-starts rows page table found asked tallied
+  sides-start left right found (SidesAsked.census {count = count} {table = table} promise) tallied =
+      count-starts count table found promise tallied
+
+  pub starts : {report : Report} {number : ℕ} (a : Asked) → number ≡ c .blocks % 65536
+      → BlockAsked report block number (replicate 200 0) a keys → Tallies c (toldBlock (a .read) (a .answers)) t
+      → StartsBlock report block c (printed t keys (a .table)) (t .counts)
+  starts {report} {number} a same-number asked tallied = go (a .read) (a .answers) (a .table) asked tallied
+    where
+      numbered : {r : Outcome BlockFound} {p : List (List Binding)} → Returns report block number r p
+          → Returns report block (c .blocks % 65536) r p
+      numbered {r} {p} found = subst (λ k. Returns report block k r p) same-number found
+
+      go : (read : ReadAnswer) (its : Answers) (table : Table)
+          → BlockAsked report block number (replicate 200 0) (record { read = read; answers = its; table = table }) keys
+          → Tallies c (toldBlock read its) t → StartsBlock report block c (printed t keys table) (t .counts)
+      go (read.Refused why) its table asked tallied =
+          starts-refused (tallied .the-place) _ (numbered (read-refused (asked .read-promise)))
           (tallied .the-line) (tallied .the-counts)
-      go (Sides l r) (rows.Refused why) page table asked tallied =
-          starts-refused (tallied .the-place)
-          (numbered (sides (asked .read-promise) (rows-refused (asked .pair .rows-promise))))
-          (tallied .the-line) (tallied .the-counts)
-      go (Sides l r) (Sizes b k s t u v) (page.Refused why) table asked tallied =
-          starts-refused (tallied .the-place)
-          (numbered (sides (asked .read-promise)
-          (page-refused (asked .pair .rows-promise) (asked .pair .page-promise))))
-          (tallied .the-line) (tallied .the-counts)
-      go (Sides l r) (Sizes b k s t u v) (Page written more) table asked tallied =
-          let solved = asked .pair .solved refl in
-          starts-page (tallied .the-place) solved (asked .pair .page-promise)
-          (numbered (sides (asked .read-promise)
-          (a-page (asked .pair .rows-promise) (asked .pair .page-promise) (solved .the-table .the-groups))))
-          (tallied .the-line) (tallied .the-counts)
+      go (Sides left right) its table asked tallied =
+          sides-start left right (λ r p found. numbered (sides (asked .read-promise) found)) (asked .pair .sides) tallied

@@ -15,8 +15,9 @@ use Rattle.tally.specs.Line.{BlockFound, lineOf}
 use Rattle.numbers.specs.Outcome.{Outcome}
 use Rattle.tally.specs.Counts.{counted}
 use Rattle.tally.specs.declared.Line.{Line}
-use Rattle.tally.specs.declared.Line.the-variants.{Listed, NoUnifier, Refused, RefusedNaming}
+use Rattle.tally.specs.declared.Line.the-variants.{Listed, Counted, NoUnifier, Refused, RefusedNaming}
 use Rattle.tally.specs.declared.Totals.{Totals}
+use Rattle.tally.specs.declared.Report.{Report}
 use Rattle.output.specs.Step.{linesJoined}
 use Rattle.output.specs.Room.{HasRoom, StillHeld}
 use Rattle.output.specs.declared.Place.{Place}
@@ -29,6 +30,7 @@ use Rattle.printing.specs.declared.print.Listing.{Listing}
 -- how many keys are printed under a block's line
 abbrev pub keyCount : Line → ℕ
 keyCount (Listed H K N more) = N
+keyCount (Counted N) = 0
 keyCount NoUnifier = 0
 keyCount (Refused X) = 0
 keyCount (RefusedNaming X atom) = 0
@@ -65,12 +67,13 @@ KeyPut table key out at next after =
 
 -- Printing a block begins: what is printed of it are the lines of what its questions return, where its number is
 -- its place modulo 65,536; and the counts after it are those of its line.
-pub record StartsBlock (way : Way) (block : List ℕ) (before : Totals) (l : Listing) (after : Totals) : Type 0 where
+pub record StartsBlock (report : Report) (block : List ℕ) (before : Totals) (l : Listing) (after : Totals) : Type 0 where
+  pub way : Way
   pub left : List ℕ
   pub right : List ℕ
   pub returned : Outcome BlockFound
   pub page : List (List Binding)
-  pub found : Returns way block (before .blocks % 65536) returned page
+  pub found : Returns report block (before .blocks % 65536) returned page
   pub the-lines : linesOf way left right l ≡ blockLines (before .blocks) (lineOf returned) page
   pub the-counts : after ≡ counted before (lineOf returned)
   pub prints : Prints way left right l

@@ -1,5 +1,6 @@
-// Printing a library by a way of listing (document 01, "The nightly program"; matching, document 02, R-4): it is read from
-// standard input, and what is found of each block is printed. A program only lends the two buffers and says which way.
+// Printing what is reported of a library, a listing (document 01, "The nightly program"; matching, document 02, R-4) or a
+// census (document 02, R-7): it is read from standard input, and what is found of each block is printed. A program only
+// lends the two buffers and says which report.
 mod ask;
 mod print;
 
@@ -14,10 +15,10 @@ use output::Place;
 use output::ending::tell_unwritten;
 use output::ending::write_last;
 use output::make_room;
-use pair::ways::Way;
 use print::Listing;
 use print::line_count;
 use print::put_lines;
+use tally::Report;
 use tally::Totals;
 use tally::closing_lines;
 use tally::expected_number;
@@ -31,16 +32,13 @@ ghost use Rattle.output.specs.Room.{HasRoom};
 ghost use Rattle.printing.specs.Printed.{ReadyToPrint, StartsBlock, BlockPut};
 ghost use Rattle.printing.specs.Library.{noCounts, Over, Finishes, LibraryPrinted};
 
-// At most so many blocks are read.
-const MOST_BLOCKS: u64 = 1_048_576;
-
 // Prints the library, writes out what was not yet, and says whether its last line was written out. What failed is
 // told.
-pub fn run(way: Way, input: &mut [u8], output: &mut [u8]) -> bool
+pub fn run(report: Report, input: &mut [u8], output: &mut [u8]) -> bool
     requires { ⌜ 512 ≤ length (now input) ⌝ }
     requires { ⌜ 8192 ≤ length (now output) ⌝ }
 {
-    let printed = print_library(way, input, output);
+    let printed = print_library(report, input, output);
     match printed {
         Printed::All(at) => write_last(output, at),
         Printed::Unread { at, error: _ } => {
@@ -55,11 +53,21 @@ pub fn run(way: Way, input: &mut [u8], output: &mut [u8]) -> bool
     }
 }
 
-// A library of which nothing was read yet.
-fn open_library() -> Reader
-    ensures { λ r. ⌜ r ≡ opened mostBlocks ⌝ }
+// At most so many blocks are read for a report.
+fn most_blocks(report: Report) -> u64
+    ensures { λ r. ⌜ r ≡ mostBlocks report ⌝ }
 {
-    library::open(MOST_BLOCKS)
+    match report {
+        Report::Listing(_) => 1_048_576,
+        Report::Census => 32_768,
+    }
+}
+
+// A library of which nothing was read yet.
+fn open_library(report: Report) -> Reader
+    ensures { λ r. ⌜ r ≡ opened (mostBlocks report) ⌝ }
+{
+    library::open(most_blocks(report))
 }
 
 // No block has been counted yet.
@@ -71,6 +79,7 @@ fn no_counts() -> Totals
         listed: 0,
         none: 0,
         refused: 0,
+        unifiers: 0,
     }
 }
 
@@ -83,22 +92,22 @@ enum Printed {
 }
 
 // Block by block, until there is none, a read fails or nobody takes the output.
-fn print_library(way: Way, input: &mut [u8], output: &mut [u8]) -> Printed
+fn print_library(report: Report, input: &mut [u8], output: &mut [u8]) -> Printed
     requires { ⌜ 512 ≤ length (now input) ⌝ }
     requires { ⌜ 8192 ≤ length (now output) ⌝ }
-    ensures { λ r. ⌜ LibraryPrinted way r (now (output .exit)) ⌝ }
+    ensures { λ r. ⌜ LibraryPrinted report r (now (output .exit)) ⌝ }
 {
-    let mut reader = open_library();
+    let mut reader = open_library(report);
     let mut counts = no_counts();
     let mut at = 0;
     loop {
         let step = library::next_block(STDIN_FILENO, input, reader);
         let next = step.next;
         let Next::Block { start, length } = next else {
-            return finish(next, counts, output, at);
+            return finish(report, next, counts, output, at);
         };
         let end = start + length;
-        let started = start_block(way, &input[start..end], counts);
+        let started = start_block(report, &input[start..end], counts);
         let listing = started.listing;
         let place = print_block(listing, output, at);
         match place {
@@ -119,16 +128,15 @@ struct Started {
 }
 
 // Asks the questions of a block and tallies what they return.
-fn start_block(way: Way, block: &[u8], counts: Totals) -> Started
-    ensures { λ r. ⌜ StartsBlock way (now (block .entry)) counts (r .listing) (r .counts) ⌝ }
+fn start_block(report: Report, block: &[u8], counts: Totals) -> Started
+    ensures { λ r. ⌜ StartsBlock report (now (block .entry)) counts (r .listing) (r .counts) ⌝ }
 {
     let mut keys: [Key; 200] = [0; 200];
-    let asked = ask(way, block, expected_number(counts.blocks), &mut keys);
+    let asked = ask(report, block, expected_number(counts.blocks), &mut keys);
     let read = asked.read;
-    let rows = asked.rows;
-    let page = asked.page;
+    let answers = asked.answers;
     let table = asked.table;
-    let tallied = tally(counts, read, rows, page);
+    let tallied = tally(counts, read, answers);
     let line = tallied.line;
     let after = tallied.counts;
     Started {
@@ -164,14 +172,14 @@ fn print_block(listing: Listing, output: &mut [u8], at: usize) -> Place
 }
 
 // The lines at the end; where a read failed there are none.
-fn finish(next: Next, counts: Totals, output: &mut [u8], at: usize) -> Printed
+fn finish(report: Report, next: Next, counts: Totals, output: &mut [u8], at: usize) -> Printed
     requires { ⌜ Over next ⌝ }
     requires { ⌜ HasRoom (length (now output)) at ⌝ }
-    ensures { λ r. ⌜ Finishes counts (now (output .entry)) at next r (now (output .exit)) ⌝ }
+    ensures { λ r. ⌜ Finishes report counts (now (output .entry)) at next r (now (output .exit)) ⌝ }
 {
     match next {
-        Next::End => Printed::All(put_closing(output, at, closing_lines(counts, false))),
-        Next::Remains => Printed::All(put_closing(output, at, closing_lines(counts, true))),
+        Next::End => Printed::All(put_closing(output, at, closing_lines(report, counts, false))),
+        Next::Remains => Printed::All(put_closing(output, at, closing_lines(report, counts, true))),
         Next::Failed(error) => Printed::Unread { at, error },
         _ => Printed::Unread { at, error: 0 },
     }

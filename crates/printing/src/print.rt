@@ -58,6 +58,7 @@ fn key_count(line: Line) -> usize
             lines,
             more: _,
         } => lines as usize,
+        Line::Counted(_) => 0,
         Line::NoUnifier => 0,
         Line::Refused(_) => 0,
         Line::RefusedNaming { number: _, atom: _ } => 0,

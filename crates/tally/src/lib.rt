@@ -1,18 +1,35 @@
-// What the nightly program says of a block and at the end, and its counts (document 01, "The nightly program").
+// What is said of a block and at the end, and the counts, of a listing (document 01, "The nightly program") and of a
+// census (document 02, R-7).
 //
 // Every function here is for all inputs: none has a premise, and each contract determines what is given.
 ghost use mathlib.Core.Path.{_≡_};
 ghost use Prim.Native.Nat.{_+_, _-_, _%_, _^_, min};
 ghost use Rattle.numbers.specs.Numbers.{saidOf};
-ghost use Rattle.tally.specs.Line.{toldBlock, lineOf, lineOfSaid, constantsRows};
-ghost use Rattle.tally.specs.Counts.{oneMore, counted, Tallies, closingOf};
+ghost use Rattle.tally.specs.Line.{toldList, toldNumber, toldBlock, lineOf, lineOfSaid, constantsRows};
+ghost use Rattle.tally.specs.Counts.{oneMore, counted, Tallies, lastOf, closingOf};
 use block::ReadAnswer;
 use numbers::Refusal;
+use pair::ways::Way;
+use solver::count::CountAnswer;
 use solver::page::PageAnswer;
 use solver::rows::RowsAnswer;
 
+// What a program reports of a library: the list of each block by a way of listing, or a census, the number of unifiers
+// of each.
+pub enum Report {
+    Listing(Way),
+    Census,
+}
+
+// What the questions on a block's sides returned: Rows and Page for a listing, Count for a census.
+pub enum Answers {
+    Listing { rows: RowsAnswer, page: PageAnswer },
+    Census(CountAnswer),
+}
+
 // What a block's line says beside its place, and what stands after its page: `end` and the number of lines
-// printed, or `more`. A refusal is its number, and where it names an atom, the atom too.
+// printed, or `more`. In a census it says the number of unifiers. A refusal is its number, and where it names an atom,
+// the atom too.
 pub enum Line {
     Listed {
         balanced: u64,
@@ -20,6 +37,7 @@ pub enum Line {
         lines: u64,
         more: bool,
     },
+    Counted(u64),
     NoUnifier,
     Refused(u8),
     RefusedNaming {
@@ -28,12 +46,13 @@ pub enum Line {
     },
 }
 
-// How many blocks were read, and how many lines of each kind they have.
+// How many blocks were read, how many lines of each kind they have, and the unifiers of those that were counted.
 pub struct Totals {
     pub blocks: u64,
     pub listed: u64,
     pub none: u64,
     pub refused: u64,
+    pub unifiers: u64,
 }
 
 // The block's place in the file, its line, and the counts after it.
@@ -43,18 +62,24 @@ pub struct Tallied {
     pub counts: Totals,
 }
 
-// The lines that stand at the end: `nothing read`, the counts, or `too long` before the counts.
-pub enum Closing {
+// The last line: `nothing read`, the counts, or in a census the total of all unifiers.
+pub enum LastLine {
     NothingRead,
-    Counted(Totals),
-    TooLong(Totals),
+    Counts(Totals),
+    Total(u64),
 }
 
-// What is said of a block, from the counts so far and what Read, Rows and Page returned for it.
-pub fn tally(counts: Totals, read: ReadAnswer, rows: RowsAnswer, page: PageAnswer) -> Tallied
-    ensures { λ r. ⌜ Tallies counts (toldBlock read rows page) r ⌝ }
+// The lines that stand at the end: the last line, and before it `too long` where input remains.
+pub struct Closing {
+    pub remains: bool,
+    pub last: LastLine,
+}
+
+// What is said of a block, from the counts so far, what Read returned for it and what the other questions did.
+pub fn tally(counts: Totals, read: ReadAnswer, answers: Answers) -> Tallied
+    ensures { λ r. ⌜ Tallies counts (toldBlock read answers) r ⌝ }
 {
-    let line = line_of(read, rows, page);
+    let line = line_of(read, answers);
     let after = count_line(counts, line);
     Tallied {
         place: counts.blocks,
@@ -63,13 +88,33 @@ pub fn tally(counts: Totals, read: ReadAnswer, rows: RowsAnswer, page: PageAnswe
     }
 }
 
-// The block's line: the first refusal of Read, Rows and Page decides, in this order.
-fn line_of(read: ReadAnswer, rows: RowsAnswer, page: PageAnswer) -> Line
-    ensures { λ r. ⌜ r ≡ lineOf (toldBlock read rows page) ⌝ }
+// The block's line: a refusal of Read decides, and then what was returned for its sides.
+fn line_of(read: ReadAnswer, answers: Answers) -> Line
+    ensures { λ r. ⌜ r ≡ lineOf (toldBlock read answers) ⌝ }
 {
     if let ReadAnswer::Refused(refusal) = read {
         return refused_line(refusal);
     }
+    match answers {
+        Answers::Listing { rows, page } => listed_line(rows, page),
+        Answers::Census(count) => counted_line(count),
+    }
+}
+
+// The line in a census: the number of unifiers, or why there is none.
+fn counted_line(count: CountAnswer) -> Line
+    ensures { λ r. ⌜ r ≡ lineOf (toldNumber count) ⌝ }
+{
+    match count {
+        CountAnswer::Count { unifiers } => Line::Counted(unifiers),
+        CountAnswer::Refused(refusal) => refused_line(refusal),
+    }
+}
+
+// The line in a listing: the first refusal of Rows and Page decides, in this order.
+fn listed_line(rows: RowsAnswer, page: PageAnswer) -> Line
+    ensures { λ r. ⌜ r ≡ lineOf (toldList rows page) ⌝ }
+{
     match rows {
         RowsAnswer::Refused(refusal) => refused_line(refusal),
         RowsAnswer::Groups {
@@ -137,6 +182,9 @@ fn count_line(counts: Totals, line: Line) -> Totals
         } => {
             after.listed = one_more(counts.listed);
         }
+        Line::Counted(unifiers) => {
+            after.unifiers = sum(counts.unifiers, unifiers);
+        }
         Line::NoUnifier => {
             after.none = one_more(counts.none);
         }
@@ -157,17 +205,27 @@ fn one_more(count: u64) -> u64
     sum(count, 1)
 }
 
-// The lines at the end, from the counts and whether input remains after the last block that was read.
-pub fn closing_lines(counts: Totals, remains: bool) -> Closing
-    ensures { λ r. ⌜ r ≡ closingOf counts remains ⌝ }
+// The last line: in a census the total, in a listing the counts, where some block was read.
+fn last_line(report: Report, counts: Totals) -> LastLine
+    ensures { λ r. ⌜ r ≡ lastOf report counts ⌝ }
 {
-    if remains {
-        return Closing::TooLong(counts);
+    if let Report::Census = report {
+        return LastLine::Total(counts.unifiers);
     }
     if counts.blocks == 0 {
-        return Closing::NothingRead;
+        return LastLine::NothingRead;
     }
-    Closing::Counted(counts)
+    LastLine::Counts(counts)
+}
+
+// The lines at the end, from the counts and whether input remains after the last block that was read.
+pub fn closing_lines(report: Report, counts: Totals, remains: bool) -> Closing
+    ensures { λ r. ⌜ r ≡ closingOf report counts remains ⌝ }
+{
+    Closing {
+        remains,
+        last: last_line(report, counts),
+    }
 }
 
 // The number that the block at this place in the file is to have: counted from 0 in the file, modulo 65,536.

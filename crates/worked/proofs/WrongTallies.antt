@@ -6,45 +6,45 @@ use mathlib.Core.Bool.{Bool, false}
 use Rattle.numbers.specs.declared.Refusal.the-variants as refusal
 use Rattle.block.specs.declared.ReadAnswer.{ReadAnswer}
 use Rattle.block.specs.declared.ReadAnswer.the-variants.{Sides}
-use Rattle.solver.specs.declared.rows.RowsAnswer.{RowsAnswer}
 use Rattle.solver.specs.declared.rows.RowsAnswer.the-variants.{Groups}
-use Rattle.solver.specs.declared.page.PageAnswer.{PageAnswer}
 use Rattle.solver.specs.declared.page.PageAnswer.the-variants.{Page, Refused}
 use Rattle.tally.specs.Line.{toldBlock}
-use Rattle.tally.specs.Counts.{Tallies}
+use Rattle.tally.specs.Counts.{totals, Tallies}
+use Rattle.tally.specs.declared.Answers.{Answers}
+use Rattle.tally.specs.declared.Answers.the-variants.{Listing}
 use Rattle.tally.specs.declared.Line.the-variants.{Listed, NoUnifier}
 use Rattle.tally.specs.declared.Line.the-variants as line
 use Rattle.tally.specs.declared.Totals.{Totals}
 use Rattle.tally.specs.declared.Tallied.{Tallied}
 
--- any program for the tally: from the counts so far and what Read, Rows and Page returned for a block
+-- any program for the tally: from the counts so far and what Read and the other questions returned for a block
 abbrev Tally : Type 0
-Tally = Totals → ReadAnswer → RowsAnswer → PageAnswer → Tallied
+Tally = Totals → ReadAnswer → Answers → Tallied
 
 -- the counts B, L, U and F
 abbrev counts : ℕ → ℕ → ℕ → ℕ → Totals
-counts b l u f = record { blocks = b; listed = l; none = u; refused = f }
+counts b l u f = totals b l u f 0
 
 module _ (program : Tally) where
   -- at these counts and returns the program meets the contract
-  abbrev MeetsAt : Totals → ReadAnswer → RowsAnswer → PageAnswer → Type 0
-  MeetsAt so-far read rows page = Tallies so-far (toldBlock read rows page) (program so-far read rows page)
+  abbrev MeetsAt : Totals → ReadAnswer → Answers → Type 0
+  MeetsAt so-far read answers = Tallies so-far (toldBlock read answers) (program so-far read answers)
 
   -- block 0 of the example, v0+v1 and c0+c1: no balanced row, two for each of two constants, two keys and no more
   abbrev first : Tallied
-  first = program (counts 0 0 0 0) (Sides 2 2) (Groups 0 2 2 2 0 0) (Page 2 false)
+  first = program (counts 0 0 0 0) (Sides 2 2) (Listing (Groups 0 2 2 2 0 0) (Page 2 false))
 
   -- it meets the promise at the first block of the example
   abbrev MeetsFirst : Type 0
-  MeetsFirst = MeetsAt (counts 0 0 0 0) (Sides 2 2) (Groups 0 2 2 2 0 0) (Page 2 false)
+  MeetsFirst = MeetsAt (counts 0 0 0 0) (Sides 2 2) (Listing (Groups 0 2 2 2 0 0) (Page 2 false))
 
   -- block 1, v0+v0 and c0: one constant without rows, and no unifier
   abbrev second : Tallied
-  second = program (counts 1 1 0 0) (Sides 2 1) (Groups 0 1 0 0 0 0) (Refused refusal.NoUnifier)
+  second = program (counts 1 1 0 0) (Sides 2 1) (Listing (Groups 0 1 0 0 0 0) (Refused refusal.NoUnifier))
 
   -- and at the second
   abbrev MeetsSecond : Type 0
-  MeetsSecond = MeetsAt (counts 1 1 0 0) (Sides 2 1) (Groups 0 1 0 0 0 0) (Refused refusal.NoUnifier)
+  MeetsSecond = MeetsAt (counts 1 1 0 0) (Sides 2 1) (Listing (Groups 0 1 0 0 0 0) (Refused refusal.NoUnifier))
 
   -- It invents the numbers of a line: block 0 has `rows 0 4`, and `end 2` after its page.
   pub invented-line-fails : (balanced constants lines : ℕ) (more : Bool)

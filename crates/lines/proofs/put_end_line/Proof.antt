@@ -21,6 +21,9 @@ enum-told-2 c = search needs
 enum-told-3 : tie.Need-enum-told-3
 enum-told-3 c = search needs
 
+enum-told-4 : tie.Need-enum-told-4
+enum-told-4 c = search needs
+
 same-length : tie.Need-same-length
 same-length c = search needs
 
@@ -38,6 +41,9 @@ returns-3 c = within-as (sym (ap endLine (c .enum-told2 .given .1))) (within-not
 returns-4 : tie.Need-returns-4
 returns-4 c = within-as (sym (ap endLine (c .enum-told3 .given .1))) (within-nothing _ _ _)
 
+returns-5 : tie.Need-returns-5
+returns-5 c = within-as (sym (ap endLine (c .enum-told4 .given .1))) (within-nothing _ _ _)
+
 pub put-end-line-spec : {M : Type 1} → statement M
 put-end-line-spec =
     tie.close
@@ -47,8 +53,10 @@ put-end-line-spec =
     enum-told
     enum-told-2
     enum-told-3
+    enum-told-4
     same-length
     returns
     returns-2
     returns-3
-    returns-4)
+    returns-4
+    returns-5)

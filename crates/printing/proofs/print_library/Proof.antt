@@ -13,15 +13,15 @@ use Rattle.printing.proofs.print_library.Statement.{statement}
 use Rattle.printing.proofs.print_library.Tie as tie
 
 abbrev Inv-loop : tie.InvT-loop
-Inv-loop way input₀ output₀ reader₀ counts₀ at₀ input output reader counts at =
+Inv-loop report input₀ output₀ reader₀ counts₀ at₀ input output reader counts at =
     (length input ≡ length input₀)
     × (length output ≡ length output₀)
     × ReaderFits input reader
     × HasRoom (length output₀) at
-    × Running way input reader counts output at
+    × Running report input reader counts output at
 
 abbrev μ-loop : tie.MeasureT-loop
-μ-loop way input₀ output₀ reader₀ counts₀ at₀ input output reader counts at = reader .left
+μ-loop report input₀ output₀ reader₀ counts₀ at₀ input output reader counts at = reader .left
 
 open-library-requires : tie.Need-open-library-requires Inv-loop μ-loop
 open-library-requires c κs = search needs
@@ -60,7 +60,7 @@ same-length c =
 same-length-2 : tie.Need-same-length-2 Inv-loop μ-loop
 same-length-2 c =
     let read = c .before .before .before .before .before .before .before in
-    c .before .before .finish .kept .1 .1 .0 ∙ read .before .before .loop .inv .1
+    c .before .before .finish .kept .1 .1 .1 .0 ∙ read .before .before .loop .inv .1
 
 returns : tie.Need-returns Inv-loop μ-loop
 returns c =

@@ -19,7 +19,7 @@ tally-requires c κs = search needs
 returns : tie.Need-returns
 returns c =
     let asked = c .before .before .before .before in
-    starts (asked .before .before .expected-number .ensures) (asked .ask .result) (asked .ask .ensures)
+    starts (asked .ask .result) (asked .before .before .expected-number .ensures) (asked .ask .ensures)
     (c .before .tally .ensures)
 
 pub start-block-spec : {M : Type 1} → statement M

@@ -1,16 +1,13 @@
--- `tally::closing_lines` meets its contract: each test picks the case of the definition. Assumes nothing.
-use borrow.Author.Tests.{eq-eqb, ne-eqb}
+-- `tally::closing_lines` meets its contract: the last line, and whether input remains. Assumes nothing.
+use borrow.Author.Needs.{needs}
 use Rattle.tally.proofs.closing_lines.Statement.{statement}
 use Rattle.tally.proofs.closing_lines.Tie as tie
 
+last-line-requires : tie.Need-last-line-requires
+last-line-requires c κs = search needs
+
 returns : tie.Need-returns
-returns c = simp (c .if1 .taken)
-
-returns-2 : tie.Need-returns-2
-returns-2 c = simp (c .before .before .if1 .left, eq-eqb _ 0 (c .if2 .taken))
-
-returns-3 : tie.Need-returns-3
-returns-3 c = simp (c .before .before .if1 .left, ne-eqb _ 0 (c .if2 .left))
+returns c = simp (c .last-line .ensures)
 
 pub closing-lines-spec : {M : Type 1} → statement M
-closing-lines-spec = tie.close (tie.spec returns returns-2 returns-3)
+closing-lines-spec = tie.close (tie.spec last-line-requires returns)

@@ -12,6 +12,12 @@ enum-told c = search needs
 one-more-requires-2 : tie.Need-one-more-requires-2
 one-more-requires-2 c κs = search needs
 
+enum-known-line : tie.Need-enum-known-line
+enum-known-line c = search needs
+
+sum-requires : tie.Need-sum-requires
+sum-requires c κs = search needs
+
 enum-told-2 : tie.Need-enum-told-2
 enum-told-2 c = search needs
 
@@ -36,14 +42,18 @@ returns c =
 
 returns-2 : tie.Need-returns-2
 returns-2 c =
-    simp (c .before .enum-told2 .given .1, c .before .before .before .one-more .ensures, c .one-more3 .ensures)
+    simp (c .before .before .line .given .1, c .before .before .before .before .one-more .ensures, c .sum .ensures)
 
 returns-3 : tie.Need-returns-3
 returns-3 c =
-    simp (c .before .enum-told3 .given .1, c .before .before .before .one-more .ensures, c .one-more4 .ensures)
+    simp (c .before .enum-told2 .given .1, c .before .before .before .one-more .ensures, c .one-more3 .ensures)
 
 returns-4 : tie.Need-returns-4
 returns-4 c =
+    simp (c .before .enum-told3 .given .1, c .before .before .before .one-more .ensures, c .one-more4 .ensures)
+
+returns-5 : tie.Need-returns-5
+returns-5 c =
     simp (c .before .enum-told4 .given .1, c .before .before .before .one-more .ensures, c .one-more5 .ensures)
 
 pub count-line-spec : {M : Type 1} → statement M
@@ -53,6 +63,8 @@ count-line-spec =
     one-more-requires
     enum-told
     one-more-requires-2
+    enum-known-line
+    sum-requires
     enum-told-2
     one-more-requires-3
     enum-told-3
@@ -62,4 +74,5 @@ count-line-spec =
     returns
     returns-2
     returns-3
-    returns-4)
+    returns-4
+    returns-5)

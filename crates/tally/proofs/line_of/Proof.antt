@@ -1,5 +1,4 @@
--- `tally::line_of` meets its contract: each way out is the case of the first answer that refuses, or that
--- none does. Assumes nothing.
+-- `tally::line_of` meets its contract: what Read refuses, or the line of the other answers. Assumes nothing.
 use borrow.Author.Needs.{needs}
 use Rattle.tally.proofs.line_of.Statement.{statement}
 use Rattle.tally.proofs.line_of.Tie as tie
@@ -16,49 +15,27 @@ returns c = simp (c .before .before .read .given .1) (c .refused-line .ensures)
 enum-told : tie.Need-enum-told
 enum-told c = search needs
 
-enum-known-rows : tie.Need-enum-known-rows
-enum-known-rows c = search needs
+enum-known-answers : tie.Need-enum-known-answers
+enum-known-answers c = search needs
 
-refused-line-requires-2 : tie.Need-refused-line-requires-2
-refused-line-requires-2 c κs = search needs
+listed-line-requires : tie.Need-listed-line-requires
+listed-line-requires c κs = search needs
 
-enum-known-rows-2 : tie.Need-enum-known-rows-2
-enum-known-rows-2 c = search needs
+enum-known-answers-2 : tie.Need-enum-known-answers-2
+enum-known-answers-2 c = search needs
 
-enum-known-page : tie.Need-enum-known-page
-enum-known-page c = search needs
-
-refused-line-requires-3 : tie.Need-refused-line-requires-3
-refused-line-requires-3 c κs = search needs
-
-enum-known-page-2 : tie.Need-enum-known-page-2
-enum-known-page-2 c = search needs
-
-all-constants-requires : tie.Need-all-constants-requires
-all-constants-requires c κs = search needs
+counted-line-requires : tie.Need-counted-line-requires
+counted-line-requires c κs = search needs
 
 returns-2 : tie.Need-returns-2
 returns-2 c =
     let at-enum-told = c .before .before .before .before in
-    simp (at-enum-told .enum-told .given .1, c .before .before .rows .given .1) (c .refused-line2 .ensures)
+    simp (at-enum-told .enum-told .given .1, c .before .before .answers .given .1) (c .listed-line .ensures)
 
 returns-3 : tie.Need-returns-3
 returns-3 c =
-    let at-rows2 = c .before .before .before .before .before in
-    let at-enum-told = at-rows2 .before .before in
-    simp (at-enum-told .enum-told .given .1, at-rows2 .rows2 .given .1, c .before .before .page .given .1)
-    (c .refused-line3 .ensures)
-
-returns-4 : tie.Need-returns-4
-returns-4 c =
-    let at-rows2 = c .before .before .before .before .before in
-    let at-enum-told = at-rows2 .before .before in
-    simp (
-      at-enum-told .enum-told .given .1,
-      at-rows2 .rows2 .given .1,
-      c .before .before .page2 .given .1,
-      c .all-constants .ensures,
-    )
+    let at-enum-told = c .before .before .before .before in
+    simp (at-enum-told .enum-told .given .1, c .before .before .answers2 .given .1) (c .counted-line .ensures)
 
 pub line-of-spec : {M : Type 1} → statement M
 line-of-spec =
@@ -68,13 +45,9 @@ line-of-spec =
     refused-line-requires
     returns
     enum-told
-    enum-known-rows
-    refused-line-requires-2
-    enum-known-rows-2
-    enum-known-page
-    refused-line-requires-3
-    enum-known-page-2
-    all-constants-requires
+    enum-known-answers
+    listed-line-requires
+    enum-known-answers-2
+    counted-line-requires
     returns-2
-    returns-3
-    returns-4)
+    returns-3)

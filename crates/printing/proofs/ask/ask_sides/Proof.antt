@@ -1,83 +1,39 @@
--- `printing::ask::ask_sides` meets its contract: what solving refuses, Rows and Page refuse; a solved pair
--- they answer. Assumes nothing.
-use native.Mathlib.Omega.{arith}
-use mathlib.Core.Path.{_≡_, refl}
-use Prim.Native.Nat.{ℕ}
-use mathlib.Core.List.{[]}
-use Rattle.ac.proofs.Groups.{groups-exist}
-use Rattle.numbers.specs.Order.{beginningNumbers}
-use Rattle.numbers.proofs.Parts.{verdict-promised}
-use Rattle.pair.proofs.Modes.{never-empties}
-use Rattle.solver.proofs.Given.{rows-made, page-made}
+-- `printing::ask::ask_sides` meets its contract: each report has its own questions. Assumes nothing.
+use Rattle.printing.proofs.Sides.{asked-as}
 use borrow.Author.Needs.{needs}
 use Rattle.printing.proofs.ask.ask_sides.Statement.{statement}
 use Rattle.printing.proofs.ask.ask_sides.Tie as tie
 
-solve-requires : tie.Need-solve-requires
-solve-requires c κs = search needs
+enum-known-report : tie.Need-enum-known-report
+enum-known-report c = search needs
 
-enum-known-verdict : tie.Need-enum-known-verdict
-enum-known-verdict c = search needs
+list-sides-requires : tie.Need-list-sides-requires
+list-sides-requires c κs = search needs
 
 enum-told : tie.Need-enum-told
 enum-told c = search needs
 
-slice-aggregate-rows-of : tie.Need-slice-aggregate-rows-of
-slice-aggregate-rows-of c = search needs
-
-rows-of-requires : tie.Need-rows-of-requires
-rows-of-requires c κs = (
-  c .before .before .before .before .solve .ensures .so (c .before .enum-told .given .1) .within,
-  omega arith,
-)
-
-page-of-requires : tie.Need-page-of-requires
-page-of-requires c κs = c .before .before .before .before .before .before .before .solve .ensures .so
-    (c .before .before .before .before .enum-told .given .1) .within
-
-returns : tie.Need-returns
-returns c =
-    let decided = c .before .before .before .before .solve .ensures in
-    let refused = c .before .verdict .given .1 in
-    record {
-      same-read = refl;
-      rows-after = _;
-      rows-promise = verdict-promised rows-made (omega arith) decided [] refused;
-      page-promise =
-          verdict-promised (page-made (groups-exist _ _ _))
-          (c .before .before .before .before .before .before .before .before .pre) decided beginningNumbers refused;
-      solved = λ e. absurd (let z : _≡_ {A = ℕ} 0 1 = cc e in omega arith);
-    }
+count-sides-requires : tie.Need-count-sides-requires
+count-sides-requires c κs = search needs
 
 same-length : tie.Need-same-length
 same-length c = search needs
 
+returns : tie.Need-returns
+returns c =
+    asked-as (c .before .before .before .before .before .report .given .1) (c .before .before .list-sides .ensures)
+
 returns-2 : tie.Need-returns-2
-returns-2 c =
-    let at-solve = c .before .before .before .before .before .before .before .before .before .before in
-    let way = at-solve .before .before .before .before .args .way in
-    let solved = at-solve .solve .ensures in
-    let accepted = c .before .before .before .before .before .before .before .enum-told .given .1 in
-    record {
-      same-read = refl;
-      rows-after = _;
-      rows-promise = c .before .before .before .before .before .rows-of .ensures _ _ _
-          (solved .so accepted) (solved .none-given accepted);
-      page-promise = c .before .before .page-of .ensures _ _ _ (solved .so accepted)
-          (solved .none-given accepted) (never-empties way _ _);
-      solved = λ e. record { none-given = solved .none-given accepted; the-table = solved .so accepted };
-    }
+returns-2 c = asked-as (c .before .enum-told .given .1) (c .count-sides .ensures _ _)
 
 pub ask-sides-spec : {M : Type 1} → statement M
 ask-sides-spec =
     tie.close
     (tie.spec
-    solve-requires
-    enum-known-verdict
+    enum-known-report
+    list-sides-requires
     enum-told
-    slice-aggregate-rows-of
-    rows-of-requires
-    page-of-requires
-    returns
+    count-sides-requires
     same-length
+    returns
     returns-2)

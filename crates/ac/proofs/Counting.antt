@@ -40,7 +40,8 @@ selections-apart G test first second apart =
     n = length (G .balanced)
 
     of-tuple : (is : List ℕ)
-        → howMany test (map (λ m. selectionWith is (bits n m)) (below (2 ^ n))) ≡ cond (first is) (setsPassing n second) 0
+        → howMany test (map (λ m. selectionWith is (bits n m)) (below (2 ^ n)))
+        ≡ cond (first is) (setsPassing n second) 0
     of-tuple is =
         howMany-map test (λ m. selectionWith is (bits n m)) (below (2 ^ n))
         ∙ howMany-same (λ m. apart is (bits n m)) (below (2 ^ n))
@@ -125,7 +126,8 @@ tuples-missed : (places : List ℕ) (gs : List Group)
 tuples-missed places [] = howMany-same {other = λ is. true} (λ is. missed-none places) ([] ∷ [])
 tuples-missed places (g ∷ gs) =
     howMany-flatMap (λ is. missed places (takenRows (g ∷ gs) is)) (λ i. map (λ is. i ∷ is) (tuples gs))
-    (λ i. misses places (getD (g .rows) i [])) (tuplesMissing places gs) (of-index (tuples-missed places gs)) (below (length (g .rows)))
+    (λ i. misses places (getD (g .rows) i [])) (tuplesMissing places gs) (of-index (tuples-missed places gs))
+    (below (length (g .rows)))
     ∙ ap (λ (k : ℕ). k * tuplesMissing places gs) (howMany-places (misses places) (g .rows) [])
   where
     of-index : howMany (λ is. missed places (takenRows gs is)) (tuples gs) ≡ tuplesMissing places gs → (i : ℕ)

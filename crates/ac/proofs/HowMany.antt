@@ -99,7 +99,8 @@ module _ {A B : Type 0} where
       by-test false e = omega (arith, ap (λ (n : ℕ). n * each) e)
 
 -- numbers by one more
-pub howMany-further : (test : ℕ → Bool) (a n : ℕ) → howMany test (from (suc a) n) ≡ howMany (λ i. test (suc i)) (from a n)
+pub howMany-further : (test : ℕ → Bool) (a n : ℕ)
+    → howMany test (from (suc a) n) ≡ howMany (λ i. test (suc i)) (from a n)
 howMany-further test a zero = refl
 howMany-further test a (suc n) =
     omega (

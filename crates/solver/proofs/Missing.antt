@@ -30,7 +30,7 @@ use Rattle.solver.specs.Missing.{MarksMissing, RowsLeft, ReachingLeft, A
 
 -- ---- bits of masks
 
--- a number has a bit exactly where what is missing to a number of ones has none
+-- what is missing in a number to all ones has a bit exactly where the number has none
 pub bit-complement : (k a i : ℕ) → a < 2 ^ k → i < k → bit (2 ^ k - 1 - a) i ≡ not (bit a i)
 bit-complement zero a i small h = absurd (omega arith)
 bit-complement (suc k) a zero small h = by-bit (bit a 0) refl

@@ -92,7 +92,8 @@ fn selections_reaching(
     unbalanced: usize,
     places: usize,
 ) -> u64
-    requires { ⌜ (unbalanced ≤ limits .constants) × (places ≤ limits .variables) × ReachingLeft (now reaching) rows unbalanced places ⌝ }
+    requires { ⌜ (unbalanced ≤ limits .constants) × (places ≤ limits .variables) ⌝ }
+    requires { ⌜ ReachingLeft (now reaching) rows unbalanced places ⌝ }
     ensures { λ r. ⌜ ((of : ReachingLeft (now (reaching .entry)) rows unbalanced places)
         → r ≡ selectionsReaching (of .left .groups) places (of .left .missed)) ⌝ }
 {
@@ -125,7 +126,8 @@ pub fn count(left: &[u8], right: &[u8]) -> CountAnswer
 
 // Count by a way of listing: what solving the pair refuses, then the number of the solved pair.
 fn count_by(way: Way, left: &[u8], right: &[u8]) -> CountAnswer
-    ensures { λ r. ⌜ CountPromise (modeOf way (now (left .entry)) (now (right .entry))) (now (left .entry)) (now (right .entry)) (toldCount r) ⌝ }
+    ensures { λ r. ⌜ CountPromise (modeOf way (now (left .entry)) (now (right .entry))) (now (left .entry)) (now (right .entry))
+        (toldCount r) ⌝ }
 {
     let solved = solve(way, left, right);
     let verdict = solved.verdict;

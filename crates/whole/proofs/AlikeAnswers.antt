@@ -139,8 +139,8 @@ module _ {M M′ : Mode} {L R L′ R′ : List ℕ} (alike : Alike limits M L R 
         same-result = values-result alike;
       }
 
-  count-agree : Agree (PairGiven limits M L R) (PairGiven limits M′ L′ R′) (LowestFar limits L R) (LowestFar limits L′ R′)
-      countNumbers (CountGives M L R) (CountGives M′ L′ R′)
+  count-agree : Agree (PairGiven limits M L R) (PairGiven limits M′ L′ R′) (LowestFar limits L R)
+      (LowestFar limits L′ R′) countNumbers (CountGives M L R) (CountGives M′ L′ R′)
   count-agree =
       record {
         same-numbers = λ n m. pair-given-alike alike n;

@@ -15,7 +15,6 @@ use mathlib.Core.List.{List, [], _∷_}
 use lib.ListN.{length}
 use Rattle.ac.specs.Limits.{limits}
 use Rattle.ac.specs.Pair.{Mode}
-use Rattle.ac.specs.Rows.{Groups, GroupsOf}
 use Rattle.ac.specs.Search.{groups}
 use Rattle.ac.specs.Keys.{layout, keys, Beginning, start}
 use Rattle.ac.specs.Pages.{together}

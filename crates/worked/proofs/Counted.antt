@@ -1,7 +1,7 @@
 -- Pairs whose number of unifiers is known (document 02, R-7): one test, computed over the table by the law that counts,
 -- and what Count answers of each of them.
 use Prim.Native.Nat.{ℕ}
-use mathlib.Core.Path.{_≡_, refl, sym, subst, _∙_}
+use mathlib.Core.Path.{_≡_, refl, subst, _∙_}
 use mathlib.Core.Bool.{Bool, true, _&&_}
 use mathlib.Core.List.{List, List·Memᴰ}
 use borrow.Author.Tests.{eqb-true}
@@ -36,7 +36,8 @@ all-pass : every test countedPairs ≡ true
 all-pass = refl
 
 -- sides that keep the limits have as many unifiers as the law counts
-counted : (L R : List ℕ) → within unifying L R ≡ true → CountAnswers L R (length (keys unifying layout L R (groups unifying L R)))
+counted : (L R : List ℕ) → within unifying L R ≡ true
+    → CountAnswers L R (length (keys unifying layout L R (groups unifying L R)))
 counted L R passes =
     let met = is-given (none-of (λ n. never-given unifying L R passes) countNumbers)
     (as-listed (groups-exist unifying L R)) in

@@ -1,5 +1,5 @@
--- Document 01's wrong programs, as programs for Count, and one that counts too few: at a pair whose number is known none
--- of them meets the promise. Count is lent nothing.
+-- Document 01's wrong programs, as programs for Count, and one that counts too few: at a pair whose number is known
+-- none of them meets the promise. Count is lent nothing.
 use Prim.Native.Nat.{ℕ, suc}
 use native.Mathlib.Omega.{arith}
 use mathlib.Core.Path.{_≡_, refl, sym, _∙_}

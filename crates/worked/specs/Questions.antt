@@ -1,11 +1,12 @@
--- The questions of document 01, and Write and Count of document 02, in one form: what is asked, what is lent, what it comes
--- to, and what is promised.
+-- The questions of document 01, and Write and Count of document 02, in one form: what is asked, what is lent, what it
+-- comes to, and what is promised.
 use Prim.Native.Nat.{ℕ}
 use mathlib.Core.List.{List}
 use Rattle.pair.specs.Ways.{modeOf}
 use Rattle.pair.specs.declared.ways.Way.{Way}
 use Rattle.pair.specs.declared.ways.Way.the-variants.{Unifying}
 use Rattle.ac.specs.Keys.{Beginning}
+use Rattle.ac.specs.Pair.{unifying}
 use Rattle.numbers.specs.Outcome.{Outcome}
 use Rattle.block.specs.Read.{SideLengths, ReadPromise}
 use Rattle.solver.specs.Rows.{GroupSizes, RowsPromise}
@@ -100,5 +101,5 @@ countQuestion =
       Asked = SidesAsked (Unit {0});
       Lent = Unit {0};
       Values = ℕ;
-      Promise = λ asked lent outcome exit. CountPromise (modeOf Unifying (asked .left) (asked .right)) (asked .left) (asked .right) outcome;
+      Promise = λ asked lent outcome exit. CountPromise unifying (asked .left) (asked .right) outcome;
     }

@@ -41,7 +41,7 @@ calls t = (
 
 selections-of-requires : (t : ℕ)
     → selections-reaching-lts.Need-selections-of-requires (calls t) (selections-reaching-at t) selections-reaching.Post
-selections-of-requires t c κs = (c .before .pre .1 .0, c .before .pre .1 .2 .left)
+selections-of-requires t c κs = (c .before .pre .1 .0 .0, c .before .pre .1 .1 .left)
 
 returns : (t : ℕ) → selections-reaching-lts.Need-returns (calls t) (selections-reaching-at t) selections-reaching.Post
 returns t c = λ of.
@@ -54,7 +54,7 @@ sub-last t c = omega arith
 
 not-reaching-requires : (t : ℕ)
     → selections-reaching-lts.Need-not-reaching-requires (calls t) (selections-reaching-at t) selections-reaching.Post
-not-reaching-requires t c κs = omega (arith, c .before .pre .1 .1)
+not-reaching-requires t c κs = omega (arith, c .before .pre .1 .0 .1)
 
 -- the last place is one before the number of places
 last : (t : ℕ) (c : selections-reaching-lts.Else1 (calls t) (selections-reaching-at t) selections-reaching.Post)
@@ -81,27 +81,30 @@ abbrev missed : (t : ℕ)
 missed t c =
     let a = c .before .before .args in
     one-place-missed (a .reaching .now) (a .rows) (a .unbalanced) (a .places) (a .places - 1) (last t (c .before))
-    (c .not-reaching .result) (c .before .before .pre .1 .0) (c .not-reaching .ensures)
+    (c .not-reaching .result) (c .before .before .pre .1 .0 .0) (c .not-reaching .ensures)
 
 selections-reaching-requires : (t : ℕ)
     → selections-reaching-lts.Need-selections-reaching-requires (calls t) (selections-reaching-at t)
     selections-reaching.Post
 selections-reaching-requires t c κs =
     let entry = c .before .before in
-    (omega (arith, entry .pre .0), (entry .pre .1 .0, omega (arith, entry .pre .1 .1), fewer-places t (c .before) (entry .pre .1 .2)))
+    let asked = entry .pre .1 in
+    (omega (arith, entry .pre .0), ((asked .0 .0, omega (arith, asked .0 .1)), fewer-places t (c .before) (asked .1)))
 
 selections-reaching-requires-2 : (t : ℕ)
     → selections-reaching-lts.Need-selections-reaching-requires-2 (calls t) (selections-reaching-at t)
     selections-reaching.Post
 selections-reaching-requires-2 t c κs =
     let entry = c .before .before .before in
-    (omega (arith, entry .pre .0), (entry .pre .1 .0, omega (arith, entry .pre .1 .1), missed t (c .before) (entry .pre .1 .2)))
+    let asked = entry .pre .1 in
+    (omega (arith, entry .pre .0), ((asked .0 .0, omega (arith, asked .0 .1)), missed t (c .before) (asked .1)))
 
-sub-result : (t : ℕ) → selections-reaching-lts.Need-sub-result (calls t) (selections-reaching-at t) selections-reaching.Post
+sub-result : (t : ℕ)
+    → selections-reaching-lts.Need-sub-result (calls t) (selections-reaching-at t) selections-reaching.Post
 sub-result t c =
     let missing = c .before .before in
     let entry = missing .before .before in
-    let of = entry .pre .1 .2 in
+    let of = entry .pre .1 .1 in
     omega (
       arith,
       c .before .selections-reaching .ensures (fewer-places t (missing .before) of),
@@ -109,17 +112,20 @@ sub-result t c =
       none-beyond (entry .args .places - 1) (of .left .groups) (of .left .missed),
     )
 
-returns-2 : (t : ℕ) → selections-reaching-lts.Need-returns-2 (calls t) (selections-reaching-at t) selections-reaching.Post
+returns-2 : (t : ℕ)
+    → selections-reaching-lts.Need-returns-2 (calls t) (selections-reaching-at t) selections-reaching.Post
 returns-2 t c = λ of.
     let missing = c .before .before in
     let entry = missing .before .before in
     ap₂ (λ (m n : ℕ). m - n) (c .before .selections-reaching .ensures (fewer-places t (missing .before) of))
     (c .selections-reaching2 .ensures (missed t missing of))
-    ∙ last-place (entry .args .places) (entry .args .places - 1) (last t (missing .before)) (of .left .groups) (of .left .missed)
+    ∙ last-place (entry .args .places) (entry .args .places - 1) (last t (missing .before)) (of .left .groups)
+    (of .left .missed)
 
 pub +selections-reaching-spec : {M : Type 1} → statement M
 +selections-reaching-spec =
-    close μ-selections-reaching λ t. selections-reaching-lts.spec (calls t) (selections-reaching-at t) selections-reaching.Post
+    close μ-selections-reaching λ t. selections-reaching-lts.spec (calls t) (selections-reaching-at t)
+    selections-reaching.Post
     (selections-of-requires t)
     (returns t)
     (sub-last t)

@@ -29,7 +29,8 @@ element-copy-out-rows : tie.Need-element-copy-out-rows Inv-loop μ-loop
 element-copy-out-rows c = omega arith
 
 -- a group has few rows
-few : (c : tie.After-rows Inv-loop μ-loop) → getD (c .before .before .before .args .sizes .now) (c .before .before .loop .g) 0 < 64
+few : (c : tie.After-rows Inv-loop μ-loop)
+    → getD (c .before .before .before .args .sizes .now) (c .before .before .loop .g) 0 < 64
 few c =
     let g = c .before .before .loop .g in
     omega (arith, c .before .before .before .pre g, mostRows-least g)

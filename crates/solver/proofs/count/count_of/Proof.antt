@@ -16,9 +16,9 @@ selections-reaching-requires : tie.Need-selections-reaching-requires
 selections-reaching-requires c κs =
     let masks = c .before .before .before .before .before .masks-of in
     let coherent = masks .ensures .1 in (
-      coherent .constants-fit,
-      coherent .places-fit,
-      all-left (c .before .before .all-rows .result) (masks .ensures .0) coherent (c .before .before .all-rows .ensures),
+      (coherent .constants-fit, coherent .places-fit),
+      all-left (c .before .before .all-rows .result) (masks .ensures .0) coherent
+          (c .before .before .all-rows .ensures),
     )
 
 returns : tie.Need-returns

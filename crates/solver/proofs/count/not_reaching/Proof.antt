@@ -1,5 +1,5 @@
--- `solver::count::not_reaching` meets its contract. The invariant: the groups before this one have the rows that are left
--- of theirs. Assumes nothing.
+-- `solver::count::not_reaching` meets its contract. The invariant: the groups before this one have the rows that are
+-- left of theirs. Assumes nothing.
 use Prim.Native.Nat.{ℕ, _+_, _-_, _*_, _≤_, _<_}
 use native.Mathlib.Omega.{arith}
 use mathlib.Core.Path.{_≡_, refl, _∙_}
@@ -61,8 +61,8 @@ loop-again c =
     let a = turn .before .args in (
       omega arith,
       length-set (at .fewer) (at .g) (c .without .result) ∙ at .inv .1,
-      set-more (λ k left. Without (getD (a .t2) k 0) (getD (a .reaching .now) (6 * k + a .place) 0) left) (at .fewer) (at .g)
-          (c .without .result) (omega arith) (at .inv .2) (c .without .ensures),
+      set-more (λ k left. Without (getD (a .t2) k 0) (getD (a .reaching .now) (6 * k + a .place) 0) left) (at .fewer)
+          (at .g) (c .without .result) (omega arith) (at .inv .2) (c .without .ensures),
     )
 
 returns : tie.Need-returns Inv-loop μ-loop

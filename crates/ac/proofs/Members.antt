@@ -1,11 +1,11 @@
 -- Members of the lists that the definitions build, and lists in ascending order.
 use Prim.Native.Nat.{ℕ, zero, suc, _<_}
 use native.Mathlib.Omega.{arith}
-use mathlib.Core.Path.{_≡_, refl, sym, ap, ap₂, subst}
+use mathlib.Core.Path.{_≡_, refl, sym, ap, ap₂, subst, _∙_}
 use mathlib.Core.Logic.{⊎-elim}
 use mathlib.Core.Bool.{Bool, true}
 use mathlib.Core.List.{List, [], _∷_, _++_, map, List·Memᴰ, List·Memᴰ·head, List·Memᴰ·tail, List·Memᴰ·not-nil}
-use mathlib.Core.List.{List·Memᴰ·append-cases, Memᴰ·append-left, Memᴰ·append-right}
+use mathlib.Core.List.{append-assoc, List·Memᴰ·append-cases, Memᴰ·append-left, Memᴰ·append-right}
 use lib.ListN.{take}
 use Rattle.ac.specs.Lists.{below, keep, filter, flatMap, Ascending, none, next}
 use Rattle.ac.proofs.Places.{from-bounds, from-member}
@@ -55,6 +55,17 @@ module _ {ℓ} {A : Type ℓ} (passes : A → Bool) where
   filter-all (a ∷ xs) all =
       ap₂ {C = List A} (λ p rest. keep p a rest) (all a (List·Memᴰ·head refl))
       (filter-all xs (λ b m. all b (List·Memᴰ·tail m)))
+
+module _ {ℓ κ} {A : Type ℓ} {B : Type κ} where
+  -- what is made of two lists one after the other, member by member or list by list
+  pub map-append : (f : A → B) (xs ys : List A) → map f (xs ++ ys) ≡ map f xs ++ map f ys
+  map-append f [] ys = refl
+  map-append f (x ∷ xs) ys = ap (λ l. f x ∷ l) (map-append f xs ys)
+
+  pub flatMap-append : (f : A → List B) (xs ys : List A) → flatMap f (xs ++ ys) ≡ flatMap f xs ++ flatMap f ys
+  flatMap-append f [] ys = refl
+  flatMap-append f (x ∷ xs) ys =
+      ap (λ l. f x ++ l) (flatMap-append f xs ys) ∙ sym (append-assoc (f x) (flatMap f xs) (flatMap f ys))
 
 -- a member stands somewhere in its list, with what is before and after it
 pub member-splits {ℓ} : {A : Type ℓ} {a : A} {xs : List A} → List·Memᴰ a xs

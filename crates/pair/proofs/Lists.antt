@@ -1,7 +1,7 @@
 -- Facts about lists: members and places, and lists one member at a time.
 use mathlib.Core.Path.{_≡_, refl, sym, ap, _∙_, fun-ext}
 use mathlib.Core.Bool.{Bool, true, false}
-use mathlib.Core.List.{List, [], _∷_, _++_, map, List·Memᴰ, List·Memᴰ·head, List·Memᴰ·tail}
+use mathlib.Core.List.{List, [], _∷_, _++_, List·Memᴰ, List·Memᴰ·head, List·Memᴰ·tail}
 use Prim.Native.Nat.{ℕ, zero, suc, _+_, _<_}
 use native.Mathlib.Nat.{zero-add}
 use native.Mathlib.Numerals.{add-one}
@@ -20,11 +20,7 @@ getD-replicate-same zero i a = refl
 getD-replicate-same (suc n) zero a = refl
 getD-replicate-same (suc n) (suc i) a = getD-replicate-same n i a
 
--- what is made of a list joined from two, and which of its members pass
-pub map-append {ℓ} : {A : Type ℓ} (f : ℕ → A) (xs ys : List ℕ) → map f (xs ++ ys) ≡ map f xs ++ map f ys
-map-append f [] ys = refl
-map-append f (x ∷ xs) ys = ap (λ l. f x ∷ l) (map-append f xs ys)
-
+-- which members of a list joined from two pass
 keep-append : (b : Bool) (x : ℕ) (xs ys : List ℕ) → keep b x xs ++ ys ≡ keep b x (xs ++ ys)
 keep-append true x xs ys = refl
 keep-append false x xs ys = refl

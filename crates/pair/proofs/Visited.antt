@@ -12,13 +12,14 @@ use borrow.Author.Tests.{lt-ltb}
 use Rattle.ac.specs.Limits.{limits}
 use Rattle.ac.specs.Lists.{below, filter}
 use Rattle.ac.specs.Pair.{Mode, atoms, count}
+use Rattle.ac.proofs.Members.{map-append}
 use Rattle.pair.specs.Counts.{Occurrences, CountsOf}
 use Rattle.pair.specs.Gathered.{excess, padded, HeldIfRoom, isOf, allOf, Gathers}
 use Rattle.pair.specs.declared.Gathered.{Gathered}
 use Rattle.pair.specs.declared.counting.AtomCounts.{AtomCounts}
 use Rattle.pair.specs.declared.gathering.AtomKind.{AtomKind}
 use Rattle.pair.specs.declared.gathering.AtomKind.the-variants.{Variable, Constant}
-use Rattle.pair.proofs.Lists.{filter-below, filter-same, length-snoc, map-append}
+use Rattle.pair.proofs.Lists.{filter-below, filter-same, length-snoc}
 
 -- where there is room for the list, it stands at the front of the places
 abbrev Stored : List ℕ → List ℕ → Type 0

@@ -20,7 +20,7 @@ use Rattle.solver.specs.Rows.{RowsGiven, of-the-sides, GroupSizes, size,
 use Rattle.solver.specs.Rows as its
 use Rattle.solver.specs.Cut.{groupSizes, cut}
 use Rattle.table.specs.Groups.{RowIn}
-use Rattle.table.proofs.Lists.{flatMap-append}
+use Rattle.ac.proofs.Members.{flatMap-append}
 use Rattle.solver.proofs.Putting.{AllOf, length-bytes}
 
 -- Bytes of rows, cut again.

@@ -16,7 +16,8 @@ use Rattle.table.specs.Table.{mostRows, rowStart, roomOfRows, rowIn, groupIn, g
 use Rattle.table.specs.declared.Table.{Table}
 use Rattle.table.proofs.TableGroups.{length-groupAt, length-groupsFrom, how-many-constants}
 use Rattle.solver.specs.Rows.{size, allRows, bytesOf}
-use Rattle.table.proofs.Lists.{map-from-last, flatMap-append, flatMap-from-last}
+use Rattle.ac.proofs.Members.{flatMap-append}
+use Rattle.table.proofs.Lists.{map-from-last, flatMap-from-last}
 use Rattle.table.proofs.Rows.{row-fits}
 use Rattle.ac.proofs.Keys.{length-from}
 use Rattle.ac.proofs.Members.{below-members}

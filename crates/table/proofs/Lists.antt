@@ -1,10 +1,11 @@
 -- Lists made of the numbers from one on, and lists for each member, one after the other.
 use Prim.Native.Nat.{ℕ, zero, suc, _+_, _≤_, _<_}
 use native.Mathlib.Omega.{arith}
-use mathlib.Core.Path.{_≡_, refl, sym, ap, ap₂, _∙_}
-use mathlib.Core.List.{List, [], _∷_, _++_, map, append-assoc, append-nil}
+use mathlib.Core.Path.{_≡_, refl, ap, ap₂, _∙_}
+use mathlib.Core.List.{List, [], _∷_, _++_, map, append-nil}
 use Rattle.ac.specs.Lists.{from, below, flatMap}
-use Rattle.pair.proofs.Lists.{from-last, map-append}
+use Rattle.ac.proofs.Members.{map-append, flatMap-append}
+use Rattle.pair.proofs.Lists.{from-last}
 
 -- functions that agree on the numbers from a on, or below one, make the same of them
 from-same {ℓ} : {A : Type ℓ} (f g : ℕ → A) (a n : ℕ) → ((i : ℕ) → a ≤ i → i < a + n → f i ≡ g i)
@@ -17,13 +18,6 @@ from-same f g a (suc n) same =
 pub below-same {ℓ} : {A : Type ℓ} (f g : ℕ → A) (n : ℕ) → ((i : ℕ) → i < n → f i ≡ g i)
     → map f (below n) ≡ map g (below n)
 below-same f g n same = from-same f g 0 n (λ i low high. same i (omega arith))
-
--- lists joined from two
-pub flatMap-append {ℓ κ} : {A : Type ℓ} {B : Type κ} (f : A → List B) (xs ys : List A)
-    → flatMap f (xs ++ ys) ≡ flatMap f xs ++ flatMap f ys
-flatMap-append f [] ys = refl
-flatMap-append f (x ∷ xs) ys =
-    ap (λ l. f x ++ l) (flatMap-append f xs ys) ∙ sym (append-assoc (f x) (flatMap f xs) (flatMap f ys))
 
 -- what is made of the last of the numbers from a on stands last
 pub map-from-last {ℓ} : {A : Type ℓ} (f : ℕ → A) (a n : ℕ)

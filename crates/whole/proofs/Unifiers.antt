@@ -30,7 +30,7 @@ use Rattle.ac.specs.Keys.{layout, Beginning, start}
 use Rattle.ac.specs.Pages.{together}
 use Rattle.ac.specs.Fages.{MinimalSet}
 use Rattle.ac.proofs.Fages.{flattened, unifier-unifies, unifies-unifier}
-use Rattle.pair.proofs.Lists.{map-append}
+use Rattle.ac.proofs.Members.{map-append}
 use Rattle.numbers.specs.First.{NoneOf}
 use Rattle.numbers.specs.Numbers.{saidOf}
 use Rattle.numbers.specs.Order.{rowsNumbers, pageNumbers}

@@ -9,12 +9,12 @@ use mathlib.Core.List.{List, [], _∷_, _++_, map, List·Memᴰ, List·Memᴰ·h
 use borrow.Author.Tests.{lt-ltb, le-ltb, le-leb, lt-leb}
 use lib.ListN.{length, getD, take, length-map}
 use lib.Seq.{take-suc, take-all, take-at}
+use Rattle.ac.proofs.Members.{map-append}
 use Rattle.block.specs.Front.{MayBeWritten, onTheRight}
 use Rattle.block.proofs.Renamed.{variable-higher}
 use Rattle.block.proofs.Renamed as renamed
 use Rattle.buffer.specs.Put.{Put}
 use Rattle.buffer.proofs.Puts.{put-as, put-received}
-use Rattle.pair.proofs.Lists.{map-append}
 use Rattle.writing.specs.Written.{asWritten}
 
 -- v32 to v63 are written 32 lower

@@ -204,7 +204,8 @@ module _ {lay : Layout} {G : Groups} (fits : Fits lay G) where
     key-high : keyOf lay s / 2 ^ (lay .rows) ≡ fields lay (lay .constants) (s .indexes)
     key-high = high (fields lay (lay .constants) (s .indexes)) (lay .rows) mask-fits
 
-    key-low : keyOf lay s % 2 ^ (lay .rows) ≡ mask (s .takes)
+    -- and below them the mask
+    pub key-low : keyOf lay s % 2 ^ (lay .rows) ≡ mask (s .takes)
     key-low = low (fields lay (lay .constants) (s .indexes)) (lay .rows) mask-fits
 
     -- A key names its selection: taken apart, it is the selection again.

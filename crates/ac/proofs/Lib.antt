@@ -37,6 +37,8 @@ pub mod Fields
 pub mod Listed
 pub mod Counting
 pub mod Pages
+pub mod Weighed
+pub mod Rank
 pub mod Fages
 pub mod Atoms
 pub mod Subject

@@ -38,10 +38,10 @@ within-tuples (index {gs = gs} {i = i} h within) =
     (members-map (λ js. i ∷ js) (within-tuples within))
 
 -- the selection of a tuple and a mask
-abbrev masked : Groups → List ℕ → ℕ → Selection
+abbrev pub masked : Groups → List ℕ → ℕ → Selection
 masked G is m = record { indexes = is; takes = bits (length (G .balanced)) m }
 
-abbrev allMasked : Groups → List ℕ → List Selection
+abbrev pub allMasked : Groups → List ℕ → List Selection
 allMasked G is = map (masked G is) (below (2 ^ length (G .balanced)))
 
 -- A selection stands among the selections exactly if it takes a row for each constant and has a truth value
@@ -92,7 +92,7 @@ tuples-ascending lay (suc k) (g ∷ gs) fit few =
 
 module _ {lay : Layout} {G : Groups} (fits : Fits lay G) where
   -- the selections ascend by their keys
-  selections-ascending : Ascending (λ s t. keyOf lay s < keyOf lay t) (selections G)
+  pub selections-ascending : Ascending (λ s t. keyOf lay s < keyOf lay t) (selections G)
   selections-ascending =
       ascending-flatMap (allMasked G)
       (λ is m. ascending-map (masked G is)

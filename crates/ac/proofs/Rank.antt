@@ -12,10 +12,10 @@ use mathlib.Core.Bool.{Bool, true, false}
 use mathlib.Core.List.{List, [], _∷_, _++_, map, append-assoc, List·Memᴰ, List·Memᴰ·head, List·Memᴰ·tail, Memᴰ·append-right, Memᴰ·cast}
 use borrow.Author.Tests.{le-leb, lt-leb}
 use lib.Dec.{leb}
-use lib.ListN.{length, length-append, length-map}
+use lib.ListN.{length, getD, drop, length-append, length-map}
 use Rattle.ac.specs.Lists.{from, below, keep, filter, flatMap, Ascending, next}
 use Rattle.ac.specs.Pair.{Mode}
-use Rattle.ac.specs.Rows.{Group, Groups}
+use Rattle.ac.specs.Rows.{Group, Groups, rowsAt}
 use Rattle.ac.specs.Selection.{Selection, SelectionOf, Within, none, index, allTaken}
 use Rattle.ac.specs.Keys.{Layout, Fits, Candidate, mask, bits, keyOf, selectionAt, tuples, selections, start}
 use Rattle.ac.specs.Weighed.{isCandidate, candidates, weighed, sizesProduct, mostWeighed}
@@ -131,6 +131,15 @@ abbrev pub tupleRank : ℕ → List Group → List ℕ → ℕ
 tupleRank above [] is = above
 tupleRank above (g ∷ gs) [] = above
 tupleRank above (g ∷ gs) (i ∷ is) = tupleRank (above * length (g .rows) + i) gs is
+
+-- the index at a place is read, and stands above those behind it
+pub index-read : (gs : List Group) (is : List ℕ) (place above : ℕ) → length is ≡ length gs → place < length gs
+    → tupleRank above (drop place gs) (drop place is)
+    ≡ tupleRank (above * length (rowsAt gs place) + getD is place 0) (drop (suc place) gs) (drop (suc place) is)
+index-read [] is place above e h = absurd (omega arith)
+index-read (g ∷ gs) [] place above e h = absurd (omega arith)
+index-read (g ∷ gs) (i ∷ is) zero above e h = refl
+index-read (g ∷ gs) (i ∷ is) (suc place) above e h = index-read gs is place above (omega arith) (omega arith)
 
 -- what stands above counts as often as there are tuples
 above-counts : (above : ℕ) {gs : List Group} {is : List ℕ} → Within gs is

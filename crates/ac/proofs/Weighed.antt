@@ -91,18 +91,34 @@ weighed-most begin written cs =
       length-filter (λ c. comesAfter begin c && uptoLast written c) cs,
     )
 
--- only the last key counts
-pub weighed-last : (begin : Beginning) (before : List ℕ) (last : ℕ) (cs : List ℕ)
-    → weighed begin (before ++ last ∷ []) cs ≡ weighed begin (last ∷ []) cs
-weighed-last begin before last cs = ap (λ test. length (filter test (remaining begin cs))) (λ i c. uptoLast-later before last [] c i)
+-- the keys before another do not count
+pub weighed-later : (begin : Beginning) (before : List ℕ) (key : ℕ) (keys cs : List ℕ)
+    → weighed begin (before ++ key ∷ keys) cs ≡ weighed begin (key ∷ keys) cs
+weighed-later begin before key keys cs =
+    ap (λ test. length (filter test (remaining begin cs))) (λ i c. uptoLast-later before key keys c i)
 
 -- nothing is weighed for no key
-weighed-none : (begin : Beginning) (cs : List ℕ) → weighed begin [] cs ≡ 0
+pub weighed-none : (begin : Beginning) (cs : List ℕ) → weighed begin [] cs ≡ 0
 weighed-none begin cs = none (remaining begin cs)
   where
     none : (xs : List ℕ) → length (filter (uptoLast []) xs) ≡ 0
     none [] = refl
     none (x ∷ xs) = none xs
+
+-- nor up to a key that does not come after the beginning
+pub weighed-nothing : {key last : ℕ} (cs : List ℕ) → last ≤ key → weighed (after key) (last ∷ []) cs ≡ 0
+weighed-nothing {key} {last} cs le = weighed-test (after key) (last ∷ []) cs ∙ none cs
+  where
+    neither : (c : ℕ) → Dec (c ≤ key) → (ltb key c && leb c last) ≡ false
+    neither c (yes before) = rw (le-ltb key c before)
+    neither c (no beyond) =
+        let above : key < c = omega arith in
+        let past : last < c = omega arith in
+        rw (lt-ltb key c above, lt-leb c last past)
+
+    none : (xs : List ℕ) → length (filter (λ c. ltb key c && leb c last) xs) ≡ 0
+    none [] = refl
+    none (x ∷ xs) = ap (λ b. length (keep b x (filter (λ c. ltb key c && leb c last) xs))) (neither x (decLe x key)) ∙ none xs
 
 -- what lies above a key at or after the beginning comes after it
 above-after : (begin : Beginning) {last c : ℕ} → boundOf begin ≤ last → last < c → comesAfter begin c ≡ true

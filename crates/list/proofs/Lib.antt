@@ -10,3 +10,4 @@ pub mod Tuples
 pub mod Walk
 pub mod Given
 pub mod Finding
+pub mod Ranks

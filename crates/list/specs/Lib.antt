@@ -3,3 +3,4 @@ pub mod Reach
 pub mod Candidates
 pub mod Given
 pub mod List
+pub mod Ranks

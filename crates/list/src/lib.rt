@@ -1,5 +1,7 @@
 // Keys of a solved pair: packed and taken apart by shifts and masks, weighed, and found on the list (document
 // 01, "From sides to equations").
+pub mod rank;
+
 ghost use mathlib.Core.Path.{_≡_};
 ghost use mathlib.Core.List.{List};
 ghost use Prim.Native.Nat.{ℕ, _+_, _*_, _/_, _^_, _<_, _≤_};

@@ -37,7 +37,7 @@ module _ {listed : List ℕ} (ascending : Ascending _<_ listed) where
       let remains = least-first ascending begin least in
       to-answer
       (none-of (λ n. list-gives-none on-list (subst (List·Memᴰ first) (sym remains) (List·Memᴰ·head refl)))
-      beginningNumbers) remains
+      beginningNumbers) remains on-list
 
   -- from the start, the least key
   pub settled-start : {first : ℕ} → LeastFrom listed 0 first → SettledOf listed start (FirstKey first)

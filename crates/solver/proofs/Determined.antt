@@ -16,7 +16,7 @@ use Rattle.pair.specs.Given.{LowestFar}
 use Rattle.pair.proofs.NetCounts.{lowest-unique}
 use Rattle.solver.specs.Rows.{GroupSizes, toldRows, sizesOf, allRows, bytesOf, RowsGives, RowsPromise}
 use Rattle.solver.specs.Rows as its-rows
-use Rattle.solver.specs.Page.{PageWritten, toldPage, nextKeys, moreFollow, PageGives, next, PagePromise}
+use Rattle.solver.specs.Page.{PageWritten, toldPage, nextKeys, pageWritten, PageGives, next, PagePromise}
 use Rattle.solver.specs.Values.{toldValues, valuesOf, ValuesGives, ValuesPromise}
 use Rattle.solver.specs.Values as its-values
 use Rattle.solver.specs.Count.{toldCount, CountGives, as-listed, CountPromise}
@@ -37,7 +37,7 @@ rowsAnswer (given sizes) =
 
 pageAnswer : Outcome PageWritten → PageAnswer
 pageAnswer (refused said) = page.Refused (refusalOf said)
-pageAnswer (given keys) = page.Page (keys .written) (keys .more)
+pageAnswer (given keys) = page.Page (keys .written) (keys .more) (keys .weighed)
 
 valuesAnswer : Outcome ℕ → ValuesAnswer
 valuesAnswer (refused said) = values.Refused (refusalOf said)
@@ -54,7 +54,7 @@ rows-told (rows.Refused why) = ap rows.Refused (refusalOf-saidOf why)
 
 page-told : (a : PageAnswer) → pageAnswer (toldPage a) ≡ a
 unfolding pageAnswer
-page-told (page.Page written more) = refl
+page-told (page.Page written more weighed) = refl
 page-told (page.Refused why) = ap page.Refused (refusalOf-saidOf why)
 
 values-told : (a : ValuesAnswer) → valuesAnswer (toldValues a) ≡ a
@@ -94,13 +94,10 @@ module _ {M : Mode} {L R : List ℕ} where
   pub one-page : {begin : Beginning} {wanted : ℕ} {out : List ℕ}
       → OneResult (LowestFar limits L R) (PageGives M L R begin wanted out)
   one-page {begin} {wanted} {out} =
-      one-of-groups
-      (λ G. record { written = length (nextKeys M L R G begin wanted); more = moreFollow M L R G begin wanted })
-      (λ G. receives out (nextKeys M L R G begin wanted)) from
+      one-of-groups (λ G. pageWritten M L R G begin wanted) (λ G. receives out (nextKeys M L R G begin wanted)) from
     where
       from : (v : PageWritten) (b : List ℕ) → PageGives M L R begin wanted out v b
-          → (G : Groups) × GroupsOf M L R G
-          × (v ≡ record { written = length (nextKeys M L R G begin wanted); more = moreFollow M L R G begin wanted })
+          → (G : Groups) × GroupsOf M L R G × (v ≡ pageWritten M L R G begin wanted)
           × (b ≡ receives out (nextKeys M L R G begin wanted))
       from _ _ (next {G = G} of) = (G, of, refl, refl)
 

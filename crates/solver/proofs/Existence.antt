@@ -202,7 +202,7 @@ page-existence (is-refused refuses) =
       last-where-some = λ e. some-later (refuses .first) {m = 15} refl (same-number e);
       page-where-some = λ e. absurd (refused-not-given e);
       written-unify = λ i of e h. absurd (refused-not-given e);
-      written-cover = λ of from-start e θ unifies. absurd (refused-not-given e);
+      written-cover = λ of from-start e ends θ unifies. absurd (refused-not-given e);
       written-independent = λ i j of e h h′ comes. absurd (refused-not-given e);
     }
 page-existence {M} {L} {R} {begin} {wanted} {out} (is-given none (next {G = G} of)) =
@@ -218,8 +218,8 @@ page-existence {M} {L} {R} {begin} {wanted} {out} (is-given none (next {G = G} o
           (getD (receives out (nextKeys M L R G begin wanted)) i 0)))
           (groups-unique M L R of other) (page-unifies none of i (omega (arith, ap (λ p. p .written) (same-values e))));
       written-cover =
-          λ other from-start e θ unifies.
-          let covered = page-covers none of from-start (ap (λ p. p .more) (same-values e)) θ unifies in (
+          λ other from-start e ends θ unifies.
+          let covered = page-covers none of from-start (ap (λ p. p .more) (same-values e) ∙ ends) θ unifies in (
             covered .0,
             omega (arith, covered .1, ap (λ p. p .written) (same-values e)),
             subst

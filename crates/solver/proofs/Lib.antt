@@ -6,6 +6,7 @@ pub mod Bindings
 pub mod ValuesWritten
 pub mod Request
 pub mod Beginning
+pub mod Weighed
 pub mod PageWritten
 pub mod Missing
 pub mod Given

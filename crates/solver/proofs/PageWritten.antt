@@ -17,12 +17,13 @@ use Rattle.table.specs.Table.{groupsIn}
 use Rattle.table.specs.declared.masks.Masks.{Masks}
 use Rattle.list.specs.List.{OfTheirList}
 use Rattle.list.proofs.Table.{table-ascending}
-use Rattle.numbers.specs.Outcome.{given}
 use Rattle.solver.specs.Steps.{KeysWritten}
 
 -- so many keys are written, up to the last; `out` is the buffer after the first was written, and `now` as it is
 pub record Writing (m : Masks) (first last written wanted : ℕ) (out now : List ℕ) : Type 0 where
   pub done : List ℕ
+  pub before : List ℕ
+  pub ends : done ≡ before ++ last ∷ []
   pub how-many : length done ≡ written
   pub some : 0 < written
   pub not-too-many : written ≤ wanted
@@ -47,6 +48,8 @@ pub writing-first : (m : Masks) {first wanted : ℕ} (out : List ℕ) → 0 < wa
 writing-first m {first} out some enough fits =
     record {
       done = first ∷ [];
+      before = [];
+      ends = refl;
       how-many = refl;
       some = omega arith;
       not-too-many = omega arith;
@@ -78,6 +81,8 @@ module _ {m : Masks} {first last written wanted : ℕ} {out now : List ℕ}
   writing-next {key} less fits least =
       record {
         done = writing .done ++ key ∷ [];
+        before = writing .done;
+        ends = refl;
         how-many = length-append (writing .done) (key ∷ []) ∙ omega (arith, writing .how-many);
         some = omega arith;
         not-too-many = omega arith;
@@ -117,19 +122,22 @@ module _ {m : Masks} {first last written wanted : ℕ} (out : List ℕ) {now : L
 
   module _ (left : List ℕ) (more : Bool) (all : take wanted left ≡ writing .done)
       (told : ltb wanted (length left) ≡ more) where
-    written-of : KeysWritten left wanted out (given (record { written = written; more = more })) now
+    written-of : KeysWritten left wanted out (record { written = written; more = more; last = last }) now
     written-of =
         record {
-          the-outcome = cc (all, told, writing .how-many);
+          how-many = sym (ap length all ∙ writing .how-many);
+          whether-more = sym told;
+          before = writing .before;
+          the-last = all ∙ writing .ends;
           the-buffer = received ∙ ap (receives out) (sym all);
         }
 
   -- nothing is left above the last key: all that remained is written
   pub written-all : OfTheirList m (λ listed. NoneFrom listed (last + 1))
       → OfTheirList m (λ listed. KeysWritten (first ∷ remaining (after first) listed) wanted out
-      (given (record { written = written; more = false })) now)
+      (record { written = written; more = false; last = last }) now)
   written-all nothing t its M L R full of =
-      subst (λ left. KeysWritten left wanted out (given (record { written = written; more = false })) now)
+      subst (λ left. KeysWritten left wanted out (record { written = written; more = false; last = last }) now)
       (sym whole ∙ writing .the-rest t its M L R full of)
       (written-of (writing .done) false (take-all wanted (writing .done)
       (omega (arith, writing .how-many, writing .not-too-many)))
@@ -143,9 +151,10 @@ module _ {m : Masks} {first last written wanted : ℕ} (out : List ℕ) {now : L
   -- as many are written as are wanted, and another is left
   pub written-more : {key : ℕ} → wanted ≤ written → OfTheirList m (λ listed. LeastFrom listed (last + 1) key)
       → OfTheirList m (λ listed. KeysWritten (first ∷ remaining (after first) listed) wanted out
-      (given (record { written = written; more = true })) now)
+      (record { written = written; more = true; last = last }) now)
   written-more {key} full-page least t its M L R full of =
-      subst (λ left. KeysWritten left wanted out (given (record { written = written; more = true })) now) (writing .the-rest t its M L R full of)
+      subst (λ left. KeysWritten left wanted out (record { written = written; more = true; last = last }) now)
+      (writing .the-rest t its M L R full of)
       (written-of (writing .done ++ remaining (after last) listed) true
       (take-at (writing .done) (remaining (after last) listed) wanted
       (omega (arith, writing .how-many, writing .not-too-many)))

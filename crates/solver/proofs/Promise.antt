@@ -3,11 +3,15 @@ use Prim.Native.Nat.{ℕ, _≤_}
 use native.Mathlib.Omega.{arith}
 use mathlib.Core.Path.{_≡_, refl, sym, ap, subst, subst₂, _∙_}
 use mathlib.Core.Bool.{false}
-use mathlib.Core.List.{List, [], _∷_, List·Memᴰ}
+use mathlib.Core.List.{List, [], _∷_, List·Memᴰ, List·Memᴰ·head, Memᴰ·append-right}
 use lib.ListN.{length, getD}
 use Rattle.ac.specs.Limits.{limits}
 use Rattle.ac.specs.Pair.{Mode}
-use Rattle.ac.specs.Keys.{layout, keys, Beginning, after, remaining}
+use Rattle.ac.specs.Keys.{layout, keys, Beginning, after, remaining, Candidate}
+use Rattle.ac.specs.Weighed.{candidates, weighed}
+use Rattle.ac.proofs.Listed.{listed-candidates}
+use Rattle.ac.proofs.Pages.{page-members}
+use Rattle.ac.proofs.Weighed.{weighed-later}
 use Rattle.ac.specs.Counting.{selectionsReaching}
 use Rattle.ac.proofs.Counting.{keys-reaching}
 use Rattle.buffer.specs.Put.{Put}
@@ -22,20 +26,24 @@ use Rattle.numbers.proofs.Said.{refuses-carried, refuses-alone, refuses-other}
 use Rattle.numbers.proofs.Parts.{none-of-sides}
 use Rattle.pair.specs.Given.{PairGiven}
 use Rattle.table.specs.Table.{TableOf, groupsIn}
+use Rattle.table.specs.Masks.{MasksOf}
 use Rattle.table.specs.declared.Table.{Table}
+use Rattle.table.specs.declared.masks.Masks.{Masks}
 use Rattle.table.proofs.TableGroups.{length-groupAt, how-many-constants}
 use Rattle.list.specs.Given.{ListGiven}
 use Rattle.list.specs.List.{LookedUp}
 use Rattle.list.specs.declared.Lookup.{Lookup}
 use Rattle.list.specs.declared.Lookup.the-variants as lookup
+use Rattle.list.proofs.Table.{table-fits}
 use Rattle.list.proofs.Finding.{told-listed, told-refused}
 use Rattle.solver.specs.Rows.{rowsBuffer, sizesAs, size, sizesOf, allRows, bytesOf, RowsPromise}
 use Rattle.solver.specs.Rows as its-rows
-use Rattle.solver.specs.Page.{wantedCount, PageWritten, PagePromise, next}
+use Rattle.solver.specs.Page.{wantedCount, PageWritten, keysWeighed, pageWritten, PagePromise, next}
 use Rattle.solver.specs.Values.{valuesBuffer, ValuesPromise}
 use Rattle.solver.specs.Values as its-values
 use Rattle.solver.specs.Count.{CountPromise, as-listed}
-use Rattle.solver.specs.Steps.{SettledOf, to-refuse, to-answer, KeysWritten, WritesValues, too-long, fits}
+use Rattle.solver.specs.Steps.{SettledOf, to-refuse, to-answer, KeysWritten, WritesValues, too-long, fits, WeighedUpto}
+use Rattle.solver.specs.declared.page.WrittenKeys.{WrittenKeys}
 use Rattle.solver.specs.declared.page.Settled.{Settled}
 use Rattle.solver.specs.declared.page.Settled.the-variants.{FirstKey, Refused}
 use Rattle.solver.proofs.Given.{rows-made, page-first, page-none, values-first, values-long, values-none}
@@ -48,7 +56,8 @@ settled-refusal (to-refuse first) = first
 settled-first : {listed : List ℕ} {begin : Beginning} {key : ℕ} → SettledOf listed begin (FirstKey key)
     → NoneOf (ListGiven listed begin) beginningNumbers
     × (remaining begin listed ≡ key ∷ remaining (after key) listed)
-settled-first (to-answer none e) = (none, e)
+    × ((k : ℕ) → begin ≡ after k → List·Memᴰ k listed)
+settled-first (to-answer none e on-list) = (none, e, on-list)
 
 module _ {M : Mode} {L R : List ℕ} {t : Table} (of : TableOf M L R t)
     (none : NoneOf (PairGiven limits M L R) sidesNumbers) where
@@ -87,17 +96,47 @@ module _ {M : Mode} {L R : List ℕ} {t : Table} (of : TableOf M L R t)
         is-refused (refuses-carried (page-first (of .the-groups) none enough)
         (refuses-alone refl why (settled-refusal (subst (SettledOf (keys M layout L R (groupsIn t)) begin) e told))))
 
-    -- a page is what was written of the keys that remain
-    pub page-promised : {first : ℕ} {outcome : Outcome PageWritten} {out′ : List ℕ} → settled ≡ FirstKey first
+    -- a page is what was written of the keys that remain, with what was weighed from the beginning up to the last
+    pub page-promised : {m : Masks} → MasksOf (groupsIn t) (t .places) m → M .empties ≡ false
+        → {first count : ℕ} {written : WrittenKeys} {out′ : List ℕ} → settled ≡ FirstKey first
         → KeysWritten (first ∷ remaining (after first) (keys M layout L R (groupsIn t))) (wantedCount wanted)
-        out outcome out′
-        → PagePromise M L R begin wanted out outcome out′
-    page-promised {outcome = outcome} {out′ = out′} e written =
-        let answer = settled-first (subst (SettledOf (keys M layout L R (groupsIn t)) begin) e told) in
-        let whole =
-        subst (λ left. KeysWritten left (wantedCount wanted) out outcome out′) (sym (answer .1)) written in
-        subst₂ (λ o b. PagePromise M L R begin wanted out o b) (sym (whole .the-outcome)) (sym (whole .the-buffer))
+        out written out′
+        → WeighedUpto m begin (written .last) count
+        → PagePromise M L R begin wanted out
+        (given (record { written = written .written; more = written .more; weighed = count })) out′
+    page-promised its full {first = first} {count = count} {written = written} {out′ = out′} e writes weighs =
+        subst₂ (λ o b. PagePromise M L R begin wanted out (given o) b) (sym values) (sym (whole .the-buffer))
         (is-given (page-none (of .the-groups) none enough (answer .0)) (next (of .the-groups)))
+      where
+        listed : List ℕ
+        listed = keys M layout L R (groupsIn t)
+
+        answer : NoneOf (ListGiven listed begin) beginningNumbers
+            × (remaining begin listed ≡ first ∷ remaining (after first) listed)
+            × ((k : ℕ) → begin ≡ after k → List·Memᴰ k listed)
+        answer = settled-first (subst (SettledOf listed begin) e told)
+
+        whole : KeysWritten (remaining begin listed) (wantedCount wanted) out written out′
+        whole = subst (λ left. KeysWritten left (wantedCount wanted) out written out′) (sym (answer .1)) writes
+
+        a-candidate : {key : ℕ} → List·Memᴰ key listed → Candidate layout (groupsIn t) key
+        a-candidate m = listed-candidates (table-fits (of .within)) M L R .0 m .0
+
+        last-listed : List·Memᴰ (written .last) listed
+        last-listed =
+            page-members begin (wantedCount wanted)
+            (subst (List·Memᴰ (written .last)) (sym (whole .the-last))
+            (Memᴰ·append-right (whole .before) (List·Memᴰ·head refl)))
+
+        same-weighed : count ≡ keysWeighed M L R (groupsIn t) begin wanted
+        same-weighed =
+            weighs t its M L R full of (λ k same. a-candidate (answer .2 k same)) (a-candidate last-listed)
+            ∙ sym (ap (λ ks. weighed begin ks (candidates M layout (groupsIn t))) (whole .the-last)
+            ∙ weighed-later begin (whole .before) (written .last) [] (candidates M layout (groupsIn t)))
+
+        values : _≡_ {A = PageWritten} (record { written = written .written; more = written .more; weighed = count })
+            (pageWritten M L R (groupsIn t) begin wanted)
+        values = λ i. record { written = whole .how-many i; more = whole .whether-more i; weighed = same-weighed i }
 
   module _ {key : ℕ} {out : List ℕ} (enough : valuesBuffer ≤ length out) {found : Lookup}
       (told : LookedUp (keys M layout L R (groupsIn t)) key found) where

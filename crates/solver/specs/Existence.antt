@@ -1,7 +1,7 @@
 -- Demand 3 in Page's contract: what an outcome says of the pair's unifiers.
 use Prim.Native.Nat.{ℕ, _<_}
 use mathlib.Core.Path.{_≡_}
-use mathlib.Core.Bool.{Bool, false}
+use mathlib.Core.Bool.{false}
 use mathlib.Core.List.{List}
 use lib.ListN.{getD}
 use Rattle.ac.specs.Pair.{Mode}
@@ -37,19 +37,19 @@ pub record PageExistence (M : Mode) (L R : List ℕ) (begin : Beginning) (wanted
   -- 14, 15 and a page only where one does
   pub unlisted-where-some : outcome ≡ refused (saidOf NotListed) → SomeUnifies M L R
   pub last-where-some : outcome ≡ refused (saidOf LastKey) → SomeUnifies M L R
-  pub page-where-some : {written : ℕ} {more : Bool} → outcome ≡ given (record { written = written; more = more }) → SomeUnifies M L R
+  pub page-where-some : {page : PageWritten} → outcome ≡ given page → SomeUnifies M L R
   -- each key that is written names a unifier
-  pub written-unify : {G : Groups} {written : ℕ} {more : Bool} (i : ℕ) → GroupsOf M L R G
-      → outcome ≡ given (record { written = written; more = more }) → i < written
+  pub written-unify : {G : Groups} {page : PageWritten} (i : ℕ) → GroupsOf M L R G
+      → outcome ≡ given page → i < page .written
       → Unifies M L R (replacementOf M L R G (getD out′ i 0))
   -- every unifier comes from one of the keys on a page from the start after which no more follow
-  pub written-cover : {G : Groups} {written : ℕ} → GroupsOf M L R G → begin ≡ start
-      → outcome ≡ given (record { written = written; more = false }) → (θ : Replacement) → Unifies M L R θ
-      → (i : ℕ) × (i < written) × ComesFrom M (layout .new) L R (replacementOf M L R G (getD out′ i 0)) θ
+  pub written-cover : {G : Groups} {page : PageWritten} → GroupsOf M L R G → begin ≡ start
+      → outcome ≡ given page → page .more ≡ false → (θ : Replacement) → Unifies M L R θ
+      → (i : ℕ) × (i < page .written) × ComesFrom M (layout .new) L R (replacementOf M L R G (getD out′ i 0)) θ
   -- none comes from another: of two keys that are written the replacement of the one comes from that of the
   -- other only if they stand at one place
-  pub written-independent : {G : Groups} {written : ℕ} {more : Bool} (i j : ℕ) → GroupsOf M L R G
-      → outcome ≡ given (record { written = written; more = more }) → i < written → j < written
+  pub written-independent : {G : Groups} {page : PageWritten} (i j : ℕ) → GroupsOf M L R G
+      → outcome ≡ given page → i < page .written → j < page .written
       → ComesFrom M (layout .new) L R (replacementOf M L R G (getD out′ i 0))
       (replacementOf M L R G (getD out′ j 0))
       → i ≡ j

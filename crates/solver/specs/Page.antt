@@ -9,6 +9,7 @@ use Rattle.ac.specs.Pair.{Mode}
 use Rattle.ac.specs.Rows.{Groups, GroupsOf}
 use Rattle.ac.specs.Keys.{layout, keys, start, after, Beginning}
 use Rattle.ac.specs.Pages.{page, more}
+use Rattle.ac.specs.Weighed.{candidates, weighed}
 use Rattle.numbers.specs.Numbers.{saidOf}
 use Rattle.numbers.specs.Order.{pageNumbers}
 use Rattle.numbers.specs.Outcome.{Outcome, refused, given, Promise}
@@ -39,14 +40,16 @@ pub data PageGiven (M : Mode) (L R : List ℕ) (begin : Beginning) (wanted : ℕ
   -- a lent buffer is too short
   short-buffer : length out < wantedCount wanted → PageGiven M L R begin wanted out 16
 
--- What Page returns: the number written and whether more follow.
+-- What Page returns: the number written and whether more follow; and how many candidate keys it weighed (document 02,
+-- R-8).
 pub record PageWritten : Type 0 where
   pub written : ℕ
   pub more : Bool
+  pub weighed : ℕ
 
 -- document 01's number and values for each case of the answer
 abbrev pub toldPage : PageAnswer → Outcome PageWritten
-toldPage (Page written more) = given (record { written = written; more = more })
+toldPage (Page written more weighed) = given (record { written = written; more = more; weighed = weighed })
 toldPage (Refused refusal) = refused (saidOf refusal)
 
 module _ (M : Mode) (L R : List ℕ) (G : Groups) (begin : Beginning) (wanted : ℕ) where
@@ -58,12 +61,20 @@ module _ (M : Mode) (L R : List ℕ) (G : Groups) (begin : Beginning) (wanted : 
   abbrev pub moreFollow : Bool
   moreFollow = more begin (wantedCount wanted) (keys M layout L R G)
 
--- The buffer receives the next keys. The number written and whether more follow are returned.
+  -- how many candidates were weighed: those after the beginning, up to and including the last key written
+  abbrev pub keysWeighed : ℕ
+  keysWeighed = weighed begin nextKeys (candidates M layout G)
+
+  -- the values that are returned
+  abbrev pub pageWritten : PageWritten
+  pageWritten = record { written = length nextKeys; more = moreFollow; weighed = keysWeighed }
+
+-- The buffer receives the next keys. The number written and whether more follow are returned, and how many candidate
+-- keys were weighed.
 pub data PageGives (M : Mode) (L R : List ℕ) (begin : Beginning) (wanted : ℕ) (out : List ℕ) : PageWritten
     → List ℕ → Type 0 where
   next : {G : Groups} → GroupsOf M L R G
-      → PageGives M L R begin wanted out
-      (record { written = length (nextKeys M L R G begin wanted); more = moreFollow M L R G begin wanted })
+      → PageGives M L R begin wanted out (pageWritten M L R G begin wanted)
       (receives out (nextKeys M L R G begin wanted))
 
 -- What Page promises of its outcome and of the lent buffer at exit.

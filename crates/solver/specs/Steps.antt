@@ -2,14 +2,15 @@
 use Prim.Native.Nat.{ℕ}
 use mathlib.Core.Path.{_≡_}
 use mathlib.Core.Bool.{false}
-use mathlib.Core.List.{List, _∷_, List·Memᴰ}
+use mathlib.Core.List.{List, [], _∷_, _++_, List·Memᴰ}
 use lib.Dec.{ltb}
 use lib.ListN.{length, take}
 use Rattle.ac.specs.Lists.{receives}
 use Rattle.ac.specs.Limits.{limits}
 use Rattle.ac.specs.Pair.{Mode}
 use Rattle.ac.specs.Rows.{Groups}
-use Rattle.ac.specs.Keys.{layout, keys, Beginning, after, remaining}
+use Rattle.ac.specs.Keys.{layout, keys, Candidate, Beginning, after, remaining}
+use Rattle.ac.specs.Weighed.{candidates, weighed}
 use Rattle.numbers.specs.Numbers.{numberOf, saidOf}
 use Rattle.numbers.specs.First.{First, NoneOf}
 use Rattle.numbers.specs.Order.{sidesNumbers, beginningNumbers}
@@ -18,7 +19,9 @@ use Rattle.numbers.specs.declared.Refusal.{Refusal}
 use Rattle.numbers.specs.declared.Refusal.the-variants.{LongValue as TooLong}
 use Rattle.pair.specs.Given.{PairGiven}
 use Rattle.table.specs.Table.{TableOf, groupsIn}
+use Rattle.table.specs.Masks.{MasksOf}
 use Rattle.table.specs.declared.Table.{Table}
+use Rattle.table.specs.declared.masks.Masks.{Masks}
 use Rattle.list.specs.Given.{ListGiven}
 use Rattle.list.specs.List.{OfItsPair}
 use Rattle.solver.specs.Rows.{GroupSizes, RowsPromise}
@@ -27,6 +30,7 @@ use Rattle.solver.specs.Values.{LongValue, valuesOf, ValuesPromise}
 use Rattle.solver.specs.Count.{CountPromise}
 use Rattle.solver.specs.declared.page.PageRequest.{PageRequest}
 use Rattle.solver.specs.declared.page.Settled.{Settled}
+use Rattle.solver.specs.declared.page.WrittenKeys.{WrittenKeys}
 use Rattle.solver.specs.declared.page.Settled.the-variants.{FirstKey, Refused}
 
 -- it is so for all sides whose table it is and that give no number
@@ -50,21 +54,31 @@ ValuesOfTable table key out outcome out′ =
 abbrev pub CountOfTable : Table → Outcome ℕ → Type 0
 CountOfTable table outcome = OfSolved table (λ M L R. M .empties ≡ false → CountPromise M L R outcome)
 
--- 13, 14 or 15, or the first of the keys that remain
+-- 13, 14 or 15, or the first of the keys that remain, and that the key after which to begin, if any, is listed
 pub data SettledOf (listed : List ℕ) (begin : Beginning) : Settled → Type 0 where
   to-refuse : {why : Refusal} → First (ListGiven listed begin) beginningNumbers (numberOf why)
       → SettledOf listed begin (Refused why)
   to-answer : {key : ℕ} → NoneOf (ListGiven listed begin) beginningNumbers
       → remaining begin listed ≡ key ∷ remaining (after key) listed
+      → ((k : ℕ) → begin ≡ after k → List·Memᴰ k listed)
       → SettledOf listed begin (FirstKey key)
 
--- of the keys that remain as many are written as are wanted, and it is told how many they are and whether
--- more follow
-pub record KeysWritten (left : List ℕ) (wanted : ℕ) (out : List ℕ) (outcome : Outcome PageWritten)
-    (out′ : List ℕ) : Type 0 where
-  pub the-outcome : outcome
-      ≡ given (record { written = length (take wanted left); more = ltb wanted (length left) })
+-- of the keys that remain as many are written as are wanted, and it is told how many they are, whether more
+-- follow, and which is the last
+pub record KeysWritten (left : List ℕ) (wanted : ℕ) (out : List ℕ) (keys : WrittenKeys) (out′ : List ℕ) : Type 0 where
+  pub how-many : keys .written ≡ length (take wanted left)
+  pub whether-more : keys .more ≡ ltb wanted (length left)
+  pub before : List ℕ
+  pub the-last : take wanted left ≡ before ++ keys .last ∷ []
   pub the-buffer : out′ ≡ receives out (take wanted left)
+
+-- as many as are weighed from the beginning up to the last key, of every pair of every table that the masks are of,
+-- where that key and the one after which to begin, if any, are candidates
+abbrev pub WeighedUpto : Masks → Beginning → ℕ → ℕ → Type 0
+WeighedUpto masks begin last count =
+    (table : Table) → MasksOf (groupsIn table) (table .places) masks → OfItsPair table (λ M L R.
+    ((k : ℕ) → begin ≡ after k → Candidate layout (groupsIn table) k) → Candidate layout (groupsIn table) last
+    → count ≡ weighed begin (last ∷ []) (candidates M layout (groupsIn table)))
 
 -- Of a listed key: 17 where a value would be too long, else the values are written and their length is told.
 pub data WritesValues (M : Mode) (L R : List ℕ) (G : Groups) (key : ℕ) (out : List ℕ) : Outcome ℕ → List ℕ

@@ -4,6 +4,7 @@ use list::Lookup;
 use list::NextKey;
 use list::find_key;
 use list::least_listed;
+use list::rank::rank;
 use numbers::Refusal;
 use numbers::Verdict;
 use pair::ways::Way;
@@ -23,7 +24,7 @@ ghost use Rattle.table.specs.Masks.{Coherent};
 ghost use Rattle.list.specs.List.{OfTheirList};
 ghost use Rattle.solver.specs.Page.{wantedCount, beginningOf, toldPage, PagePromise};
 ghost use Rattle.solver.specs.Existence.{PageExistence};
-ghost use Rattle.solver.specs.Steps.{SettledOf, KeysWritten, PageOfTable};
+ghost use Rattle.solver.specs.Steps.{SettledOf, KeysWritten, WeighedUpto, PageOfTable};
 
 // How many keys a page has if the request says 0.
 pub const DEFAULT_COUNT: usize = 200;
@@ -40,9 +41,13 @@ pub struct PageRequest {
     pub wanted: usize,
 }
 
-// The number of keys written and whether more follow, or why there are none.
+// The number of keys written, whether more follow and how many candidate keys were weighed, or why there are none.
 pub enum PageAnswer {
-    Page { written: usize, more: bool },
+    Page {
+        written: usize,
+        more: bool,
+        weighed: u64,
+    },
     Refused(Refusal),
 }
 
@@ -94,10 +99,18 @@ fn settle(masks: Masks, begin: Begin) -> Settled
     }
 }
 
-// Write the keys from the first one on, as many as are wanted or, if fewer remain, all that remain.
-fn write_keys(masks: Masks, first: Key, wanted: usize, out: &mut [Key]) -> PageAnswer
+// The keys of a page: how many there are, whether more follow, and the last one.
+struct WrittenKeys {
+    written: usize,
+    more: bool,
+    last: Key,
+}
+
+// Write the keys from the first one on, as many as are wanted or, if fewer remain, all that remain. Each is sought
+// from the one before on, so that no key is weighed twice.
+fn write_keys(masks: Masks, first: Key, wanted: usize, out: &mut [Key]) -> WrittenKeys
     requires { ⌜ Coherent masks × (0 < wanted) × (wanted ≤ length (now out)) ⌝ }
-    ensures { λ r. ⌜ OfTheirList masks (λ listed. KeysWritten (first ∷ remaining (after first) listed) wanted (now (out .entry)) (toldPage r) (now (out .exit))) ⌝ }
+    ensures { λ r. ⌜ OfTheirList masks (λ listed. KeysWritten (first ∷ remaining (after first) listed) wanted (now (out .entry)) r (now (out .exit))) ⌝ }
 {
     out[0] = first;
     let mut last = first;
@@ -105,9 +118,10 @@ fn write_keys(masks: Masks, first: Key, wanted: usize, out: &mut [Key]) -> PageA
     while written < wanted {
         let next = least_listed(masks, last as u64 + 1);
         let NextKey::Key(key) = next else {
-            return PageAnswer::Page {
+            return WrittenKeys {
                 written,
                 more: false,
+                last,
             };
         };
         out[written] = key;
@@ -116,14 +130,32 @@ fn write_keys(masks: Masks, first: Key, wanted: usize, out: &mut [Key]) -> PageA
     }
     let next = least_listed(masks, last as u64 + 1);
     match next {
-        NextKey::Key(_) => PageAnswer::Page {
+        NextKey::Key(_) => WrittenKeys {
             written,
             more: true,
+            last,
         },
-        NextKey::None => PageAnswer::Page {
+        NextKey::None => WrittenKeys {
             written,
             more: false,
+            last,
         },
+    }
+}
+
+// How many candidates lie after the beginning, up to and including the last key: the difference of two ranks. From the
+// start on it is the rank of the last; where that does not come after the key, none lies between them.
+fn weigh_up_to(masks: Masks, begin: Begin, last: Key) -> u64
+    requires { ⌜ Coherent masks ⌝ }
+    ensures { λ r. ⌜ WeighedUpto masks (beginningOf begin) last r ⌝ }
+{
+    let upto = rank(&masks.sizes, masks.unbalanced, last);
+    match begin {
+        Begin::Start => upto,
+        Begin::After(key) => {
+            let passed = rank(&masks.sizes, masks.unbalanced, key);
+            if passed < upto { upto - passed } else { 0 }
+        }
     }
 }
 
@@ -141,7 +173,15 @@ pub fn page_of(table: Table, request: PageRequest, out: &mut [Key]) -> PageAnswe
     let begin = request.begin;
     let settled = settle(masks, begin);
     match settled {
-        Settled::FirstKey(first) => write_keys(masks, first, wanted, out),
+        Settled::FirstKey(first) => {
+            let keys = write_keys(masks, first, wanted, out);
+            let weighed = weigh_up_to(masks, begin, keys.last);
+            PageAnswer::Page {
+                written: keys.written,
+                more: keys.more,
+                weighed,
+            }
+        }
         Settled::Refused(refusal) => PageAnswer::Refused(refusal),
     }
 }

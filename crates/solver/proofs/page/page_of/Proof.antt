@@ -1,4 +1,4 @@
--- `solver::page::page_of` meets its contract: 16 first, then what is settled, then what is written.
+-- `solver::page::page_of` meets its contract: 16 first, then what is settled, then what is written and weighed.
 use borrow.Author.Needs.{needs}
 use Rattle.solver.proofs.Request.{wanted-some}
 use Rattle.numbers.proofs.Parts.{short-promised}
@@ -33,6 +33,9 @@ write-keys-requires c κs =
       long .if1 .left,
     )
 
+weigh-up-to-requires : tie.Need-weigh-up-to-requires
+weigh-up-to-requires c κs = c .before .before .before .before .before .before .before .before .masks-of .ensures .1
+
 enum-known-settled-2 : tie.Need-enum-known-settled-2
 enum-known-settled-2 c = search needs
 
@@ -41,14 +44,16 @@ same-length c = search needs
 
 returns-2 : tie.Need-returns-2
 returns-2 c = λ M L R of none full.
-    let settled = c .before .before .before .before .before .before .before in
+    let written = c .before .before .before in
+    let settled = written .before .before .before .before .before in
     let masks = settled .before in
     let long = masks .before in
     let its = masks .masks-of .ensures .0 in
     page-promised of none (rw (long .before .wanted-count .ensures) at (long .if1 .left))
-    (settled .settle .ensures _ its M L R full of)
-    (c .before .before .before .before .before .settled .given .1)
-    (rw (long .before .wanted-count .ensures) at (c .before .before .write-keys .ensures _ its M L R full of))
+    (settled .settle .ensures _ its M L R full of) its full
+    (written .before .before .before .settled .given .1)
+    (rw (long .before .wanted-count .ensures) at (written .write-keys .ensures _ its M L R full of))
+    (c .weigh-up-to .ensures)
 
 returns-3 : tie.Need-returns-3
 returns-3 c = λ M L R of none full.
@@ -70,6 +75,7 @@ page-of-spec =
     settle-requires
     enum-known-settled
     write-keys-requires
+    weigh-up-to-requires
     enum-known-settled-2
     same-length
     returns-2

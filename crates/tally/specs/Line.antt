@@ -46,7 +46,7 @@ constantsRows first second third fourth = min (first + second + third + fourth) 
 abbrev pub toldList : RowsAnswer → PageAnswer → Outcome BlockFound
 toldList (rows.Refused refusal) page = refused (saidOf refusal)
 toldList (Groups balanced constants first second third fourth) (page.Refused refusal) = refused (saidOf refusal)
-toldList (Groups balanced constants first second third fourth) (Page written more) =
+toldList (Groups balanced constants first second third fourth) (Page written more weighed) =
     given
     (a-list
     (record {

@@ -126,7 +126,11 @@ fn listed_line(rows: RowsAnswer, page: PageAnswer) -> Line
             fourth,
         } => match page {
             PageAnswer::Refused(refusal) => refused_line(refusal),
-            PageAnswer::Page { written, more } => Line::Listed {
+            PageAnswer::Page {
+                written,
+                more,
+                weighed: _,
+            } => Line::Listed {
                 balanced: balanced as u64,
                 of_constants: all_constants(first, second, third, fourth),
                 lines: written as u64,

@@ -2,7 +2,7 @@
 -- `alike-answers`. What meets a promise on the one pair meets it on the other: `rows-carried`, `page-carried`,
 -- `values-carried`, `count-carried`.
 use Prim.Native.Nat.{ℕ, _<_}
-use mathlib.Core.Path.{_≡_, sym, ap, subst}
+use mathlib.Core.Path.{_≡_, sym, ap, subst, subst₂}
 use mathlib.Core.List.{List, List·Memᴰ}
 use lib.ListN.{length}
 use Rattle.ac.specs.Lists.{receives}
@@ -13,6 +13,7 @@ use Rattle.ac.specs.Selection.{taken, valueAt, placeOf}
 use Rattle.ac.specs.Keys.{layout, keys, selectionAt, Beginning}
 use Rattle.ac.specs.Values.{laidOut, bindings}
 use Rattle.ac.specs.Pages.{page, more}
+use Rattle.ac.specs.Weighed.{weighed}
 use Rattle.numbers.specs.Order.{rowsNumbers, pageNumbers, valuesNumbers, countNumbers}
 use Rattle.numbers.specs.Outcome.{Outcome}
 use Rattle.numbers.proofs.Alike.{Agree, promise-carried, outcomes-agree}
@@ -32,7 +33,7 @@ use Rattle.solver.specs.declared.count.CountAnswer.{CountAnswer}
 use Rattle.solver.proofs.Determined.{one-rows, one-page, one-values, one-count, rows-determined, page-determined, values-determined, count-determined}
 use Rattle.whole.specs.Alike.{Alike, SameAnswers}
 use Rattle.whole.proofs.Alike.{alike-symmetric, lowest-alike}
-use Rattle.whole.proofs.AlikeGroups.{groups-carried, keys-alike, value-alike, pair-given-alike}
+use Rattle.whole.proofs.AlikeGroups.{groups-carried, keys-alike, candidates-alike, value-alike, pair-given-alike}
 
 -- ---- the numbers that a question gives of the one pair it gives of the other
 
@@ -79,11 +80,14 @@ module _ {M M′ : Mode} {L R L′ R′ : List ℕ} (alike : Alike limits M L R 
   page-result : {begin : Beginning} {wanted : ℕ} {out : List ℕ} (keys : PageWritten) (exit : List ℕ)
       → PageGives M L R begin wanted out keys exit → PageGives M′ L′ R′ begin wanted out keys exit
   page-result {begin} {wanted} {out} _ _ (next {G = G} of) =
-      subst
-      (λ ks. PageGives M′ L′ R′ begin wanted out
-      (record { written = length (page begin (wantedCount wanted) ks); more = more begin (wantedCount wanted) ks })
-      (receives out (page begin (wantedCount wanted) ks)))
-      (sym (keys-alike alike layout G)) (next (groups-carried alike of))
+      subst₂
+      (λ ks cs. PageGives M′ L′ R′ begin wanted out
+      (record {
+        written = length (page begin (wantedCount wanted) ks);
+        more = more begin (wantedCount wanted) ks;
+        weighed = weighed begin (page begin (wantedCount wanted) ks) cs;
+      }) (receives out (page begin (wantedCount wanted) ks)))
+      (sym (keys-alike alike layout G)) (sym (candidates-alike alike layout G)) (next (groups-carried alike of))
 
   -- what is written of a key is the same
   pub bytes-alike : (G : Groups) (key : ℕ) → valuesOf M L R G key ≡ valuesOf M′ L′ R′ G key

@@ -13,6 +13,7 @@ use Rattle.ac.specs.Pair.{Mode, net, variables}
 use Rattle.ac.specs.Rows.{weigh, weight, BalancedRow, RowOf, Groups, GroupsOf}
 use Rattle.ac.specs.Selection.{Selection, taken, allReached, allTaken, valueAt, placeOf, value}
 use Rattle.ac.specs.Keys.{Layout, keyOf, selections, keys}
+use Rattle.ac.specs.Weighed.{candidates}
 use Rattle.ac.proofs.Vectors.{least-same, exactly-same}
 use Rattle.ac.proofs.Negated.{weigh-negated}
 use Rattle.numbers.specs.Order.{uncountedNumbers}
@@ -103,6 +104,12 @@ module _ {limits : Limits} {M M′ : Mode} {L R L′ R′ : List ℕ} (alike : A
   keys-alike lay G =
       ap₂ (λ empties xs. map (keyOf lay) (filter (admits lay G empties xs) (selections G))) (alike .same-emptying)
       (alike .same-variables)
+
+  -- So are the candidates.
+  pub candidates-alike : (lay : Layout) (G : Groups) → candidates M lay G ≡ candidates M′ lay G
+  candidates-alike lay G =
+      ap (λ empties. map (keyOf lay)
+      (filter (λ s. elim empties [ true ↦ allTaken (s .takes) | false ↦ true ]) (selections G))) (alike .same-emptying)
 
   -- A variable's value is the same in every selection.
   pub value-alike : (new : ℕ) (G : Groups) (s : Selection) (x : ℕ) → value M new L R G s x ≡ value M′ new L′ R′ G s x

@@ -91,7 +91,7 @@ module _ {M M′ : Mode} {L R L′ R′ : List ℕ} (alike : Alike limits M L R 
       → PagesAsked M′ L′ R′ begin asked
   pages-carried (pages.one-more before last promise seam rest) =
       pages.one-more before last (page-carried alike promise) seam (pages-carried rest)
-  pages-carried (pages.no-more promise) = pages.no-more (page-carried alike promise)
+  pages-carried (pages.no-more promise ends) = pages.no-more (page-carried alike promise) ends
   pages-carried (pages.was-last promise) = pages.was-last (page-carried alike promise)
 
   answers-carried : {keys : List ℕ} {answers : List (List ℕ)} → ValuesAsked M L R keys answers

@@ -3,11 +3,10 @@
 -- its numbers (`pages-wherever-given`).
 use Prim.Native.Nat.{ℕ, suc, _≤_}
 use native.Mathlib.Omega.{arith}
-use mathlib.Core.Path.{_≡_, refl, subst}
-use mathlib.Core.Bool.{Bool, false}
+use mathlib.Core.Path.{refl, subst}
 use mathlib.Core.List.{List, [], _∷_, List·Memᴰ, List·Memᴰ·head, List·Memᴰ·tail}
 use borrow.Author.Tests.{le-ltb}
-use lib.ListN.{length, replicate, length-replicate, take}
+use lib.ListN.{length, replicate, length-replicate}
 use Rattle.ac.specs.Pair.{Mode}
 use Rattle.ac.specs.Rows.{Groups, GroupsOf}
 use Rattle.ac.specs.Keys.{layout, keys, Beginning, start}
@@ -19,8 +18,8 @@ use Rattle.list.proofs.Given.{start-not-after, list-gives-none}
 use Rattle.ac.specs.Limits.{limits}
 use Rattle.pair.specs.Given.{PairGiven}
 use Rattle.numbers.specs.Order.{sidesNumbers, rowsNumbers, beginningNumbers, pageNumbers}
-use Rattle.numbers.specs.Outcome.{given, is-given}
-use Rattle.solver.specs.Page.{PageGiven, of-the-sides, PagePromise, next}
+use Rattle.numbers.specs.Outcome.{is-given}
+use Rattle.solver.specs.Page.{PageGiven, of-the-sides, next}
 use Rattle.solver.specs.Existence.{SomeUnifies}
 use Rattle.solver.specs.Pages.{PagesAsked, no-more as no-more-pages}
 use Rattle.solver.proofs.Given.{page-none, values-none}
@@ -39,14 +38,6 @@ room n = replicate n 0
 room-enough : (n : ℕ) → n ≤ length (room n)
 room-enough n = omega (arith, length-replicate {A = ℕ} n 0)
 
-module _ {M : Mode} {L R : List ℕ} where
-  -- a page after which no more follow is the last one
-  last-page : {begin : Beginning} {wanted written : ℕ} {more : Bool} {out out′ : List ℕ} → more ≡ false
-      → PagePromise M L R begin wanted out (given (record { written = written; more = more })) out′
-      → PagesAsked M L R begin (take written out′ ∷ [])
-  last-page {begin} {wanted} {written} {out = out} {out′ = out′} ends promise =
-      no-more-pages (subst (λ more. PagePromise M L R begin wanted out (given (record { written = written; more = more })) out′) ends promise)
-
 module _ {M : Mode} {L R : List ℕ} (none : NoneOf (PairGiven limits M L R) sidesNumbers)
     {G : Groups} (of : GroupsOf M L R G) where
   -- one page from the start, with room for more than all keys
@@ -57,8 +48,9 @@ module _ {M : Mode} {L R : List ℕ} (none : NoneOf (PairGiven limits M L R) sid
       let nothing =
       none-of (λ n. list-gives-none (λ k same. absurd (start-not-after same)) m) beginningNumbers in (
         _,
-        last-page {wanted = wanted} {out = room wanted} (le-ltb wanted (length (keys M layout L R G)) (omega arith))
-            (is-given (page-none of none (room-enough wanted) nothing) (next of)),
+        no-more-pages {wanted = wanted} {out = room wanted}
+            (is-given (page-none of none (room-enough wanted) nothing) (next of))
+            (le-ltb wanted (length (keys M layout L R G)) (omega arith)),
       )
 
   -- Values answers each listed key

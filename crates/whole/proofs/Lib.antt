@@ -8,6 +8,7 @@ pub mod Atoms
 pub mod Short
 pub mod Exist
 pub mod OnPages
+pub mod Weighed
 pub mod Counted
 pub mod Substitutions
 pub mod Unifiers

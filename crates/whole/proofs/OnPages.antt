@@ -13,7 +13,7 @@ use Prim.Native.Nat.{ℕ, zero, suc, _<_, _≤_}
 use native.Mathlib.Omega.{arith}
 use native.Mathlib.Decide.{decLe}
 use mathlib.Core.Path.{_≡_, refl, sym, ap, subst, _∙_}
-use mathlib.Core.Bool.{Bool, true}
+use mathlib.Core.Bool.{true}
 use mathlib.Core.List.{List, [], _∷_, _++_, List·Memᴰ, List·Memᴰ·head, Memᴰ·append-right, Memᴰ·cast}
 use borrow.Author.Tests.{ltb-true}
 use lib.ListN.{length, getD, take, drop, length-drop}
@@ -80,28 +80,28 @@ list-remains start never empty = never 13 (none-admissible empty)
 list-remains (after k) never empty = never 14 (not-listed refl (λ m. never 15 (last-listed refl m empty)))
 
 -- a page is as long as Page says
-page-length : {M : Mode} {L R : List ℕ} {begin : Beginning} {wanted written : ℕ} {more : Bool} {out out′ : List ℕ}
-    → PagePromise M L R begin wanted out (given (record { written = written; more = more })) out′
-    → length (take written out′) ≡ written
+page-length : {M : Mode} {L R : List ℕ} {begin : Beginning} {wanted : ℕ} {answer : PageWritten} {out out′ : List ℕ}
+    → PagePromise M L R begin wanted out (given answer) out′
+    → length (take (answer .written) out′) ≡ answer .written
 page-length {M} {L} {R} {begin} {wanted} {out = out} (is-given none (next {G = G} of)) =
     ap length
     (take-append-seam (nextKeys M L R G begin wanted) (drop (length (nextKeys M L R G begin wanted)) out))
 
-module _ {M : Mode} {L R : List ℕ} {begin : Beginning} {wanted written : ℕ} {more : Bool} {out out′ : List ℕ}
-    (page : PagePromise M L R begin wanted out (given (record { written = written; more = more })) out′) where
+module _ {M : Mode} {L R : List ℕ} {begin : Beginning} {wanted : ℕ} {answer : PageWritten} {out out′ : List ℕ}
+    (page : PagePromise M L R begin wanted out (given answer) out′) where
   -- the sides of a page that is given give no number
   none-of-sides : NoneOf (PairGiven limits M L R) sidesNumbers
   none-of-sides =
       sides-give-none (λ n number. of-the-sides number) (none-front rowsNumbers beginningNumbers (given-none page))
 
   -- and its keys are on the list
-  on-list : {key : ℕ} → List·Memᴰ key (take written out′) → List·Memᴰ key (keys M layout L R (groups M L R))
+  on-list : {key : ℕ} → List·Memᴰ key (take (answer .written) out′) → List·Memᴰ key (keys M layout L R (groups M L R))
   on-list {key} m =
       page-members begin (wantedCount wanted)
       (subst (List·Memᴰ key) (page-written (groups-exist M L R) page .0) m)
 
   -- of which some remain
-  some-keys : 0 < length (take written out′)
+  some-keys : 0 < length (take (answer .written) out′)
   some-keys =
       subst (λ (l : List ℕ). 0 < length l) (sym (page-written (groups-exist M L R) page .0))
       (some-taken (wantedCount wanted) (remaining begin (keys M layout L R (groups M L R))) (some-wanted wanted)
@@ -110,21 +110,21 @@ module _ {M : Mode} {L R : List ℕ} {begin : Beginning} {wanted written : ℕ} 
       (of-the-list (groups-exist M L R) number))))
 
   -- A page is never empty.
-  pub never-empty : 0 < written
+  pub never-empty : 0 < answer .written
   never-empty = subst (λ n. 0 < n) (page-length page) some-keys
 
   -- So it has a last key, after which the next page can be asked for.
-  pub last-key : (before : List ℕ) × (last : ℕ) × (take written out′ ≡ before ++ last ∷ [])
-  last-key = last-of (take written out′) some-keys
+  pub last-key : (before : List ℕ) × (last : ℕ) × (take (answer .written) out′ ≡ before ++ last ∷ [])
+  last-key = last-of (take (answer .written) out′) some-keys
 
   -- What stands in the buffer before the written end stands on the page.
-  pub stands-on-page : (i : ℕ) → i < written → List·Memᴰ (getD out′ i 0) (take written out′)
+  pub stands-on-page : (i : ℕ) → i < answer .written → List·Memᴰ (getD out′ i 0) (take (answer .written) out′)
   stands-on-page i h =
-      Memᴰ·cast (sym (getD-take written out′ i 0 h))
-      (getD-member (take written out′) i 0 (subst (λ n. i < n) (sym (page-length page)) h))
+      Memᴰ·cast (sym (getD-take (answer .written) out′ i 0 h))
+      (getD-member (take (answer .written) out′) i 0 (subst (λ n. i < n) (sym (page-length page)) h))
 
   -- A key that stands on a page is answered, and not refused, where the lent buffer is long enough.
-  pub key-answered : {key : ℕ} → List·Memᴰ key (take written out′) → {lent lent′ : List ℕ}
+  pub key-answered : {key : ℕ} → List·Memᴰ key (take (answer .written) out′) → {lent lent′ : List ℕ}
       → valuesBuffer ≤ length lent → {outcome : Outcome ℕ}
       → ValuesPromise M L R key lent outcome lent′ → (n : ℕ) × (outcome ≡ given n)
   key-answered m enough promise =
@@ -135,9 +135,9 @@ module _ {M : Mode} {L R : List ℕ} {begin : Beginning} {wanted written : ℕ} 
             (is-given (values-none of none-of-sides enough (on-list m) short) (values of)) .0,
       )
 
-module _ {M : Mode} {L R : List ℕ} {begin : Beginning} {wanted written : ℕ} {out out′ : List ℕ}
-    (page : PagePromise M L R begin wanted out (given (record { written = written; more = true })) out′)
-    (before : List ℕ) (last : ℕ) (ends : take written out′ ≡ before ++ last ∷ []) where
+module _ {M : Mode} {L R : List ℕ} {begin : Beginning} {wanted : ℕ} {answer : PageWritten} {out out′ : List ℕ}
+    (page : PagePromise M L R begin wanted out (given answer) out′) (follow : answer .more ≡ true)
+    (before : List ℕ) (last : ℕ) (ends : take (answer .written) out′ ≡ before ++ last ∷ []) where
   -- keys remain after the last one of a page after which more follow
   some-remain : 0 < length (remaining (after last) (keys M layout L R (groups M L R)))
   some-remain =
@@ -150,7 +150,8 @@ module _ {M : Mode} {L R : List ℕ} {begin : Beginning} {wanted written : ℕ} 
         arith,
         ap length left,
         length-drop (wantedCount wanted) listed,
-        ltb-true (wantedCount wanted) (length listed) (sym (page-written of page .1)),
+        ltb-true (wantedCount wanted) (length listed)
+            (sym (ap (λ p. p .more) (page-written of page .1)) ∙ follow),
       )
 
   -- so the list gives no number after it

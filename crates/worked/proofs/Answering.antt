@@ -13,6 +13,7 @@ use Rattle.ac.specs.Pair.{unifying, variables}
 use Rattle.ac.specs.Rows.{Groups, GroupsOf}
 use Rattle.ac.specs.Selection.{Selection, SelectionOf, value, admissible}
 use Rattle.ac.specs.Keys.{layout, keyOf, selections, listed, keys, Beginning, start, after, remaining, Fits}
+use Rattle.ac.specs.Weighed.{candidates, weighed}
 use Rattle.ac.specs.Values.{laidOut, bindings}
 use Rattle.ac.proofs.Order.{filter-member}
 use Rattle.ac.proofs.Members.{members-map}
@@ -31,7 +32,7 @@ use Rattle.numbers.proofs.Said.{refuses-other}
 use Rattle.solver.specs.Rows.{sizesOf, allRows, rows}
 use Rattle.list.specs.Given.{none-admissible}
 use Rattle.list.proofs.Given.{start-not-after, list-gives-none}
-use Rattle.solver.specs.Page.{next, PagePromise}
+use Rattle.solver.specs.Page.{wantedCount, nextKeys, pageWritten, next}
 use Rattle.solver.proofs.Determined.{one-rows, one-page, one-values}
 use Rattle.solver.proofs.Given.{rows-made, page-first, page-none, values-none}
 use Rattle.solver.proofs.Limits.{within-limits}
@@ -52,32 +53,46 @@ module _ {L R : List ℕ} {G : Groups}
       let met = is-given (none-of-sides rows-made enough nothing) (rows groups) in
       record { meets = met; alone = λ other exit p. outcome-determined one-rows p met }
 
-  -- where keys remain after the beginning, at most 200 of them, they are the page
-  pub page-from : (begin : Beginning) → ((k : ℕ) → begin ≡ after k → List·Memᴰ k (keys unifying layout L R G))
-      → (key : ℕ) (others : List ℕ) → remaining begin (keys unifying layout L R G) ≡ key ∷ others
-      → length (key ∷ others) ≤ 200
-      → (out : List ℕ) → 200 ≤ length out
-      → Answers pageQuestion (record { left = L; right = R; also = record { begin = begin; wanted = 0 } }) out
-      (given (record { written = length (key ∷ others); more = false })) (receives out (key ∷ others))
-  page-from begin on-list key others e few out enough =
-      record { meets = met; alone = λ other exit p. outcome-determined one-page p met }
-    where
-      whole : take 200 (remaining begin (keys unifying layout L R G)) ≡ key ∷ others
-      whole = ap (take 200) e ∙ take-all 200 (key ∷ others) few
+  module _ (begin : Beginning) (on-list : (k : ℕ) → begin ≡ after k → List·Memᴰ k (keys unifying layout L R G)) where
+    -- where a key remains after the beginning, the next ones are the page
+    pub page-wanted : (wanted key : ℕ) → List·Memᴰ key (remaining begin (keys unifying layout L R G))
+        → (out : List ℕ) → wantedCount wanted ≤ length out
+        → Answers pageQuestion (record { left = L; right = R; also = record { begin = begin; wanted = wanted } }) out
+        (given (pageWritten unifying L R G begin wanted)) (receives out (nextKeys unifying L R G begin wanted))
+    page-wanted wanted key remains out enough =
+        let none-left = none-of (λ n. list-gives-none on-list remains) beginningNumbers in
+        let met = is-given (page-none groups nothing enough none-left) (next groups) in
+        record { meets = met; alone = λ other exit p. outcome-determined one-page p met }
 
-      no-more : ltb 200 (length (remaining begin (keys unifying layout L R G))) ≡ false
-      no-more = le-ltb 200 (length (remaining begin (keys unifying layout L R G))) (omega (arith, ap length e))
+    -- at most 200 that remain are one page
+    pub page-from : (key : ℕ) (others : List ℕ) → remaining begin (keys unifying layout L R G) ≡ key ∷ others
+        → length (key ∷ others) ≤ 200
+        → (out : List ℕ) → 200 ≤ length out
+        → Answers pageQuestion (record { left = L; right = R; also = record { begin = begin; wanted = 0 } }) out
+        (given (record {
+          written = length (key ∷ others);
+          more = false;
+          weighed = weighed begin (key ∷ others) (candidates unifying layout G);
+        })) (receives out (key ∷ others))
+    page-from key others e few out enough =
+        subst₂ (λ ks more. Answers pageQuestion
+        (record { left = L; right = R; also = record { begin = begin; wanted = 0 } }) out
+        (given (record {
+          written = length ks;
+          more = more;
+          weighed = weighed begin ks (candidates unifying layout G);
+        })) (receives out ks)) whole no-more
+        (page-wanted 0 key (subst (List·Memᴰ key) (sym e) (List·Memᴰ·head refl)) out enough)
+      where
+        whole : take 200 (remaining begin (keys unifying layout L R G)) ≡ key ∷ others
+        whole = ap (take 200) e ∙ take-all 200 (key ∷ others) few
 
-      met : PagePromise unifying L R begin 0 out (given (record { written = length (key ∷ others); more = false })) (receives out (key ∷ others))
-      met =
-          subst₂ (λ ks more. PagePromise unifying L R begin 0 out (given (record { written = length ks; more = more })) (receives out ks))
-          whole no-more
-          (is-given (page-none groups nothing enough
-          (none-of (λ n. list-gives-none on-list (subst (List·Memᴰ key) (sym e) (List·Memᴰ·head refl)))
-          beginningNumbers)) (next groups))
+        no-more : ltb 200 (length (remaining begin (keys unifying layout L R G))) ≡ false
+        no-more = le-ltb 200 (length (remaining begin (keys unifying layout L R G))) (omega (arith, ap length e))
 
   -- a list of at most 200 keys is one page; an empty one is 13
-  pub page-of-list : (ks : List ℕ) → keys unifying layout L R G ≡ ks → length ks ≤ 200 → PageAnswers L R ks
+  pub page-of-list : (ks : List ℕ) → keys unifying layout L R G ≡ ks → length ks ≤ 200
+      → PageAnswers L R (weighed start ks (candidates unifying layout G)) ks
   page-of-list [] e few out enough =
       let first = page-first groups nothing enough (here (none-admissible e)) in
       let met = is-refused (refuses-other NoUnifier refl first) in

@@ -8,7 +8,8 @@ use mathlib.Core.Bool.{true}
 use mathlib.Core.List.{List, List·Memᴰ, List·Memᴰ·head, List·Memᴰ·tail}
 use Rattle.ac.specs.Pair.{unifying, matching}
 use Rattle.ac.specs.Search.{groups}
-use Rattle.ac.specs.Keys.{layout, keys}
+use Rattle.ac.specs.Keys.{layout, keys, start}
+use Rattle.ac.specs.Weighed.{candidates, weighed}
 use Rattle.pair.specs.declared.ways.Way.the-variants.{Unifying, Matching}
 use Rattle.solver.specs.Rows.{sizesAs, sizesOf, allRows}
 use Rattle.solver.specs.Values.{valuesOf}
@@ -23,34 +24,35 @@ use Rattle.worked.proofs.Worked.{tests, computed}
 six-listed : List·Memᴰ 6 itsKeys
 six-listed = List·Memᴰ·tail (List·Memᴰ·tail (List·Memᴰ·tail (List·Memᴰ·tail (List·Memᴰ·head refl))))
 
--- two sides that keep the limits and of which these rows, keys and values are found
+-- two sides that keep the limits and of which these rows, keys and values are found, and all candidates weighed
 found : (L R : List ℕ) → all (tests L R) ≡ true → sizesOf (groups unifying L R) ≡ sizesAs 3 2 2 2 0 0
     → allRows (groups unifying L R) ≡ itsRows → keys unifying layout L R (groups unifying L R) ≡ itsKeys
+    → weighed start (keys unifying layout L R (groups unifying L R)) (candidates unifying layout (groups unifying L R)) ≡ 32
     → valuesOf unifying L R (groups unifying L R) 6 ≡ valuesOfSix → AnswersOfExample L R
-found L R passes sizes rows list six =
+found L R passes sizes rows list weighs six =
     let answers = computed L R passes in
     record {
       the-rows = subst₂ (RowsAnswers L R) sizes rows (answers .the-rows);
-      the-list = subst (PageAnswers L R) list (answers .the-list);
+      the-list = subst₂ (PageAnswers L R) weighs list (answers .the-list);
       values-of-six = subst (ValuesAnswers L R 6) six
           (answers .the-values 6 (subst (List·Memᴰ 6) (sym list) six-listed));
     }
 
--- The sizes of the groups are 3, and 2 and 2; there are 28 keys; and key 6 has these values: as it is written, ..
+-- The sizes of the groups are 3, and 2 and 2; there are 28 keys of 32 candidates; and key 6 has these values: as it is written, ..
 pub as-written : AnswersOfExample left right
-as-written = found left right refl refl refl refl refl
+as-written = found left right refl refl refl refl refl refl
 
 -- .. reordered, ..
 pub reordered : AnswersOfExample leftReordered rightReordered
-reordered = found leftReordered rightReordered refl refl refl refl refl
+reordered = found leftReordered rightReordered refl refl refl refl refl refl
 
 -- .. swapped, ..
 pub swapped : AnswersOfExample right left
-swapped = found right left refl refl refl refl refl
+swapped = found right left refl refl refl refl refl refl
 
 -- .. and with c2 added.
 pub with-c2 : AnswersOfExample leftWithC2 rightWithC2
-with-c2 = found leftWithC2 rightWithC2 refl refl refl refl refl
+with-c2 = found leftWithC2 rightWithC2 refl refl refl refl refl refl
 
 -- All answers are the same, whatever is asked and lent.
 pub reordered-same : SameAnswers unifying left right unifying leftReordered rightReordered

@@ -19,7 +19,7 @@ use Rattle.ac.proofs.Tests.{every-member}
 use Rattle.ac.proofs.Worked.{worked-pairs}
 use Rattle.ac.specs.Limits.{limits}
 use Rattle.pair.specs.Given.{PairGiven}
-use Rattle.worked.specs.Answers.{PageAnswers, ValuesGiveInTurn, AnswersPrinted, AnswersBy, Worked, numbered}
+use Rattle.worked.specs.Answers.{PageGivesAll, ValuesGiveInTurn, AnswersPrinted, AnswersBy, Worked, numbered}
 use Rattle.worked.proofs.Within.{all, each, within, never-given}
 use Rattle.worked.proofs.Answering.{rows-of-groups, page-of-list, values-of-key, in-turn}
 
@@ -55,14 +55,14 @@ module _ (L R : List ℕ) (passes : all (tests L R) ≡ true) where
 
   -- what holds of the groups is what is answered
   pub printed : (what : Printed) → Holds L R (groups unifying L R) what → AnswersPrinted L R what
-  printed (how-many k) e = (list L R, computed .the-list, e)
+  printed (how-many k) e = (list L R, (_, computed .the-list), e)
   printed (rows rs) e = (groups unifying L R, groups-exist unifying L R, e, computed .the-rows)
   printed (balanced-rows k) e = (groups unifying L R, groups-exist unifying L R, e, computed .the-rows)
   printed (rows-of a k) e = (groups unifying L R, groups-exist unifying L R, e, computed .the-rows)
-  printed (the-keys ks) e = subst (PageAnswers L R) e (computed .the-list)
+  printed (the-keys ks) e = subst (PageGivesAll L R) e (_, computed .the-list)
   printed (substitutions vs) e = (
     list L R,
-    computed .the-list,
+    (_, computed .the-list),
     subst (ValuesGiveInTurn L R (list L R)) e
         (in-turn (groups-exist unifying L R) never (listed unifying layout L R (groups unifying L R)) (λ s m. m)),
   )

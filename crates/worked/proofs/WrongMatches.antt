@@ -62,13 +62,13 @@ rows-of-match out enough =
     let met = is-given (none-of-sides rows-made enough nothing) (rows of) in
     record { meets = met; alone = λ other exit p. outcome-determined one-rows p met }
 
--- Page: four keys
+-- Page: four keys, the last of them the fifth of six candidates
 abbrev fourKeys : List ℕ
 fourKeys = 16777216 ∷ 268435456 ∷ 285212672 ∷ 536870912 ∷ []
 
 pub page-of-match : (out : List ℕ) → 200 ≤ length out
     → Answers (pageQuestionBy Matching) (asked (record { begin = start; wanted = 200 })) out
-    (given (record { written = 4; more = false })) (receives out fourKeys)
+    (given (record { written = 4; more = false; weighed = 5 })) (receives out fourKeys)
 page-of-match out enough =
     let none-left = none-of (λ n. list-gives-none (λ k same. absurd (start-not-after same))
     (List·Memᴰ·head {x = 16777216} refl)) beginningNumbers in

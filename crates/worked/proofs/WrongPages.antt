@@ -3,13 +3,12 @@ use Prim.Native.Nat.{ℕ, _≤_}
 use native.Mathlib.Omega.{arith}
 use mathlib.Core.Path.{_≡_, refl, ap, subst}
 use mathlib.Core.Bool.{Bool, false}
-use mathlib.Core.List.{List, [], _∷_, List·Memᴰ, List·Memᴰ·head, List·Memᴰ·tail}
+use mathlib.Core.List.{List, [], _∷_, List·Memᴰ, List·Memᴰ·head}
 use lib.ListN.{length, getD, replicate}
 use Rattle.ac.specs.Lists.{receives}
 use Rattle.ac.specs.Pair.{unifying}
 use Rattle.ac.specs.Search.{groups}
 use Rattle.ac.specs.Keys.{layout, keys, Beginning, start, after}
-use Rattle.ac.specs.Worked.{the-keys}
 use Rattle.ac.proofs.Groups.{groups-exist}
 use Rattle.numbers.specs.Outcome.{given}
 use Rattle.numbers.proofs.Promises.{same-values}
@@ -19,30 +18,28 @@ use Rattle.worked.specs.Answers.{Answers, PageAnswers, numbered, ofPair}
 use Rattle.worked.specs.Programs.{Program, MeetsAt, RefusesEverything, ConstantResult, WritesNothing, ThenFifteen}
 use Rattle.worked.proofs.Within.{never-given}
 use Rattle.worked.proofs.Answering.{page-from}
-use Rattle.worked.proofs.Worked.{worked-number}
+use Rattle.worked.proofs.Worked.{worked-groups}
 use Rattle.worked.proofs.Wrong as wrong
 
 -- the pair of that number, from a beginning; 0 wanted, meaning 200
 abbrev asked : ℕ → Beginning → SidesAsked Request
 asked n begin = ofPair n (record { begin = begin; wanted = 0 })
 
--- so many keys, and whether more follow
-abbrev pageOf : ℕ → Bool → PageWritten
-pageOf written more = record { written = written; more = more }
+-- so many keys, whether more follow, and how many candidates were weighed
+abbrev pageOf : ℕ → Bool → ℕ → PageWritten
+pageOf written more weighed = record { written = written; more = more; weighed = weighed }
 
--- pair 2: keys 6, 7, 9, 11, 13, 14, 15
-seven-keys : PageAnswers (numbered 2 .left) (numbered 2 .right) (6 ∷ 7 ∷ 9 ∷ 11 ∷ 13 ∷ 14 ∷ 15 ∷ [])
-seven-keys =
-    worked-number 2 (omega arith) (omega arith) .as-printed (the-keys _) (List·Memᴰ·tail (List·Memᴰ·head refl))
+-- pair 2: keys 6, 7, 9, 11, 13, 14, 15, of sixteen candidates
+seven-keys : PageAnswers (numbered 2 .left) (numbered 2 .right) 16 (6 ∷ 7 ∷ 9 ∷ 11 ∷ 13 ∷ 14 ∷ 15 ∷ [])
+seven-keys = worked-groups 2 (omega arith) (omega arith) .the-list
 
--- pair 7: one, key 1
-one-key : PageAnswers (numbered 7 .left) (numbered 7 .right) (1 ∷ [])
-one-key =
-    worked-number 7 (omega arith) (omega arith) .as-printed (the-keys _) (List·Memᴰ·tail (List·Memᴰ·head refl))
+-- pair 7: one, key 1, of two candidates
+one-key : PageAnswers (numbered 7 .left) (numbered 7 .right) 2 (1 ∷ [])
+one-key = worked-groups 7 (omega arith) (omega arith) .the-list
 
 -- pair 2: after key 6, six follow
 six-follow : (out : List ℕ) → 200 ≤ length out
-    → Answers pageQuestion (asked 2 (after 6)) out (given (pageOf 6 false)) (receives out (7 ∷ 9 ∷ 11 ∷ 13 ∷ 14 ∷ 15 ∷ []))
+    → Answers pageQuestion (asked 2 (after 6)) out (given (pageOf 6 false 9)) (receives out (7 ∷ 9 ∷ 11 ∷ 13 ∷ 14 ∷ 15 ∷ []))
 six-follow = page-from (groups-exist unifying L R) (λ n. never-given unifying L R refl) (after 6) on-list 7
     (9 ∷ 11 ∷ 13 ∷ 14 ∷ 15 ∷ []) refl (omega arith)
   where
@@ -75,13 +72,15 @@ module _ (program : Program pageQuestion) where
         wrong.other-outcome-fails program (six-follow out enough)
         (λ e. let z : _≡_ {A = ℕ} 0 1 = cc (e, claims (asked 2 (after 6)) out 6 refl) in omega arith)
 
-    -- It invents the number of keys, or that more follow: pair 2 has seven keys, and no more follow.
-    pub invented-count-fails : (number : ℕ) (more : Bool) → program (asked 2 start) out .outcome ≡ given (pageOf number more)
-        → ((number ≡ 7) × (more ≡ false) → ⊥) → MeetsAt program (asked 2 start) out → ⊥
-    invented-count-fails number more returns others =
+    -- It invents the number of keys, that more follow, or what was weighed: pair 2 has seven keys, of sixteen
+    -- candidates, and no more follow.
+    pub invented-count-fails : (number : ℕ) (more : Bool) (weighed : ℕ)
+        → program (asked 2 start) out .outcome ≡ given (pageOf number more weighed)
+        → ((number ≡ 7) × (more ≡ false) × (weighed ≡ 16) → ⊥) → MeetsAt program (asked 2 start) out → ⊥
+    invented-count-fails number more weighed returns others =
         wrong.other-outcome-fails program (seven-keys out enough)
-        (λ e. let same : pageOf number more ≡ pageOf 7 false = cc (e, returns) in
-        others (ap (λ p. p .written) same, ap (λ p. p .more) same))
+        (λ e. let same : pageOf number more weighed ≡ pageOf 7 false 16 = cc (e, returns) in
+        others (ap (λ p. p .written) same, ap (λ p. p .more) same, ap (λ p. p .weighed) same))
 
   -- It writes nothing: where zeros are lent, key 6 of pair 2 is missing.
   pub writing-nothing-fails : WritesNothing program → MeetsAt program (asked 2 start) (replicate 200 0) → ⊥

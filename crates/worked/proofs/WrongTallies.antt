@@ -30,13 +30,14 @@ module _ (program : Tally) where
   abbrev MeetsAt : Totals → ReadAnswer → Answers → Type 0
   MeetsAt so-far read answers = Tallies so-far (toldBlock read answers) (program so-far read answers)
 
-  -- block 0 of the example, v0+v1 and c0+c1: no balanced row, two for each of two constants, two keys and no more
+  -- block 0 of the example, v0+v1 and c0+c1: no balanced row, two for each of two constants, two keys and no more,
+  -- the second of them the third of four candidates
   abbrev first : Tallied
-  first = program (counts 0 0 0 0) (Sides 2 2) (Listing (Groups 0 2 2 2 0 0) (Page 2 false))
+  first = program (counts 0 0 0 0) (Sides 2 2) (Listing (Groups 0 2 2 2 0 0) (Page 2 false 3))
 
   -- it meets the promise at the first block of the example
   abbrev MeetsFirst : Type 0
-  MeetsFirst = MeetsAt (counts 0 0 0 0) (Sides 2 2) (Listing (Groups 0 2 2 2 0 0) (Page 2 false))
+  MeetsFirst = MeetsAt (counts 0 0 0 0) (Sides 2 2) (Listing (Groups 0 2 2 2 0 0) (Page 2 false 3))
 
   -- block 1, v0+v0 and c0: one constant without rows, and no unifier
   abbrev second : Tallied

@@ -8,6 +8,7 @@ use Rattle.ac.specs.Lists.{receives}
 use Rattle.ac.specs.Pair.{unifying}
 use Rattle.ac.specs.Rows.{Group, Groups, GroupsOf}
 use Rattle.ac.specs.Keys.{layout, keys, start}
+use Rattle.ac.specs.Weighed.{candidates, weighed}
 use Rattle.ac.specs.Values.{Binding, laidOut}
 use Rattle.ac.specs.Worked.{Pair, pairs, Printed, how-many, rows, balanced-rows, rows-of, the-keys, substitutions}
 use Rattle.numbers.specs.Numbers.{saidOf}
@@ -26,11 +27,11 @@ pub record Answers (Q : Question) (asked : Q .Asked) (lent : Q .Lent) (outcome :
   pub alone : (other : Outcome (Q .Values)) (other-exit : Q .Lent) → Q .Promise asked lent other other-exit
       → (other ≡ outcome) × (other-exit ≡ exit)
 
--- the first page of a list that fits it: 13 where nothing is listed, else how many keys there are, and that
--- no more follow
-abbrev pub firstPage : List ℕ → Outcome PageWritten
-firstPage [] = refused (saidOf NoUnifier)
-firstPage (key ∷ keys) = given (record { written = length (key ∷ keys); more = false })
+-- the first page of a list that fits it: 13 where nothing is listed, else how many keys there are, that no more
+-- follow, and how many candidates were weighed
+abbrev pub firstPage : ℕ → List ℕ → Outcome PageWritten
+firstPage weighed [] = refused (saidOf NoUnifier)
+firstPage weighed (key ∷ keys) = given (record { written = length (key ∷ keys); more = false; weighed = weighed })
 
 -- Read gives these sides of the block.
 abbrev pub ReadAnswers : List ℕ → ℕ → List ℕ → List ℕ → Type 0
@@ -55,13 +56,17 @@ module _ (L R : List ℕ) where
   abbrev pub RowsGiveSuch : (Groups → Type 0) → Type 0
   RowsGiveSuch Such = (G : Groups) × GroupsOf unifying L R G × Such G × RowsAnswers (sizesOf G) (allRows G)
 
-  -- Page from the start, where 0, meaning 200, are wanted, gives all these keys at once, or 13 where there
-  -- are none.
-  abbrev pub PageAnswers : List ℕ → Type 0
-  PageAnswers keys = (out : List ℕ) → 200 ≤ length out
+  -- Page from the start, where 0, meaning 200, are wanted, gives all these keys at once, with so many candidates
+  -- weighed, or 13 where there are none.
+  abbrev pub PageAnswers : ℕ → List ℕ → Type 0
+  PageAnswers weighed keys = (out : List ℕ) → 200 ≤ length out
       → Answers pageQuestion (record { left = L; right = R; also = record { begin = start; wanted = 0 } }) out
-      (firstPage keys)
+      (firstPage weighed keys)
       (receives out keys)
+
+  -- Page gives these keys, and however many were weighed.
+  abbrev pub PageGivesAll : List ℕ → Type 0
+  PageGivesAll keys = (weighed : ℕ) × PageAnswers weighed keys
 
   -- Values gives these bytes of the key.
   abbrev pub ValuesAnswers : ℕ → List ℕ → Type 0
@@ -78,19 +83,20 @@ module _ (L R : List ℕ) where
 
   -- The questions answer what the document prints.
   abbrev pub AnswersPrinted : Printed → Type 0
-  AnswersPrinted (how-many k) = (ks : List ℕ) × PageAnswers ks × (length ks ≡ k)
+  AnswersPrinted (how-many k) = (ks : List ℕ) × PageGivesAll ks × (length ks ≡ k)
   AnswersPrinted (rows rs) = RowsGiveSuch (λ G. G .balanced ≡ rs)
   AnswersPrinted (balanced-rows k) = RowsGiveSuch (λ G. length (G .balanced) ≡ k)
   AnswersPrinted (rows-of a k) =
       RowsGiveSuch (λ G. (g : Group) × List·Memᴰ g (G .constants) × (g .constant ≡ a) × (length (g .rows) ≡ k))
-  AnswersPrinted (the-keys ks) = PageAnswers ks
-  AnswersPrinted (substitutions vs) = (ks : List ℕ) × PageAnswers ks × ValuesGiveInTurn ks vs
+  AnswersPrinted (the-keys ks) = PageGivesAll ks
+  AnswersPrinted (substitutions vs) = (ks : List ℕ) × PageGivesAll ks × ValuesGiveInTurn ks vs
 
   -- Printed or not, they answer by the groups of the pair: their rows, their list, and of each key on it the
   -- values.
   pub record AnswersBy (G : Groups) : Type 0 where
     pub the-rows : RowsAnswers (sizesOf G) (allRows G)
-    pub the-list : PageAnswers (keys unifying layout L R G)
+    pub the-list : PageAnswers (weighed start (keys unifying layout L R G) (candidates unifying layout G))
+        (keys unifying layout L R G)
     pub the-values : (key : ℕ) → List·Memᴰ key (keys unifying layout L R G)
         → ValuesAnswers key (valuesOf unifying L R G key)
 

@@ -4,8 +4,9 @@ use Prim.Native.Nat.{ℕ}
 use mathlib.Core.Path.{_≡_}
 use Rattle.ac.specs.Keys.{after}
 use Rattle.numbers.specs.Numbers.{saidOf}
-use Rattle.numbers.specs.Outcome.{Said, Outcome, refused}
+use Rattle.numbers.specs.Outcome.{Said, Outcome, refused, given}
 use Rattle.numbers.specs.declared.Refusal.the-variants.{LastKey}
+use Rattle.solver.specs.Page.{PageWritten}
 use Rattle.worked.specs.Questions.{Question, pageQuestion}
 
 -- what a program returns, and what it leaves in the lent buffers
@@ -40,3 +41,10 @@ abbrev pub ThenFifteen : Program pageQuestion → Type 0
 ThenFifteen program =
     (asked : pageQuestion .Asked) (lent : pageQuestion .Lent) (key : ℕ) → asked .also .begin ≡ after key
     → program asked lent .outcome ≡ refused (saidOf LastKey)
+
+-- one that tells one count of weighed candidates of every page
+abbrev pub ConstantWeighed : Program pageQuestion → Type 0
+ConstantWeighed program =
+    (asked asked′ : pageQuestion .Asked) (lent lent′ : pageQuestion .Lent) (page page′ : PageWritten)
+    → program asked lent .outcome ≡ given page → program asked′ lent′ .outcome ≡ given page′
+    → page .weighed ≡ page′ .weighed

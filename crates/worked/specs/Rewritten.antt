@@ -52,7 +52,7 @@ valuesOfSix =
 -- The questions answer this of two sides.
 pub record AnswersOfExample (L R : List ℕ) : Type 0 where
   pub the-rows : RowsAnswers L R (sizesAs 3 2 2 2 0 0) itsRows
-  pub the-list : PageAnswers L R itsKeys
+  pub the-list : PageAnswers L R 32 itsKeys
   pub values-of-six : ValuesAnswers L R 6 valuesOfSix
 
 -- v0+v1 and v2+c0, a pattern and a subject

@@ -50,10 +50,24 @@ pub fn of_rows(rows: RowsAnswer) -> Returned {
     }
 }
 
-// Page: the keys written, and 1 if more follow.
+// Page: the keys written, 1 if more follow, and how many candidate keys were weighed, the high half first.
 pub fn of_page(page: PageAnswer) -> Returned {
     match page {
-        PageAnswer::Page { written, more } => given(written, more as usize),
+        PageAnswer::Page {
+            written,
+            more,
+            weighed,
+        } => Returned {
+            number: 0,
+            values: [
+                small(written),
+                more as u32,
+                high_half(weighed),
+                low_half(weighed),
+                0,
+                0,
+            ],
+        },
         PageAnswer::Refused(refusal) => refused(refusal),
     }
 }
@@ -107,6 +121,15 @@ fn refused(refusal: Refusal) -> Returned {
 
 // A value in four bytes, the low ones.
 fn small(n: usize) -> u32 {
+    (n % 4_294_967_296) as u32
+}
+
+// The high four bytes of a value of eight, and the low ones.
+fn high_half(n: u64) -> u32 {
+    (n / 4_294_967_296) as u32
+}
+
+fn low_half(n: u64) -> u32 {
     (n % 4_294_967_296) as u32
 }
 

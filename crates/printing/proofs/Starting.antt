@@ -25,7 +25,7 @@ use Rattle.solver.specs.Count.{toldCount, CountPromise}
 use Rattle.solver.specs.declared.count.CountAnswer.{CountAnswer}
 use Rattle.solver.specs.declared.count.CountAnswer.the-variants.{Count}
 use Rattle.solver.specs.declared.count.CountAnswer.the-variants as count
-use Rattle.solver.specs.Page.{wantedCount, PagePromise, nextKeys}
+use Rattle.solver.specs.Page.{wantedCount, PagePromise, nextKeys, PageWritten}
 use Rattle.solver.specs.Page as keyed
 use Rattle.solver.specs.declared.page.PageAnswer.{PageAnswer}
 use Rattle.solver.specs.declared.page.PageAnswer.the-variants.{Page}
@@ -50,22 +50,22 @@ use Rattle.printing.specs.declared.ask.Asked.{Asked}
 use Rattle.printing.specs.declared.print.Listing.{Listing}
 
 -- a page has at most as many keys as are wanted
-page-fits : {M : Mode} {L R : List ℕ} {begin : Beginning} {wanted : ℕ} {out out′ : List ℕ} {written : ℕ} {more : Bool} →
-    PagePromise M L R begin wanted out (given (record { written = written; more = more })) out′ → written ≤ wantedCount wanted
+page-fits : {M : Mode} {L R : List ℕ} {begin : Beginning} {wanted : ℕ} {out out′ : List ℕ} {page : PageWritten} →
+    PagePromise M L R begin wanted out (given page) out′ → page .written ≤ wantedCount wanted
 page-fits {M} {L} {R} {begin} {wanted} (is-given none (keyed.next {G = G} groups)) =
     omega (arith, length-take (wantedCount wanted) (remaining begin (keys M layout L R G)))
 
 -- they stand in its buffer
-page-held : {M : Mode} {L R : List ℕ} {begin : Beginning} {wanted : ℕ} {out out′ : List ℕ} {written : ℕ} {more : Bool} →
-    PagePromise M L R begin wanted out (given (record { written = written; more = more })) out′ → written ≤ length out′
+page-held : {M : Mode} {L R : List ℕ} {begin : Beginning} {wanted : ℕ} {out out′ : List ℕ} {page : PageWritten} →
+    PagePromise M L R begin wanted out (given page) out′ → page .written ≤ length out′
 page-held {M} {L} {R} {begin} {wanted} {out} (is-given none (keyed.next {G = G} groups)) =
     let next = nextKeys M L R G begin wanted in
     omega (arith, length-append next (drop (length next) out))
 
 -- the keys that Page wrote from the start on are on the list
-page-listed : {M : Mode} {L R out out′ : List ℕ} {G : Groups} {written : ℕ} {more : Bool} → GroupsOf M L R G →
-    PagePromise M L R start 200 out (given (record { written = written; more = more })) out′ →
-    (key : ℕ) → List·Memᴰ key (take written out′) → List·Memᴰ key (keys M layout L R G)
+page-listed : {M : Mode} {L R out out′ : List ℕ} {G : Groups} {page : PageWritten} → GroupsOf M L R G →
+    PagePromise M L R start 200 out (given page) out′ →
+    (key : ℕ) → List·Memᴰ key (take (page .written) out′) → List·Memᴰ key (keys M layout L R G)
 page-listed {M} {L} {R} {out} of (is-given none (keyed.next {G = H} groups)) key m =
     subst (λ K. List·Memᴰ key (keys M layout L R K)) (groups-unique M L R groups of)
     (subst (List·Memᴰ key) (take-append-drop 200 list) (Memᴰ·append-left (drop 200 list) on-page))
@@ -119,9 +119,10 @@ module _ {report : Report} {block : List ℕ} {c : Totals} {l : Listing} {after 
   starts-refused said found = starts-alone (refused said) found (no-keys (said .atom) (said .number))
 
   -- a block with a page
-  starts-page : {way : Way} {L R out : List ℕ} {balanced constants written : ℕ} {more : Bool}
+  starts-page : {way : Way} {L R out : List ℕ} {balanced constants written weighed : ℕ} {more : Bool}
       → SolvedPair way L R (l .table)
-      → PagePromise (modeOf way L R) L R start 200 out (given (record { written = written; more = more })) (l .keys)
+      → PagePromise (modeOf way L R) L R start 200 out
+      (given (record { written = written; more = more; weighed = weighed })) (l .keys)
       → Returns report block (c .blocks % 65536)
       (given (a-list (record { balanced = balanced; constants = constants; written = written; more = more })))
       (map (bindingsOf way L R (groupsIn (l .table))) (take written (l .keys)))
@@ -171,7 +172,7 @@ module _ {block keys : List ℕ} {c : Totals} {t : Tallied} where
       starts-refused (tallied .the-place) _
       (found _ _ (listed (page-refused (asked .rows-promise) (asked .page-promise))))
       (tallied .the-line) (tallied .the-counts)
-  list-starts (Sizes b k s t u v) (Page written more) table found asked tallied =
+  list-starts (Sizes b k s t u v) (Page written more weighed) table found asked tallied =
       let solved = asked .solved refl in
       starts-page (tallied .the-place) solved (asked .page-promise)
       (found _ _ (listed (a-page (asked .rows-promise) (asked .page-promise) (solved .the-table .the-groups))))

@@ -53,7 +53,7 @@ pub record PairListed (way : Way) (L R keys : List ℕ) (rows : RowsAnswer) (pag
   pub rows-promise : RowsPromise (modeOf way L R) L R (replicate rowsBuffer 0) (toldRows rows) rows-after
   pub page-promise : PagePromise (modeOf way L R) L R start 200 keys (toldPage page) keys-after
   -- where there is a page, the table is that of the sides
-  pub solved : {written : ℕ} {more : Bool} → page ≡ Page written more → SolvedPair way L R table
+  pub solved : {written weighed : ℕ} {more : Bool} → page ≡ Page written more weighed → SolvedPair way L R table
 
 -- the questions of the report, of two sides: those, or Count
 pub data SidesAsked (L R keys : List ℕ) : Report → Answers → Table → List ℕ → Type 0 where

@@ -18,7 +18,7 @@ use Rattle.printing.proofs.ask.list_sides.Statement.{statement}
 use Rattle.printing.proofs.ask.list_sides.Tie as tie
 
 -- a refusal is no page
-refused-no-page : {why : Refusal} {written : ℕ} {more : Bool} {A : Type 0} → Refused why ≡ Page written more → A
+refused-no-page : {why : Refusal} {written weighed : ℕ} {more : Bool} {A : Type 0} → Refused why ≡ Page written more weighed → A
 refused-no-page e = absurd (let z : _≡_ {A = ℕ} 0 1 = cc e in omega arith)
 
 solve-requires : tie.Need-solve-requires

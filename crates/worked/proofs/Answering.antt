@@ -39,7 +39,7 @@ use Rattle.solver.proofs.Limits.{within-limits}
 use Rattle.solver.specs.Values.{values, valuesOf}
 use Rattle.whole.proofs.Short.{not-long}
 use Rattle.worked.specs.Questions.{pageQuestion}
-use Rattle.worked.specs.Answers.{Answers, RowsAnswers, PageAnswers, ValuesAnswers, ValuesGiveInTurn}
+use Rattle.worked.specs.Answers.{Answers, pageOf, RowsAnswers, PageAnswers, ValuesAnswers, ValuesGiveInTurn}
 use Rattle.worked.specs.Answers as turn
 
 module _ {L R : List ℕ} {G : Groups}
@@ -69,19 +69,12 @@ module _ {L R : List ℕ} {G : Groups}
         → length (key ∷ others) ≤ 200
         → (out : List ℕ) → 200 ≤ length out
         → Answers pageQuestion (record { left = L; right = R; also = record { begin = begin; wanted = 0 } }) out
-        (given (record {
-          written = length (key ∷ others);
-          more = false;
-          weighed = weighed begin (key ∷ others) (candidates unifying layout G);
-        })) (receives out (key ∷ others))
+        (given (pageOf (length (key ∷ others)) false (weighed begin (key ∷ others) (candidates unifying layout G))))
+        (receives out (key ∷ others))
     page-from key others e few out enough =
         subst₂ (λ ks more. Answers pageQuestion
         (record { left = L; right = R; also = record { begin = begin; wanted = 0 } }) out
-        (given (record {
-          written = length ks;
-          more = more;
-          weighed = weighed begin ks (candidates unifying layout G);
-        })) (receives out ks)) whole no-more
+        (given (pageOf (length ks) more (weighed begin ks (candidates unifying layout G)))) (receives out ks)) whole no-more
         (page-wanted 0 key (subst (List·Memᴰ key) (sym e) (List·Memᴰ·head refl)) out enough)
       where
         whole : take 200 (remaining begin (keys unifying layout L R G)) ≡ key ∷ others

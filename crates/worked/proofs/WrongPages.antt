@@ -12,9 +12,8 @@ use Rattle.ac.specs.Keys.{layout, keys, Beginning, start, after}
 use Rattle.ac.proofs.Groups.{groups-exist}
 use Rattle.numbers.specs.Outcome.{given}
 use Rattle.numbers.proofs.Promises.{same-values}
-use Rattle.solver.specs.Page.{PageWritten}
 use Rattle.worked.specs.Questions.{SidesAsked, Request, pageQuestion}
-use Rattle.worked.specs.Answers.{Answers, PageAnswers, numbered, ofPair}
+use Rattle.worked.specs.Answers.{Answers, PageAnswers, pageOf, numbered, ofPair}
 use Rattle.worked.specs.Programs.{Program, MeetsAt, RefusesEverything, ConstantResult, WritesNothing, ThenFifteen}
 use Rattle.worked.proofs.Within.{never-given}
 use Rattle.worked.proofs.Answering.{page-from}
@@ -24,10 +23,6 @@ use Rattle.worked.proofs.Wrong as wrong
 -- the pair of that number, from a beginning; 0 wanted, meaning 200
 abbrev asked : ℕ → Beginning → SidesAsked Request
 asked n begin = ofPair n (record { begin = begin; wanted = 0 })
-
--- so many keys, whether more follow, and how many candidates were weighed
-abbrev pageOf : ℕ → Bool → ℕ → PageWritten
-pageOf written more weighed = record { written = written; more = more; weighed = weighed }
 
 -- pair 2: keys 6, 7, 9, 11, 13, 14, 15, of sixteen candidates
 seven-keys : PageAnswers (numbered 2 .left) (numbered 2 .right) 16 (6 ∷ 7 ∷ 9 ∷ 11 ∷ 13 ∷ 14 ∷ 15 ∷ [])

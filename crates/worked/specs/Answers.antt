@@ -1,7 +1,7 @@
 -- What the questions answer of document 01's pairs worked by hand, by what they promise alone.
 use Prim.Native.Nat.{ℕ, _-_, _≤_}
 use mathlib.Core.Path.{_≡_}
-use mathlib.Core.Bool.{false}
+use mathlib.Core.Bool.{Bool, false}
 use mathlib.Core.List.{List, [], _∷_, List·Memᴰ}
 use lib.ListN.{length, getD}
 use Rattle.ac.specs.Lists.{receives}
@@ -27,11 +27,15 @@ pub record Answers (Q : Question) (asked : Q .Asked) (lent : Q .Lent) (outcome :
   pub alone : (other : Outcome (Q .Values)) (other-exit : Q .Lent) → Q .Promise asked lent other other-exit
       → (other ≡ outcome) × (other-exit ≡ exit)
 
+-- what Page returns: so many keys, whether more follow, and how many candidates were weighed
+abbrev pub pageOf : ℕ → Bool → ℕ → PageWritten
+pageOf written more weighed = record { written = written; more = more; weighed = weighed }
+
 -- the first page of a list that fits it: 13 where nothing is listed, else how many keys there are, that no more
 -- follow, and how many candidates were weighed
 abbrev pub firstPage : ℕ → List ℕ → Outcome PageWritten
 firstPage weighed [] = refused (saidOf NoUnifier)
-firstPage weighed (key ∷ keys) = given (record { written = length (key ∷ keys); more = false; weighed = weighed })
+firstPage weighed (key ∷ keys) = given (pageOf (length (key ∷ keys)) false weighed)
 
 -- Read gives these sides of the block.
 abbrev pub ReadAnswers : List ℕ → ℕ → List ℕ → List ℕ → Type 0

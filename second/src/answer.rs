@@ -1,4 +1,4 @@
-//! The questions with their lent buffers (document 01, The questions; document 02, R-3, R-4 and R-7).
+//! The questions with their lent buffers (document 01, The questions; document 02, R-3, R-4, R-7 and R-8).
 
 use crate::block::{self, Sides};
 use crate::pair::Way;
@@ -87,12 +87,13 @@ fn give_block(block: Vec<u8>) -> Given {
 
 /// Count gives the number.
 fn give_number(number: u64) -> Given {
-    Given { figures: in_halves(number), ..Given::default() }
+    let [high, low] = in_halves(number);
+    Given { figures: [high, low, 0, 0, 0, 0], ..Given::default() }
 }
 
 /// A number of 64 bits as two of 32, the high one first.
-pub fn in_halves(number: u64) -> [u32; FIGURES] {
-    [(number >> 32) as u32, number as u32, 0, 0, 0, 0]
+pub fn in_halves(number: u64) -> [u32; 2] {
+    [(number >> 32) as u32, number as u32]
 }
 
 /// Rows gives the size of each group and the rows one after the other.
@@ -106,10 +107,11 @@ fn give_rows(solved: &Solved) -> Given {
     Given { figures, first, ..Given::default() }
 }
 
-/// Page gives the number of keys, whether more follow, and the keys.
+/// Page gives the number of keys, whether more follow, how many candidates were weighed, and the keys.
 fn give_page(solved: &Solved, after: Option<u32>, wanted: usize) -> Result<Given, Refusal> {
     let page = solved.page(after, wanted)?;
-    let figures = [page.keys.len() as u32, u32::from(page.more), 0, 0, 0, 0];
+    let [high, low] = in_halves(page.weighed);
+    let figures = [page.keys.len() as u32, u32::from(page.more), high, low, 0, 0];
     let first = page.keys.iter().flat_map(|key| key.to_be_bytes()).collect();
     Ok(Given { figures, first, ..Given::default() })
 }

@@ -49,6 +49,9 @@ pub const MOST_ROW_BYTES: (&str, &str) = ("2v4+2v5+7c0+7c1+7c2+7c3", "8v0+8v1+v2
 /// A pair whose last key gives a value of 135 atoms, the longest of all.
 pub const LONGEST_VALUE: (&str, &str) = ("4v4", "8v0+7v1+7v2+7v3+7c0+7c1+7c2+7c3");
 
+/// A pair whose first key stands behind 49,666 other candidates.
+pub const LATEST_FIRST_KEY: (&str, &str) = ("v0+v1+4v2+8v4+c0", "v0+v1+v3+v5");
+
 /// Pairs with exactly 199, 200 and 201 keys, around the usual page.
 pub const AROUND_A_PAGE: [(&str, &str); 3] =
     [("2v1+v3", "v0+v2+3c0+2c1"), ("2v0+v1+c0", "6v2+2v3"), ("3v0+4c1+3c2+3c3", "2v1+v2")];

@@ -1,12 +1,12 @@
 //! Planted faults: answers that are wrong in one known way, to show that the comparison can fail. One for
 //! each question, one for the variables of a right term, two for the atom that 10 names, two for the shape that
-//! is written, three for matching, three for Count, one for each plausible error of document 01, two in the nightly
-//! text and two in the census text.
+//! is written, three for matching, three for Count, five for the number of candidates weighed, one for each plausible
+//! error of document 01, two in the nightly text and two in the census text.
 
 use crate::answer::{answer, in_halves};
 use crate::block::{seal, Sides, APART, BLOCK, PLUS, TERMS};
 use crate::census::{census, MOST_BLOCKS};
-use crate::list::{stages, List, Stage};
+use crate::list::{field_shift, stages, List, Stage};
 use crate::pair::{net_counts, shared_variables, Pair, Way, FIRST_CONSTANT, FURTHEST_NET_COUNT};
 use crate::question::{Answer, Ask, Question};
 use crate::refusal::Refusal;
@@ -62,6 +62,16 @@ pub enum Fault {
     CountUnrestricted,
     /// Count gives 13 where there is no unifier.
     CountThirteen,
+    /// Page weighs only the keys that it writes.
+    WeighedWritten,
+    /// Page does not count the last key that it writes as weighed.
+    WeighedWithoutLast,
+    /// Page counts the key after which it begins as weighed.
+    WeighedBeginning,
+    /// Page counts what it weighs to see whether more follow.
+    WeighedAhead,
+    /// Page works out the number weighed with the sizes of the constants' groups in the other order.
+    WeighedSizesSwapped,
     /// The nightly text says `more` for a list of exactly 200.
     TextMore,
     /// The nightly text counts blocks without unifier as refused.
@@ -73,7 +83,7 @@ pub enum Fault {
 }
 
 /// All faults by name.
-pub const FAULTS: [(&str, Fault); 25] = [
+pub const FAULTS: [(&str, Fault); 30] = [
     ("number-before-check", Fault::NumberBeforeCheck),
     ("right-as-written", Fault::RightAsWritten),
     ("byte-after-rows", Fault::ByteAfterRows),
@@ -95,6 +105,11 @@ pub const FAULTS: [(&str, Fault); 25] = [
     ("count-sign", Fault::CountSign),
     ("count-unrestricted", Fault::CountUnrestricted),
     ("count-thirteen", Fault::CountThirteen),
+    ("weighed-written", Fault::WeighedWritten),
+    ("weighed-without-last", Fault::WeighedWithoutLast),
+    ("weighed-beginning", Fault::WeighedBeginning),
+    ("weighed-ahead", Fault::WeighedAhead),
+    ("weighed-sizes-swapped", Fault::WeighedSizesSwapped),
     ("text-more", Fault::TextMore),
     ("text-counts", Fault::TextCounts),
     ("census-refused", Fault::CensusRefused),
@@ -183,6 +198,18 @@ impl Fault {
                 | Fault::CountSign
                 | Fault::CountUnrestricted
                 | Fault::CountThirteen
+        )
+    }
+
+    /// Whether the fault is in the number of candidates weighed.
+    fn in_weighing(self) -> bool {
+        matches!(
+            self,
+            Fault::WeighedWritten
+                | Fault::WeighedWithoutLast
+                | Fault::WeighedBeginning
+                | Fault::WeighedAhead
+                | Fault::WeighedSizesSwapped
         )
     }
 
@@ -281,6 +308,11 @@ impl Fault {
                     self.spoil_count(&solved, answer);
                 }
             }
+            (_, Ask::Page { way, after, .. }) if answer.number == 0 && self.in_weighing() => {
+                if let Ok(solved) = Solved::of(way, &question.sides) {
+                    self.spoil_weighed(&solved, after, answer);
+                }
+            }
             (Fault::HighestAtom | Fault::FirstAtom, _) if answer.number == Refusal::NetCount(0).number() => {
                 let far = far_atoms(&question.sides);
                 let first =
@@ -299,17 +331,47 @@ impl Fault {
         match self {
             Fault::CountSign => {
                 let sets = 0..1u8 << variables;
-                answer.figures = in_halves(sets.map(|set| runs_avoiding(&stages, set)).sum());
+                let sum = sets.map(|set| runs_avoiding(&stages, set)).sum();
+                answer.figures[..2].copy_from_slice(&in_halves(sum));
             }
             Fault::CountUnrestricted => {
                 let of_constants = stages.iter_mut().filter(|stage| stage.field >= 1 << MOST_ROWS);
                 of_constants.flat_map(|stage| &mut stage.choices).for_each(|choice| choice.cover = 0);
-                answer.figures = in_halves(List::of_stages(stages, variables).number());
+                let number = List::of_stages(stages, variables).number();
+                answer.figures[..2].copy_from_slice(&in_halves(number));
             }
             _ if solved.list.is_empty() => answer.number = Refusal::NoUnifier.number(),
             _ => (),
         }
     }
+
+    /// Changes the number of candidates that a page has weighed.
+    fn spoil_weighed(self, solved: &Solved, after: Option<u32>, answer: &mut Answer) {
+        let written = answer.figures[0] as usize;
+        let keys = solved.list.keys(after, written + 1);
+        let (last, next) = (keys[written - 1], keys[keys.len() - 1]);
+        let right = solved.list.candidates(after, last);
+        let weighed = match self {
+            Fault::WeighedWritten => written as u64,
+            Fault::WeighedWithoutLast => right - 1,
+            Fault::WeighedBeginning => right + u64::from(after.is_some()),
+            Fault::WeighedAhead => solved.list.candidates(after, next),
+            Fault::WeighedSizesSwapped => {
+                let before = after.map_or(0, |key| rank_with_sizes_swapped(&solved.groups, key));
+                rank_with_sizes_swapped(&solved.groups, last).wrapping_sub(before)
+            }
+            _ => right,
+        };
+        answer.figures[2..4].copy_from_slice(&in_halves(weighed));
+    }
+}
+
+/// How many candidates there are up to a key if the sizes of the constants' groups stand in the other order.
+fn rank_with_sizes_swapped(groups: &Groups, key: u32) -> u64 {
+    let sizes = groups.constants.iter().rev().map(|rows| rows.len() as u64);
+    let fields = (0..).map(|place| u64::from(key >> field_shift(place) & 0xF));
+    let rows = sizes.zip(fields).fold(0, |rank, (size, field)| rank * size + field);
+    (rows << groups.balanced.len()) + u64::from(key & 0xFFFF) + 1
 }
 
 /// How many runs of choices cover nothing of a set of variables.

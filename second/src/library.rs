@@ -4,7 +4,8 @@ use crate::block::{Sides, BLOCK};
 use crate::blocks::{block_sides, damage, good_block, written};
 use crate::chance::Chance;
 use crate::examples::{
-    AROUND_A_PAGE, AT_LIMITS, BY_HAND, HIGHEST, LONGEST_LIST, LONGEST_VALUE, MOST_ROW_BYTES, PUBLISHED,
+    AROUND_A_PAGE, AT_LIMITS, BY_HAND, HIGHEST, LATEST_FIRST_KEY, LONGEST_LIST, LONGEST_VALUE,
+    MOST_ROW_BYTES, PUBLISHED,
 };
 use crate::names::sides;
 use crate::sides::random_sides;
@@ -41,7 +42,7 @@ impl Library {
 /// The pairs with a name that a block can hold.
 fn named_sides() -> Vec<Sides> {
     let published = PUBLISHED.map(|(left, right, _)| (left, right));
-    let extreme = [HIGHEST, LONGEST_LIST, MOST_ROW_BYTES, LONGEST_VALUE];
+    let extreme = [HIGHEST, LONGEST_LIST, MOST_ROW_BYTES, LONGEST_VALUE, LATEST_FIRST_KEY];
     let named = BY_HAND.iter().chain(&AT_LIMITS).chain(&AROUND_A_PAGE).chain(&published).chain(&extreme);
     named.map(|(left, right)| sides(left, right)).filter(fits_a_block).map(as_written).collect()
 }

@@ -116,6 +116,20 @@ impl List {
         }
     }
 
+    /// How many candidates lie after a key, or from the start on, up to and including another (document 02, R-8). A
+    /// candidate is any run of choices. Those with the same rows for the constants are numbers without a gap between
+    /// them, so that of each such stretch the part between the two ends is counted.
+    pub fn candidates(&self, after: Option<u32>, last: u32) -> u64 {
+        let (constants, balanced) = self.stages.split_at(CONSTANT_FIELDS);
+        let (lowest, highest) = ends(balanced);
+        let start = after.map_or(0, |key| u64::from(key) + 1);
+        let part = |rows: u32| {
+            let end = u64::from(last.min(rows | highest)) + 1;
+            end.saturating_sub(start.max(u64::from(rows | lowest)))
+        };
+        runs(constants).into_iter().map(part).sum()
+    }
+
     /// The last key, found by taking the highest choice that can be completed at each stage.
     pub fn last(&self) -> Option<u32> {
         let mut key = 0;
@@ -140,6 +154,20 @@ impl List {
         let runs = self.stages.iter().fold(before_all, |runs, stage| lengthened(&runs, stage));
         runs[usize::from(self.every_variable)]
     }
+}
+
+/// The bits of each run of choices of some stages.
+fn runs(stages: &[Stage]) -> Vec<u32> {
+    stages.iter().fold(vec![0], |runs, stage| {
+        runs.iter().flat_map(|run| stage.choices.iter().map(move |choice| run | choice.bits)).collect()
+    })
+}
+
+/// The bits of the lowest and of the highest run of choices of some stages that have choices.
+fn ends(stages: &[Stage]) -> (u32, u32) {
+    let lowest = stages.iter().filter_map(|stage| stage.choices.first()).map(|choice| choice.bits).sum();
+    let highest = stages.iter().filter_map(|stage| stage.choices.last()).map(|choice| choice.bits).sum();
+    (lowest, highest)
 }
 
 /// The runs that are longer by one choice of a stage.

@@ -2,8 +2,8 @@
 
 use crate::block::Sides;
 use crate::examples::{
-    AROUND_A_PAGE, AT_LIMITS, BY_HAND, HIGHEST, LONGEST_LIST, LONGEST_MATCHES, LONGEST_VALUE, MATCHED,
-    MATCHES_OF_PAGES, MOST_ROW_BYTES, PUBLISHED,
+    AROUND_A_PAGE, AT_LIMITS, BY_HAND, HIGHEST, LATEST_FIRST_KEY, LONGEST_LIST, LONGEST_MATCHES,
+    LONGEST_VALUE, MATCHED, MATCHES_OF_PAGES, MOST_ROW_BYTES, PUBLISHED,
 };
 use crate::names::{sides, told};
 use crate::pair::{Way, FIRST_CONSTANT};
@@ -41,7 +41,7 @@ impl Questions {
         for (left, right) in BY_HAND.iter().chain(&AT_LIMITS).chain(&AROUND_A_PAGE) {
             self.ask_named(Way::Unifying, &sides(left, right));
         }
-        for (left, right) in [HIGHEST, LONGEST_LIST, MOST_ROW_BYTES, LONGEST_VALUE] {
+        for (left, right) in [HIGHEST, LONGEST_LIST, MOST_ROW_BYTES, LONGEST_VALUE, LATEST_FIRST_KEY] {
             self.ask_named(Way::Unifying, &sides(left, right));
             self.walk_top(Way::Unifying, &sides(left, right));
         }
@@ -189,7 +189,8 @@ impl Questions {
     }
 
     /// Asks for all pages of a list, each after the last key of the one before, with the counts in turn. An
-    /// error if the keys are not as many as are counted or as a source publishes.
+    /// error if the keys are not as many as are counted or as a source publishes, or if the pages have not weighed
+    /// together all candidates up to the last key.
     fn walk(
         &mut self,
         way: Way,
@@ -201,13 +202,14 @@ impl Questions {
             Solved::of(way, sides).map_err(|refusal| format!("{} is refused: {refusal:?}", told(sides)))?;
         let number = solved.list.number();
         let mut after = None;
-        let mut walked = 0;
+        let (mut walked, mut weighed) = (0, 0);
         for &wanted in counts.iter().cycle() {
             let ask = Ask::Page { way, after, wanted };
             self.ask(ask, sides);
             match solved.page(after, ask.wanted()) {
                 Ok(page) => {
                     walked += page.keys.len() as u64;
+                    weighed += page.weighed;
                     after = page.keys.last().copied();
                 }
                 Err(_) => break,
@@ -215,6 +217,10 @@ impl Questions {
         }
         if walked != number || published.is_some_and(|published| published != number) {
             return Err(format!("{}: {walked} keys walked, {number} counted", told(sides)));
+        }
+        let candidates = after.map_or(0, |last| solved.list.candidates(None, last));
+        if weighed != candidates {
+            return Err(format!("{}: {weighed} weighed of {candidates} candidates", told(sides)));
         }
         Ok(())
     }

@@ -16,6 +16,8 @@ const OF_MATCHING: [usize; 11] = [7, 8, 9, 10, 11, 12, 13, 14, 15, 16, 19];
 const OF_COUNT: [usize; 6] = [7, 8, 9, 10, 11, 12];
 /// A list is long if it has more keys than this.
 const THOUSAND_MILLION: u32 = 1_000_000_000;
+/// A page has weighed many candidates if they are more than this.
+const MANY: u32 = 32_768;
 
 /// How often each thing was met.
 #[derive(Default)]
@@ -26,8 +28,7 @@ pub struct Seen {
     pages: usize,
     values: usize,
     written: usize,
-    more: usize,
-    no_more: usize,
+    pages_given: Pages,
     without_variables: usize,
     net_count_zero: usize,
     balanced_constant: usize,
@@ -44,11 +45,19 @@ pub struct Seen {
 struct Matching {
     numbers: [usize; NUMBERS],
     rows: usize,
-    more: usize,
-    no_more: usize,
+    pages: Pages,
     values: usize,
     without_variables: usize,
     largest_group: usize,
+}
+
+/// How often each thing was met in pages that were given.
+#[derive(Default)]
+struct Pages {
+    more: usize,
+    no_more: usize,
+    more_weighed_than_written: usize,
+    many_weighed: usize,
 }
 
 /// How often each thing was met where unifiers were counted.
@@ -78,8 +87,7 @@ impl Seen {
         }
         match (answer.number, question.ask) {
             (0, Ask::Rows { .. }) => self.note_rows(question, answer),
-            (0, Ask::Page { .. }) if answer.figures[1] == 1 => self.more += 1,
-            (0, Ask::Page { .. }) => self.no_more += 1,
+            (0, Ask::Page { .. }) => self.pages_given.note(answer),
             (TOO_FREQUENT, _) if answer.figures[0] < u32::from(FIRST_CONSTANT) => self.named_variable += 1,
             (TOO_FREQUENT, _) => self.named_constant += 1,
             _ => (),
@@ -112,8 +120,6 @@ impl Seen {
             wanted.push((format!("{size} rows of a constant"), self.constant_sizes[size]));
         }
         let others = [
-            ("more", self.more),
-            ("no more", self.no_more),
             ("pair without variables", self.without_variables),
             ("variable of net count 0", self.net_count_zero),
             ("balanced constant", self.balanced_constant),
@@ -121,6 +127,7 @@ impl Seen {
             ("10 that names a constant", self.named_constant),
         ];
         wanted.extend(others.map(|(what, times)| (what.to_string(), times)));
+        wanted.extend(self.pages_given.wanted(""));
         wanted.extend(self.matching.wanted());
         wanted.extend(self.counting.wanted());
         wanted
@@ -160,8 +167,7 @@ impl Matching {
                     usize::from(question.sides.left.iter().all(|&atom| atom >= FIRST_CONSTANT));
                 self.largest_group += usize::from(answer.figures[2..].contains(&(MOST_ROWS as u32)));
             }
-            (0, Ask::Page { .. }) if answer.figures[1] == 1 => self.more += 1,
-            (0, Ask::Page { .. }) => self.no_more += 1,
+            (0, Ask::Page { .. }) => self.pages.note(answer),
             (0, Ask::Values { .. }) => self.values += 1,
             _ => (),
         }
@@ -172,13 +178,34 @@ impl Matching {
         let numbers = OF_MATCHING.map(|number| (format!("matching, number {number}"), self.numbers[number]));
         let others = [
             ("matching, rows", self.rows),
-            ("matching, more", self.more),
-            ("matching, no more", self.no_more),
             ("matching, values", self.values),
             ("matching, pattern without variables", self.without_variables),
             ("matching, 16 rows of a constant", self.largest_group),
         ];
-        numbers.into_iter().chain(others.map(|(what, times)| (what.to_string(), times))).collect()
+        let others = others.map(|(what, times)| (what.to_string(), times));
+        numbers.into_iter().chain(others).chain(self.pages.wanted("matching, ")).collect()
+    }
+}
+
+impl Pages {
+    /// Counts what a page shows.
+    fn note(&mut self, answer: &Answer) {
+        let [written, more, weighed_high, weighed_low, ..] = answer.figures;
+        self.more += usize::from(more == 1);
+        self.no_more += usize::from(more == 0);
+        self.more_weighed_than_written += usize::from([weighed_high, weighed_low] > [0, written]);
+        self.many_weighed += usize::from([weighed_high, weighed_low] > [0, MANY]);
+    }
+
+    /// What should have been met in pages of one way of listing, with how often it was.
+    fn wanted(&self, way: &str) -> [(String, usize); 4] {
+        [
+            ("more", self.more),
+            ("no more", self.no_more),
+            ("more weighed than written", self.more_weighed_than_written),
+            ("many weighed", self.many_weighed),
+        ]
+        .map(|(what, times)| (format!("{way}{what}"), times))
     }
 }
 

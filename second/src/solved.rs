@@ -18,10 +18,11 @@ pub struct Solved {
     pub list: List,
 }
 
-/// Some keys of a list and whether more follow.
+/// Some keys of a list, whether more follow, and how many candidates were weighed up to the last of them.
 pub struct Page {
     pub keys: Vec<u32>,
     pub more: bool,
+    pub weighed: u64,
 }
 
 impl Solved {
@@ -43,12 +44,10 @@ impl Solved {
             None => self.must_unify()?,
         }
         let mut keys = self.list.keys(after, wanted + 1);
-        if keys.is_empty() {
-            return Err(Refusal::LastKey);
-        }
         let more = keys.len() > wanted;
         keys.truncate(wanted);
-        Ok(Page { keys, more })
+        let last = *keys.last().ok_or(Refusal::LastKey)?;
+        Ok(Page { keys, more, weighed: self.list.candidates(after, last) })
     }
 
     /// The values of the variables for a key, or the first of the refusals 13, 14 and 17 that holds.

@@ -2,6 +2,7 @@
 //! against itself; matches worked by hand and found by trying all replacements.
 
 mod counting;
+mod weighing;
 
 use crate::block::{read, seal, write, Sides, BLOCK, PLUS};
 use crate::chance::Chance;

@@ -4,13 +4,15 @@
     tools/probe_cases.py SECOND
 
 Read is answered by a reader of blocks of its own (read_cases.py), Write by document 01 and by tools/library.py
-(write_cases.py), Rows by hand (tests/rows.txt), Count by hand and by what is published (count_cases.py), Page and Values by
-the second solver, whose program SECOND is; nothing by the program under test.
+(write_cases.py), Rows by hand (tests/rows.txt), Count by hand and by what is published (count_cases.py), Page by hand where few
+candidates are weighed (page_cases.py), else Page and Values by the second solver, whose program SECOND is; nothing by the program
+under test.
 """
 import sys
 from pathlib import Path
 
 import count_cases
+import page_cases
 import read_cases
 import rows_cases
 import second_cases
@@ -28,6 +30,7 @@ def cases(second):
         *second_cases.cases(second),
         *write_cases.cases(),
         *count_cases.cases(),
+        *page_cases.cases(),
     ]
 
 

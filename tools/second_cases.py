@@ -26,6 +26,9 @@ PUBLISHED = [
 # the highest key is on this pair's list
 HIGHEST, HIGHEST_KEY = "7v3+7c0+7c1+7c2+7c3 = 8v0+8v1+3v2", 4294967295
 
+# the first key of this pair stands behind 49,666 other candidates (document 02, R-8)
+LATE = "v0+v1+4v2+8v4+c0 = v0+v1+v3+v5"
+
 # document 02, R-4: patterns with their subjects, worked by hand or refused
 MATCHED = [
     "match v0+v1 = 2v32+v33",  # four
@@ -110,6 +113,7 @@ def cases(program):
     for text in MATCHED[1], MATCHED[6]:  # a key that is not listed, and 19 before 14
         second.page(text, 1, 1)
         second.values(text, [1])
+    second.page(LATE, 1)
     second.page(HIGHEST, 5, HIGHEST_KEY - 5)
     second.page(HIGHEST, 5, HIGHEST_KEY)
     second.values(HIGHEST, [HIGHEST_KEY])

@@ -41,6 +41,7 @@ pub mod Weighed
 pub mod Rank
 pub mod Fages
 pub mod Atoms
+pub mod Longest
 pub mod Subject
 pub mod Matching
 pub mod Covers

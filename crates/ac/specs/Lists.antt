@@ -1,9 +1,9 @@
 -- Words on lists that the definitions share; none is a notion of its own in document 01, but for a lent
 -- buffer that receives what is written.
-use Prim.Native.Nat.{ℕ, zero, suc, _+_}
+use Prim.Native.Nat.{ℕ, zero, suc, _+_, _≤_}
 use mathlib.Core.Bool.{Bool, true, false, _&&_}
 use mathlib.Core.List.{List, [], _∷_, _++_, List·Memᴰ}
-use lib.ListN.{length, drop}
+use lib.ListN.{length, getD, drop}
 
 -- the n numbers from a on, ascending
 abbrev pub from : ℕ → ℕ → List ℕ
@@ -38,6 +38,10 @@ flatMap f (a ∷ rest) = f a ++ flatMap f rest
 abbrev pub sum : List ℕ → ℕ
 sum [] = 0
 sum (n ∷ v) = n + sum v
+
+-- no entry is above a number
+abbrev pub NoneAbove : ℕ → List ℕ → Type 0
+NoneAbove most v = (i : ℕ) → getD v i 0 ≤ most
 
 -- A lent buffer that receives what is written; what comes after the written part stays unchanged.
 abbrev pub receives : List ℕ → List ℕ → List ℕ

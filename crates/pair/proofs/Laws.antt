@@ -8,6 +8,7 @@ use lib.ListN.{length, getD, take, length-map, List·getD-append}
 use lib.Seq.{take-at}
 use lib.IntN.{natAbs}
 use Rattle.ac.specs.Pair.{Mode, count, net, variables, unbalanced}
+use Rattle.ac.proofs.Longest.{Near}
 use Rattle.ac.proofs.Places.{getD-map}
 use Rattle.numbers.specs.First.{NoneOf}
 use Rattle.numbers.proofs.Carried.{elsewhere, none-given, its-member}
@@ -71,6 +72,11 @@ within-limits {limits} {M} {L} {R} none =
 
     near : (atom : ℕ) → natAbs (net L R atom) ≤ limits .net-count
     near atom = at-most (natAbs (net L R atom)) (limits .net-count) (λ far. not-given 10 refl (far-net-count atom far))
+
+-- so how often an atom stands on the left and how often on the right are near
+pub counts-near : {limits : Limits} {M : Mode} {L R : List ℕ} → KeepsLimits limits M L R → (x : ℕ)
+    → Near (limits .net-count) (count x L) (count x R)
+counts-near within x = omega (arith, within .near-left x, within .near-right x)
 
 -- The numbers that speak of the two sides are theirs.
 pub sides-number : {limits : Limits} {M : Mode} {L R : List ℕ} {n : ℕ} → PairGiven limits M L R n

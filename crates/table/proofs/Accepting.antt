@@ -1,5 +1,5 @@
 -- The groups of a pair put at their places one after the other, and the table that then is that of the pair.
-use Prim.Native.Nat.{ℕ, suc, _+_, _≤_, _<_}
+use Prim.Native.Nat.{ℕ, zero, suc, _+_, _≤_, _<_}
 use native.Mathlib.Omega.{arith}
 use native.Mathlib.Decide.{ℕ-discrete}
 use mathlib.Core.Path.{_≡_, refl, sym, ap, subst, _∙_}
@@ -7,9 +7,14 @@ use mathlib.Core.Bool.{true, false, false≢true}
 use mathlib.Core.List.{List, List·Memᴰ}
 use lib.ListN.{length, getD, take, set, length-take}
 use lib.Seq.{take-take, getD-set-same, getD-set-other}
+use Rattle.ac.specs.Lists.{NoneAbove}
 use Rattle.ac.specs.Pair.{Mode, variables, unbalanced}
 use Rattle.ac.specs.Rows.{Exactly, Group, RowOf}
 use Rattle.ac.specs.Limits.{limits}
+use Rattle.ac.proofs.Longest.{balanced-entry, constant-entry}
+use Rattle.numbers.specs.First.{NoneOf}
+use Rattle.numbers.specs.Order.{partingNumbers}
+use Rattle.pair.specs.Given.{PairGiven}
 use Rattle.pair.specs.Parted.{PairOf}
 use Rattle.pair.specs.declared.Pair.{Pair}
 use Rattle.table.specs.Table.{mostRows, roomOfRows, groupIn, groupAt, groupsIn, TableOf}
@@ -17,13 +22,18 @@ use Rattle.table.specs.declared.Table.{Table}
 use Rattle.table.proofs.TableGroups.{constants-groupsFrom, groupsFrom-stands, Stands}
 use Rattle.table.specs.Groups.{RowIn, More, FoundUpto, Spreads, GroupsUpto, GroupsFound, Roomy}
 use Rattle.table.specs.declared.groups.FoundGroups.{FoundGroups}
-use Rattle.pair.proofs.Laws.{take-atoms}
+use Rattle.pair.proofs.Laws.{take-atoms, within-limits, counts-near}
 use Rattle.table.proofs.Counting.{twelve-given}
 
 -- before the first group
 pub groups-none : {Row : ℕ → List ℕ → Type 0} {places : ℕ} {rows sizes : List ℕ} → ((g : ℕ) → getD sizes g 0 ≡ 0)
-    → GroupsUpto Row places rows sizes 0
-groups-none empty = record { sizes-fit = λ g. omega (arith, empty g); the-rows = λ g h. absurd (omega arith) }
+    → ((i : ℕ) → getD rows i 0 ≡ 0) → GroupsUpto Row places rows sizes 0
+groups-none empty zeros =
+    record {
+      sizes-fit = λ g. omega (arith, empty g);
+      the-rows = λ g h. absurd (omega arith);
+      none-above = λ most small i. omega (arith, zeros i);
+    }
 
 -- one group more
 pub groups-next : {Row : ℕ → List ℕ → Type 0} {places count group : ℕ} {bytes before after sizes : List ℕ}
@@ -32,7 +42,12 @@ pub groups-next : {Row : ℕ → List ℕ → Type 0} {places count group : ℕ}
     → GroupsUpto Row places before sizes group
     → GroupsUpto Row places after (set sizes group count) (group + 1)
 groups-next {Row} {places} {count} {group} {bytes} {before} {after} {sizes} there few found spread known =
-    record { sizes-fit = λ g. fits g (ℕ-discrete g group); the-rows = λ g h. exact g h (ℕ-discrete g group) }
+    record {
+      sizes-fit = λ g. fits g (ℕ-discrete g group);
+      the-rows = λ g h. exact g h (ℕ-discrete g group);
+      none-above = λ most small.
+          spread .none-above most (λ v m. small group v (found .few few .only v m)) (known .none-above most small);
+    }
   where
     its-size : (g : ℕ) → g ≡ group → getD (set sizes group count) g 0 ≡ count
     its-size g e = ap (λ k. getD (set sizes group count) k 0) e ∙ getD-set-same sizes group count 0 there
@@ -81,8 +96,8 @@ pub record PutUpto (pair : Pair) (rows sizes : List ℕ) (group : ℕ) : Type 0 
       → GroupsUpto (RowIn M L R) (pair .variables .count) rows sizes group
 
 -- The table that holds the pair's atoms beside all its groups is that of the pair.
-module _ {M : Mode} {L R : List ℕ} {pair : Pair} (of : PairOf M L R pair) (roomy : Roomy pair)
-    {four rows sizes : List ℕ}
+module _ {M : Mode} {L R : List ℕ} {pair : Pair} (none : NoneOf (PairGiven limits M L R) partingNumbers)
+    (of : PairOf M L R pair) (roomy : Roomy pair) {four rows sizes : List ℕ}
     (first-four : four ≡ take (limits .constants) (pair .constants .atoms))
     (known : GroupsUpto (RowIn M L R) (pair .variables .count) rows sizes
     (suc (length (unbalanced M L R)))) where
@@ -117,6 +132,11 @@ module _ {M : Mode} {L R : List ℕ} {pair : Pair} (of : PairOf M L R pair) (roo
       s : Stands tableWith 1 (take (pair .constants .count) four) h
       s = groupsFrom-stands tableWith 1 (take (pair .constants .count) four) member
 
+  -- no entry of a row is above the limit of net counts
+  row-entry : (g : ℕ) (v : List ℕ) → RowIn M L R g v → NoneAbove (limits .net-count) v
+  row-entry zero v = balanced-entry M L R (omega arith) (counts-near (within-limits none))
+  row-entry (suc g) v = constant-entry M L R (omega arith) (counts-near (within-limits none))
+
   -- so the table is that of the pair
   pub table-of : TableOf M L R tableWith
   table-of =
@@ -133,6 +153,7 @@ module _ {M : Mode} {L R : List ℕ} {pair : Pair} (of : PairOf M L R pair) (roo
                     of .the-constants .how-many,
                   );
               sizes-fit = known .sizes-fit;
+              entries-fit = known .none-above (limits .net-count) row-entry;
             };
         the-variables = take-atoms (of .the-variables);
         the-places = of .the-variables .how-many;

@@ -1,17 +1,17 @@
--- Rows put at their fixed places leave every other row as it was.
+-- Rows put at their fixed places leave every other row as it was, and bring no byte that is not theirs.
 use Prim.Native.Nat.{ℕ, zero, suc, _+_, _*_, _-_, _≤_, _<_}
 use native.Mathlib.Omega.{arith}
 use native.Mathlib.Decide.{decLt}
 use native.Mathlib.Nat.{mul-le-mul-right, suc-mul}
 use mathlib.Core.Path.{_≡_, refl, sym, ap, ap₂, _∙_}
 use mathlib.Core.Logic.{_⊎_, inl, inr}
-use mathlib.Core.List.{List, [], _∷_, _++_, map, append-assoc}
-use lib.ListN.{length, take, drop, set, length-drop}
+use mathlib.Core.List.{List, [], _∷_, _++_, map, append-assoc, List·Memᴰ}
+use lib.ListN.{length, getD, take, drop, set, length-drop}
 use lib.Seq.{sets, sets-eq, length-sets, take-at, drop-at, take-set-le, drop-set-lt, drop-set-add, length-take-le}
-use Rattle.ac.specs.Lists.{below}
+use Rattle.ac.specs.Lists.{below, NoneAbove}
 use Rattle.buffer.specs.Put.{Put}
 use Rattle.equation.specs.Flat.{rowsOf}
-use Rattle.equation.proofs.Flat.{rowAt, rows-snoc}
+use Rattle.equation.proofs.Flat.{rowAt, row-found, rows-snoc}
 use Rattle.ac.specs.Limits.{limits}
 use Rattle.table.specs.Table.{mostRows, rowStart, roomOfRows, rowIn}
 use Rattle.table.specs.Groups.{Spreads}
@@ -59,6 +59,23 @@ sets-there l at vs room =
     rest : List ℕ
     rest = drop (at + length vs) l
 
+-- Where no byte is above a number, and none that is put, none is afterwards.
+
+-- one byte
+set-none-above : {most v : ℕ} (l : List ℕ) (at : ℕ) → NoneAbove most l → v ≤ most → NoneAbove most (set l at v)
+set-none-above [] at all small i = all i
+set-none-above (x ∷ l) zero all small zero = small
+set-none-above (x ∷ l) zero all small (suc i) = all (suc i)
+set-none-above (x ∷ l) (suc at) all small zero = all 0
+set-none-above (x ∷ l) (suc at) all small (suc i) = set-none-above l at (λ i. all (suc i)) small i
+
+-- several bytes
+sets-none-above : {most : ℕ} (l : List ℕ) (at : ℕ) (vs : List ℕ) → NoneAbove most l → NoneAbove most vs
+    → NoneAbove most (sets l at vs)
+sets-none-above l at [] all small = all
+sets-none-above l at (v ∷ vs) all small =
+    sets-none-above (set l at v) (suc at) vs (set-none-above l at all (small 0)) (λ i. small (suc i))
+
 -- rows that stand one after the other, each by its index
 rows-by-index : (k n : ℕ) (bytes : List ℕ) → rowsOf k n bytes ≡ map (rowAt k bytes) (below n)
 rows-by-index k zero bytes = refl
@@ -90,11 +107,19 @@ pub record SpreadTo (places group : ℕ) (found before : List ℕ) (i : ℕ) (ro
   pub stored : (j : ℕ) → j < i → rowIn places rows group j ≡ rowAt places found j
   pub others : (other j : ℕ) → (other ≡ group → ⊥) → j < mostRows other
       → rowIn places rows other j ≡ rowIn places before other j
+  pub none-above : (most : ℕ) → ((j : ℕ) → j < i → NoneAbove most (rowAt places found j)) → NoneAbove most before
+      → NoneAbove most rows
 
 -- before the first turn
 pub spread-none : {places group : ℕ} {found before : List ℕ} → length before ≡ roomOfRows
     → SpreadTo places group found before 0 before
-spread-none size = record { size = size; stored = λ j h. absurd (omega arith); others = λ other j differs h. refl }
+spread-none size =
+    record {
+      size = size;
+      stored = λ j h. absurd (omega arith);
+      others = λ other j differs h. refl;
+      none-above = λ most found all. all;
+    }
 
 -- a row of another group
 others-apart : {places g h i j : ℕ} → places ≤ limits .variables → (h ≡ g → ⊥) → i < mostRows g → j < mostRows h
@@ -119,6 +144,8 @@ module _ {places group : ℕ} {found before : List ℕ} (narrow : places ≤ lim
         stored = λ j h. by-turn j h (decLt j i);
         others = λ other j differs h. kept other j (others-apart narrow differs fits h)
             ∙ known .others other j differs h;
+        none-above = λ most rows-found all. rw (put .stored) (sets-none-above rows at bytes
+            (known .none-above most (λ j h. rows-found j (omega arith)) all) (rw row (rows-found i (omega arith))));
       }
     where
       at : ℕ
@@ -153,4 +180,6 @@ spread-all {places} {group} {count} {found} {before} {rows} few known =
       others = λ other n differs h.
           below-same (rowIn places rows other) (rowIn places before other) n
           (λ j l. known .others other j differs (let k : j < mostRows other = omega (arith, l, h) in k));
+      none-above = λ most rows-found. known .none-above most
+          (λ j h. rows-found (rowAt places found j) (row-found places count found j h));
     }

@@ -3,8 +3,9 @@
 use Prim.Native.Nat.{ℕ, zero, suc, _≤_, _<_}
 use mathlib.Core.Path.{_≡_}
 use mathlib.Core.Bool.{true, false}
-use mathlib.Core.List.{List}
+use mathlib.Core.List.{List, List·Memᴰ}
 use lib.ListN.{length, getD}
+use Rattle.ac.specs.Lists.{NoneAbove}
 use Rattle.ac.specs.Pair.{Mode, unbalanced}
 use Rattle.ac.specs.Rows.{Exactly, BalancedRow, RowOf}
 use Rattle.ac.specs.Limits.{limits}
@@ -52,16 +53,21 @@ FindsGroup pair group found =
     (M : Mode) (L R : List ℕ) → PairOf M L R pair
     → FoundUpto (mostRows group) (RowIn M L R group) (pair .variables .count) (found .rows) (found .number)
 
--- the group has the rows that were found one after the other, and every other group is as it was
+-- the group has the rows that were found one after the other, every other group is as it was, and no byte is above
+-- a number that none was above
 pub record Spreads (places group count : ℕ) (found before after : List ℕ) : Type 0 where
   pub stored : groupIn places after group count ≡ rowsOf places count found
   pub others : (other n : ℕ) → (other ≡ group → ⊥) → n ≤ mostRows other
       → groupIn places after other n ≡ groupIn places before other n
+  pub none-above : (most : ℕ) → ((v : List ℕ) → List·Memᴰ v (rowsOf places count found) → NoneAbove most v)
+      → NoneAbove most before → NoneAbove most after
 
--- the groups from the first one on stand at their places, each with its size
+-- the groups from the first one on stand at their places, each with its size, and no byte is above a number that no
+-- entry of a row is above
 pub record GroupsUpto (Row : ℕ → List ℕ → Type 0) (places : ℕ) (rows sizes : List ℕ) (upto : ℕ) : Type 0 where
   pub sizes-fit : (g : ℕ) → getD sizes g 0 ≤ mostRows g
   pub the-rows : (g : ℕ) → g < upto → Exactly (Row g) (groupIn places rows g (getD sizes g 0))
+  pub none-above : (most : ℕ) → ((g : ℕ) (v : List ℕ) → Row g v → NoneAbove most v) → NoneAbove most rows
 
 -- all groups of the pair stand at their places, or number 12 is given
 pub record GroupsFound (M : Mode) (L R : List ℕ) (places : ℕ) (groups : FoundGroups) : Type 0 where

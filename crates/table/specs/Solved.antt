@@ -3,7 +3,8 @@
 use Prim.Native.Nat.{ℕ}
 use mathlib.Core.List.{List}
 use Rattle.ac.specs.Pair.{Mode}
-use Rattle.numbers.specs.Order.{rowLimitNumbers, sidesNumbers}
+use Rattle.numbers.specs.First.{NoneOf}
+use Rattle.numbers.specs.Order.{partingNumbers, rowLimitNumbers, sidesNumbers}
 use Rattle.numbers.specs.Verdict.{Decides}
 use Rattle.ac.specs.Limits.{limits}
 use Rattle.pair.specs.Given.{LowestFar, PairGiven}
@@ -18,9 +19,11 @@ abbrev pub SolvedOf : List ℕ → Mode → List ℕ → List ℕ → Solved →
 SolvedOf numbers M L R solved =
     Decides (PairGiven limits M L R) (LowestFar limits L R) numbers (TableOf M L R (solved .table)) (solved .verdict)
 
--- of the sides that were taken apart the table is made, or number 12 is given
+-- of sides that give no number before 12 and were taken apart the table is made, or number 12 is given
 abbrev pub SolvesPair : Pair → Solved → Type 0
-SolvesPair pair solved = (M : Mode) (L R : List ℕ) → PairOf M L R pair → SolvedOf rowLimitNumbers M L R solved
+SolvesPair pair solved =
+    (M : Mode) (L R : List ℕ) → NoneOf (PairGiven limits M L R) partingNumbers → PairOf M L R pair
+    → SolvedOf rowLimitNumbers M L R solved
 
 -- two sides are solved, or the first of the numbers 7 to 12 and 19 is given
 abbrev pub SolvesSides : Mode → List ℕ → List ℕ → Solved → Type 0

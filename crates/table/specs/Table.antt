@@ -4,7 +4,7 @@ use Prim.Native.Nat.{ℕ, zero, suc, _+_, _*_, _≤_}
 use mathlib.Core.Path.{_≡_}
 use mathlib.Core.List.{List, [], _∷_, map}
 use lib.ListN.{length, getD, take, drop}
-use Rattle.ac.specs.Lists.{below}
+use Rattle.ac.specs.Lists.{below, NoneAbove}
 use Rattle.ac.specs.Limits.{limits}
 use Rattle.ac.specs.Pair.{Mode, variables}
 use Rattle.ac.specs.Rows.{Group, Groups, GroupsOf}
@@ -58,6 +58,8 @@ pub record InRoom (t : Table) : Type 0 where
   pub constants-fit : t .unbalanced ≤ limits .constants
   pub constants-held : t .unbalanced ≤ length (t .constants)
   pub sizes-fit : (g : ℕ) → getD (t .sizes) g 0 ≤ mostRows g
+  -- no entry of a row is above the limit of net counts (document 02, R-9)
+  pub entries-fit : NoneAbove (limits .net-count) (t .rows)
 
 -- the table is that of the pair: its variables and exactly its rows
 pub record TableOf (M : Mode) (L R : List ℕ) (t : Table) : Type 0 where

@@ -35,7 +35,7 @@ returns-2 : tie.Need-returns-2
 returns-2 c =
     let parted = c .before .before .before .before .take-apart .ensures in
     let accepted = c .before .enum-told .given .1 in
-    decides-after (parted .none-given accepted) (c .solve-pair .ensures _ _ _ (parted .so accepted))
+    decides-after (parted .none-given accepted) (c .solve-pair .ensures _ _ _ (parted .none-given accepted) (parted .so accepted))
 
 pub solve-spec : {M : Type 1} → statement M
 solve-spec =

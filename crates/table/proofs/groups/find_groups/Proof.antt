@@ -8,7 +8,7 @@ use borrow.Author.Needs.{needs}
 use lib.ListN.{length, length-set}
 use Rattle.ac.specs.Limits.{limits}
 use Rattle.pair.proofs.Lists.{getD-replicate-same}
-use Rattle.table.specs.Table.{mostRows}
+use Rattle.table.specs.Table.{mostRows, roomOfRows}
 use Rattle.table.proofs.Rows.{mostRows-least}
 use Rattle.table.proofs.Accepting.{PutUpto, groups-none, groups-next, put-too-many, put-all}
 use Rattle.table.proofs.groups.find_groups.Statement.{statement}
@@ -27,7 +27,8 @@ loop-holds c = (
   record {
     rows-size = refl;
     sizes-size = refl;
-    groups = λ M L R of. groups-none (λ g. getD-replicate-same (suc (limits .constants)) g 0);
+    groups = λ M L R of. groups-none (λ g. getD-replicate-same (suc (limits .constants)) g 0)
+        (λ i. getD-replicate-same roomOfRows i 0);
   },
 )
 

@@ -5,8 +5,6 @@ use native.Mathlib.Numerals.{add-one}
 use native.Mathlib.Decide.{decLt}
 use mathlib.Core.Path.{_≡_, refl, sym, _∙_, ap, ap₂, subst}
 use mathlib.Core.Bool.{Bool, true, false, _||_, _&&_, false≢true, or-false, or-assoc}
-use borrow.Author.Tests.{lt-ltb, le-ltb}
-use lib.Dec.{ltb}
 use Rattle.table.proofs.Bits.{not-so}
 use Rattle.list.specs.Reach.{any, all}
 
@@ -37,24 +35,6 @@ any-found (suc n) i test h e = go (decLt i n) (λ g. any-found n i test g e)
 -- where none passed so far and this one does not, none passed with this one
 pub any-more : (i : ℕ) (test : ℕ → Bool) → any i test ≡ false → test i ≡ false → any (i + 1) test ≡ false
 any-more i test e f = ap (λ n. any n test) (add-one i) ∙ ap₂ (λ a b. a || b) e f
-
--- so with the test whether a number's value is above a bound
-module _ {bound : ℕ} (value : ℕ → ℕ) where
-  pub any-above : (n : ℕ) {i v : ℕ} → i < n → v ≡ value i → bound < v → any n (λ j. ltb bound (value j)) ≡ true
-  any-above n {i} h e above =
-      any-found n i (λ j. ltb bound (value j)) h (lt-ltb bound (value i) (subst (λ (k : ℕ). bound < k) e above))
-
-  pub none-above : {i v : ℕ} → any i (λ j. ltb bound (value j)) ≡ false → v ≡ value i → v ≤ bound
-      → any (i + 1) (λ j. ltb bound (value j)) ≡ false
-  none-above {i} none e below =
-      any-more i (λ j. ltb bound (value j)) none (le-ltb bound (value i) (subst (λ (k : ℕ). k ≤ bound) e below))
-
-  pub not-above : (n : ℕ) {i : ℕ} → any n (λ j. ltb bound (value j)) ≡ false → i < n → value i ≤ bound
-  not-above n {i} none h = go (decLt bound (value i))
-    where
-      go : Dec (bound < value i) → value i ≤ bound
-      go (yes above) = absurd (false≢true (sym none ∙ any-above n h refl above))
-      go (no below) = omega arith
 
 -- where one passes, there is one that does
 pub any-some : (n : ℕ) (test : ℕ → Bool) → any n test ≡ true → (i : ℕ) × (i < n) × (test i ≡ true)

@@ -1,18 +1,20 @@
 -- The runs of a selection, entry by entry, are the values that it gives.
-use Prim.Native.Nat.{ℕ, zero, suc, _+_, _-_, _<_, _≤_}
+use Prim.Native.Nat.{ℕ, zero, suc, _+_, _*_, _-_, _<_, _≤_}
 use native.Mathlib.Omega.{arith}
 use mathlib.Core.Path.{_≡_, refl, sym, _∙_, ap, ap₂}
 use mathlib.Core.Bool.{Bool, true, false, cond}
 use mathlib.Core.List.{List, [], _∷_, _++_, map, append-assoc, append-nil}
 use borrow.Author.Tests.{lt-ltb, le-ltb}
+use lib.Dec.{ltb}
 use lib.ListN.{length, getD, replicate, length-append, length-replicate}
 use lib.Seq.{getD-take}
-use Rattle.ac.specs.Lists.{from}
+use Rattle.ac.specs.Lists.{from, NoneAbove}
 use Rattle.ac.specs.Rows.{Group, Groups, rowsAt}
 use Rattle.ac.specs.Selection.{Taken, takenRows, takenBalanced, taken, valueAt}
 use Rattle.ac.specs.Keys.{layout, bit, fieldAt, selectionAt, Candidate, Fits}
 use Rattle.ac.proofs.Fields.{length-fieldsOf, index-at, places-candidate}
-use Rattle.list.specs.Runs.{runs, total, inTurn, constantTimes, balancedTimes, timesAt, atomOf, atomsAt}
+use Rattle.table.specs.Table.{rowStart}
+use Rattle.list.specs.Runs.{runs, total, inTurn, constantTimes, balancedTimes, runCount, timesAt, atomOf, atomsAt, lengthAt}
 use Rattle.list.specs.Reach.{HoldsGroups}
 use Rattle.list.specs.declared.KeyedSelection.{KeyedSelection}
 
@@ -50,6 +52,31 @@ length-runs zero times atom = refl
 length-runs (suc n) times atom =
     length-append (runs n times atom) (replicate (times n) (atom n))
     ∙ ap₂ (λ a b. a + b) (length-runs n times atom) (length-replicate (times n) (atom n))
+
+-- where none of them names its atom more often than a number, they have at most that many atoms each
+total-upto : {most : ℕ} (n : ℕ) (times : ℕ → ℕ) → ((i : ℕ) → times i ≤ most) → total n times ≤ most * n
+total-upto zero times small = omega arith
+total-upto (suc n) times small = omega (arith, total-upto n times small, small n)
+
+-- so with the runs of rows of which no entry is above it
+module _ {most : ℕ} (rows : List ℕ) (small : NoneAbove most rows) (s : KeyedSelection) (place : ℕ) where
+  balanced-upto : (i : ℕ) → balancedTimes rows (s .key) place i ≤ most
+  balanced-upto i = by-bit (bit (s .key) i)
+    where
+      by-bit : (b : Bool) → cond b (getD rows (rowStart 0 i + place) 0) 0 ≤ most
+      by-bit true = small (rowStart 0 i + place)
+      by-bit false = omega arith
+
+  times-upto : (run : ℕ) → timesAt rows s place run ≤ most
+  times-upto run = by-turn (ltb run (s .unbalanced))
+    where
+      by-turn : (b : Bool) → cond b (constantTimes rows (s .key) place run)
+          (balancedTimes rows (s .key) place (run - s .unbalanced)) ≤ most
+      by-turn true = small (rowStart (suc run) (fieldAt layout (s .key) run) + place)
+      by-turn false = balanced-upto (run - s .unbalanced)
+
+  pub length-upto : lengthAt rows s place ≤ most * runCount s
+  length-upto = total-upto (runCount s) (timesAt rows s place) times-upto
 
 -- counted from the front: the first run, and the others behind it
 runs-front : (n : ℕ) (times atom : ℕ → ℕ)

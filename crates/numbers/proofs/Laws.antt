@@ -1,18 +1,19 @@
--- Laws of document 01's table: a number names one refusal, and a question's list gives at most one number,
+-- Laws of document 01's table: a number names one refusal, 17 none, and a question's list gives at most one number,
 -- one of its own.
-use mathlib.Core.Path.{_≡_, refl}
+use mathlib.Core.Path.{_≡_, refl, sym, ap, _∙_}
 use mathlib.Core.List.{List, [], _∷_, List·Memᴰ, List·Memᴰ·head, List·Memᴰ·tail}
 use mathlib.Core.Option.{Option, some}
 use mathlib.Core.Option as option
 use Prim.Native.Nat.{ℕ}
+use native.Mathlib.Omega.{arith}
 use lib.ListN.{getD}
-use Rattle.numbers.specs.Numbers.{saidOf}
+use Rattle.numbers.specs.Numbers.{numberOf, saidOf}
 use Rattle.numbers.specs.Outcome.{Said}
 use Rattle.numbers.specs.declared.Refusal.{Refusal}
-use Rattle.numbers.specs.declared.Refusal.the-variants.{BlockLength, Check, BlockNumber, TermLength, Term, Filler, SideLength, NoAtom, Variables, NetCount, Constants, Rows, NoUnifier, NotListed, LastKey, ShortBuffer, LongValue, WrongSide, OnBothSides}
+use Rattle.numbers.specs.declared.Refusal.the-variants.{BlockLength, Check, BlockNumber, TermLength, Term, Filler, SideLength, NoAtom, Variables, NetCount, Constants, Rows, NoUnifier, NotListed, LastKey, ShortBuffer, WrongSide, OnBothSides}
 use Rattle.numbers.specs.First.{First, NoneOf, here, later, also}
 
--- the refusals in the table's order; no row has the number 0, and what 10 names is said beside it
+-- the refusals in the table's order; no row has the number 0 or 17, and what 10 names is said beside it
 rows : List Refusal
 rows =
     BlockLength
@@ -32,7 +33,7 @@ rows =
     ∷ NotListed
     ∷ LastKey
     ∷ ShortBuffer
-    ∷ LongValue
+    ∷ BlockLength
     ∷ WrongSide
     ∷ OnBothSides
     ∷ []
@@ -65,9 +66,21 @@ refusalOf-saidOf NoUnifier = refl
 refusalOf-saidOf NotListed = refl
 refusalOf-saidOf LastKey = refl
 refusalOf-saidOf ShortBuffer = refl
-refusalOf-saidOf LongValue = refl
 refusalOf-saidOf WrongSide = refl
 refusalOf-saidOf OnBothSides = refl
+
+-- what 17 would say, with whatever atom, has another number, ..
+not-17 : (atom : Option ℕ) → numberOf (refusalWith atom 17) ≡ 17 → ⊥
+unfolding rows refusalWith
+not-17 option.none e = omega arith
+not-17 (some atom) e = omega arith
+
+-- .. so the number of no refusal is 17 (document 02, R-9): no question is refused with it, whatever it promises
+pub never-17 : (r : Refusal) → saidOf r .number ≡ 17 → ⊥
+unfolding refusalOf
+never-17 r e =
+    not-17 (saidOf r .atom)
+    (ap numberOf (ap (refusalWith (saidOf r .atom)) (sym e) ∙ refusalOf-saidOf r) ∙ e)
 
 module _ {Given : ℕ → Type 0} where
   -- two first numbers of one list are the same

@@ -11,7 +11,7 @@ use Rattle.numbers.specs.First.{First}
 use Rattle.numbers.specs.Numbers.{numberOf, atomOf, saidOf}
 use Rattle.numbers.specs.Outcome.{Said, Beside, an-atom, nothing, Refuses}
 use Rattle.numbers.specs.declared.Refusal.{Refusal}
-use Rattle.numbers.specs.declared.Refusal.the-variants.{BlockLength, Check, BlockNumber, TermLength, Term, Filler, SideLength, NoAtom, Variables, NetCount, Constants, Rows, NoUnifier, NotListed, LastKey, ShortBuffer, LongValue, WrongSide, OnBothSides}
+use Rattle.numbers.specs.declared.Refusal.the-variants.{BlockLength, Check, BlockNumber, TermLength, Term, Filler, SideLength, NoAtom, Variables, NetCount, Constants, Rows, NoUnifier, NotListed, LastKey, ShortBuffer, WrongSide, OnBothSides}
 use Rattle.numbers.proofs.Laws.{first-member}
 use Rattle.numbers.proofs.Carried.{elsewhere, not-elsewhere, first-given}
 
@@ -39,7 +39,6 @@ beside-other NoUnifier other = nothing other
 beside-other NotListed other = nothing other
 beside-other LastKey other = nothing other
 beside-other ShortBuffer other = nothing other
-beside-other LongValue other = nothing other
 beside-other WrongSide other = nothing other
 beside-other OnBothSides other = nothing other
 

@@ -3,9 +3,10 @@ use Prim.Native.Nat.{ℕ}
 use mathlib.Core.Option.{Option, none, some}
 use Rattle.numbers.specs.Outcome.{Said}
 use Rattle.numbers.specs.declared.Refusal.{Refusal}
-use Rattle.numbers.specs.declared.Refusal.the-variants.{BlockLength, Check, BlockNumber, TermLength, Term, Filler, SideLength, NoAtom, Variables, NetCount, Constants, Rows, NoUnifier, NotListed, LastKey, ShortBuffer, LongValue, WrongSide, OnBothSides}
+use Rattle.numbers.specs.declared.Refusal.the-variants.{BlockLength, Check, BlockNumber, TermLength, Term, Filler, SideLength, NoAtom, Variables, NetCount, Constants, Rows, NoUnifier, NotListed, LastKey, ShortBuffer, WrongSide, OnBothSides}
 
--- the column No. of the table, row by row, and the rows that document 02 adds to it: 18 (R-3)
+-- the column No. of the table, row by row, without 17 (document 02, R-9), and the rows that document 02 adds to it: 18
+-- (R-3) and 19 (R-4)
 abbrev pub numberOf : Refusal → ℕ
 numberOf BlockLength = 1
 numberOf Check = 2
@@ -23,7 +24,6 @@ numberOf NoUnifier = 13
 numberOf NotListed = 14
 numberOf LastKey = 15
 numberOf ShortBuffer = 16
-numberOf LongValue = 17
 numberOf WrongSide = 18
 numberOf OnBothSides = 19
 
@@ -45,7 +45,6 @@ atomOf NoUnifier = none
 atomOf NotListed = none
 atomOf LastKey = none
 atomOf ShortBuffer = none
-atomOf LongValue = none
 atomOf WrongSide = none
 atomOf OnBothSides = none
 

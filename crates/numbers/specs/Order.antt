@@ -1,7 +1,8 @@
 -- Which numbers a question gives, and in which order (document 01, "Numbers given in place of a result"):
 -- "Order: 16 first, then by number. Read gives 1 to 6 and 16; Rows 7 to 12 and 16; Page 7 to 16; Values 7 to
--- 14, 16 and 17. None is given otherwise." Matching has 19 after 8 (document 02, R-4); where 19 is never given, a list
--- with it is as one without it (`whole/proofs/Shared.antt`).
+-- 14, 16 and 17. None is given otherwise." 17 is in no list, since no value is too long (document 02, R-9). Matching has
+-- 19 after 8 (document 02, R-4); where 19 is never given, a list with it is as one without it
+-- (`whole/proofs/Shared.antt`).
 use Prim.Native.Nat.{ℕ}
 use mathlib.Core.List.{List, [], _∷_, _++_}
 
@@ -40,10 +41,6 @@ keyNumbers = 13 ∷ 14 ∷ []
 abbrev pub beginningNumbers : List ℕ
 beginningNumbers = keyNumbers ++ (15 ∷ [])
 
--- the number that the values of a key decide
-abbrev pub lengthNumbers : List ℕ
-lengthNumbers = 17 ∷ []
-
 -- the number that a variable's side decides, where a block is written (document 02, R-3)
 abbrev pub sideNumbers : List ℕ
 sideNumbers = 18 ∷ []
@@ -59,7 +56,7 @@ abbrev pub pageNumbers : List ℕ
 pageNumbers = 16 ∷ (sidesNumbers ++ beginningNumbers)
 
 abbrev pub valuesNumbers : List ℕ
-valuesNumbers = 16 ∷ (sidesNumbers ++ (keyNumbers ++ lengthNumbers))
+valuesNumbers = 16 ∷ (sidesNumbers ++ keyNumbers)
 
 -- Write: "7, 8, then 18 for a variable on the wrong side; 16 first" (document 02, R-3)
 abbrev pub writeNumbers : List ℕ

@@ -5,8 +5,8 @@ pub mod limits;
 ghost use mathlib.Core.Path.{_≡_};
 ghost use Rattle.numbers.specs.Numbers.{numberOf};
 
-// Why a question was refused: a variant for each row of the table, in its order, and then for those that document 02
-// adds. A net count has its atom beside it.
+// Why a question was refused: a variant for each row of the table, in its order, but for 17 (document 02, R-9), and
+// then for those that document 02 adds. A net count has its atom beside it.
 pub enum Refusal {
     BlockLength,
     Check,
@@ -24,7 +24,6 @@ pub enum Refusal {
     NotListed,
     LastKey,
     ShortBuffer,
-    LongValue,
     WrongSide,
     OnBothSides,
 }
@@ -56,7 +55,6 @@ pub fn number(refusal: Refusal) -> u8
         Refusal::NotListed => 14,
         Refusal::LastKey => 15,
         Refusal::ShortBuffer => 16,
-        Refusal::LongValue => 17,
         Refusal::WrongSide => 18,
         Refusal::OnBothSides => 19,
     }

@@ -3,14 +3,12 @@
 // The lines are numbered: 0 is the block's own, then one follows for each key of its page, and the last is what
 // stands after the page. The state of printing is what is printed of the block, which stays, and the number of the
 // next line.
-use buffer::least;
 use lines::put_block_line;
 use lines::put_end_line;
 use lines::put_substitution_line;
 use list::Key;
 use output::Progress;
 use solver::values::ROOM;
-use solver::values::ValuesAnswer;
 use table::Table;
 use tally::Line;
 ghost use mathlib.Core.Path.{_≡_};
@@ -31,7 +29,7 @@ pub struct Listing {
     pub keys: [Key; 200],
 }
 
-// The line of a key, from its values. Of a solved pair no value is too long to be written.
+// The line of a key, from its values.
 fn put_key(table: Table, key: Key, output: &mut [u8], at: usize) -> usize
     requires { ⌜ InRoom table ⌝ }
     requires { ⌜ at + 8192 ≤ length (now output) ⌝ }
@@ -39,12 +37,8 @@ fn put_key(table: Table, key: Key, output: &mut [u8], at: usize) -> usize
     ensures { λ r. ⌜ KeyPut table key (now (output .entry)) at r (now (output .exit)) ⌝ }
 {
     let mut bytes = [0u8; ROOM];
-    let answer = solver::values::write_values(table, key, &mut bytes);
-    let ValuesAnswer::Values { length } = answer else {
-        return at;
-    };
-    let end = least(length, bytes.len());
-    put_substitution_line(output, at, &bytes[..end])
+    let length = solver::values::write_values(table, key, &mut bytes);
+    put_substitution_line(output, at, &bytes[..length])
 }
 
 // How many keys are printed under a block's line: those that Page wrote, and none where there is no page.

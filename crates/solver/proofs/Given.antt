@@ -1,19 +1,19 @@
 -- What the tables of numbers of Rows, Page and Values come to, for groups that are the pair's: 16 first, then
--- the sides' numbers, the list's, and 17.
+-- the sides' numbers, and then the list's.
 use Prim.Native.Nat.{ℕ, _≤_}
 use mathlib.Core.Path.{subst}
-use mathlib.Core.List.{List, [], List·Memᴰ}
+use mathlib.Core.List.{List, List·Memᴰ}
 use lib.ListN.{length}
 use Rattle.ac.specs.Limits.{limits}
 use Rattle.ac.specs.Pair.{Mode}
 use Rattle.ac.specs.Rows.{Groups, GroupsOf}
 use Rattle.ac.specs.Keys.{layout, keys, Beginning, after}
 use Rattle.ac.proofs.Groups.{groups-unique}
-use Rattle.numbers.specs.First.{First, NoneOf, here, end, also}
-use Rattle.numbers.specs.Order.{sidesNumbers, keyNumbers, beginningNumbers, lengthNumbers, pageNumbers, valuesNumbers}
+use Rattle.numbers.specs.First.{First, NoneOf}
+use Rattle.numbers.specs.Order.{sidesNumbers, keyNumbers, beginningNumbers, pageNumbers, valuesNumbers}
 use Rattle.numbers.proofs.Carried.{within-front}
 use Rattle.numbers.proofs.Parts as parts
-use Rattle.numbers.proofs.Parts.{Row, MadeOf, sides-row, list-row, buffer-row, values-row}
+use Rattle.numbers.proofs.Parts.{Row, MadeOf, sides-row, list-row, buffer-row}
 use Rattle.pair.specs.Given.{PairGiven}
 use Rattle.pair.proofs.Laws.{sides-number}
 use Rattle.list.specs.Given.{ListGiven}
@@ -23,13 +23,13 @@ use Rattle.solver.specs.Rows.{rowsBuffer, RowsGiven}
 use Rattle.solver.specs.Rows as rows
 use Rattle.solver.specs.Page.{wantedCount, PageGiven}
 use Rattle.solver.specs.Page as page
-use Rattle.solver.specs.Values.{valuesBuffer, LongValue, ValuesGiven, long-value}
+use Rattle.solver.specs.Values.{valuesBuffer, ValuesGiven}
 use Rattle.solver.specs.Values as values
 
 module _ {M : Mode} {L R : List ℕ} where
   -- each row of Rows' table is the row of the sides or of the buffer
   pub rows-made : {out : List ℕ}
-      → MadeOf (RowsGiven M L R out) (PairGiven limits M L R) (λ n. ⊥) (length out) rowsBuffer ⊥
+      → MadeOf (RowsGiven M L R out) (PairGiven limits M L R) (λ n. ⊥) (length out) rowsBuffer
   rows-made {out} =
       record {
         of-sides = rows.of-the-sides;
@@ -39,7 +39,7 @@ module _ {M : Mode} {L R : List ℕ} where
       }
     where
       row-of : {n : ℕ} → RowsGiven M L R out n
-          → Row (PairGiven limits M L R) (λ n. ⊥) (length out) rowsBuffer ⊥ n
+          → Row (PairGiven limits M L R) (λ n. ⊥) (length out) rowsBuffer n
       row-of (rows.of-the-sides given) = sides-row (sides-number given) given
       row-of (rows.short-buffer short) = buffer-row short
 
@@ -53,7 +53,7 @@ module _ {M : Mode} {L R : List ℕ} where
     -- each row of Page's table is the row of the sides, of the list or of the buffer
     pub page-made : {begin : Beginning} {wanted : ℕ} {out : List ℕ}
         → MadeOf (PageGiven M L R begin wanted out) (PairGiven limits M L R)
-        (ListGiven (keys M layout L R G) begin) (length out) (wantedCount wanted) ⊥
+        (ListGiven (keys M layout L R G) begin) (length out) (wantedCount wanted)
     page-made {begin} {wanted} {out} =
         record {
           of-sides = page.of-the-sides;
@@ -64,16 +64,15 @@ module _ {M : Mode} {L R : List ℕ} where
       where
         row-of : {n : ℕ} → PageGiven M L R begin wanted out n
             → Row (PairGiven limits M L R) (ListGiven (keys M layout L R G) begin) (length out)
-            (wantedCount wanted) ⊥ n
+            (wantedCount wanted) n
         row-of (page.of-the-sides given) = sides-row (sides-number given) given
         row-of (page.of-the-list other given) = list-row (list-number given) (same-list other given)
         row-of (page.short-buffer short) = buffer-row short
 
-    -- each row of Values' table is the row of the sides, of the list, of the buffer or of the values
+    -- each row of Values' table is the row of the sides, of the list or of the buffer
     pub values-made : {key : ℕ} {out : List ℕ}
         → MadeOf (ValuesGiven M L R key out) (PairGiven limits M L R)
         (ListGiven (keys M layout L R G) (after key)) (length out) valuesBuffer
-        (LongValue M L R G key)
     values-made {key} {out} =
         record {
           of-sides = values.of-the-sides;
@@ -83,13 +82,10 @@ module _ {M : Mode} {L R : List ℕ} where
         }
       where
         row-of : {n : ℕ} → ValuesGiven M L R key out n
-            → Row (PairGiven limits M L R) (ListGiven (keys M layout L R G) (after key)) (length out) valuesBuffer
-            (LongValue M L R G key) n
+            → Row (PairGiven limits M L R) (ListGiven (keys M layout L R G) (after key)) (length out) valuesBuffer n
         row-of (values.of-the-sides given) = sides-row (sides-number given) given
         row-of (values.of-the-list other given) = list-row (list-number given) (same-list other given)
         row-of (values.short-buffer short) = buffer-row short
-        row-of (long-value other long) =
-            values-row (subst (λ H. LongValue M L R H key) (groups-unique M L R other groups) long)
 
     -- Page's numbers that the list decides are given where the list gives them
     pub page-given : {begin : Beginning} {wanted : ℕ} {out : List ℕ} {n : ℕ} → List·Memᴰ n beginningNumbers
@@ -102,25 +98,17 @@ module _ {M : Mode} {L R : List ℕ} where
       module _ {begin : Beginning} {wanted : ℕ} {out : List ℕ} (enough : wantedCount wanted ≤ length out) where
         pub page-first : {n : ℕ} → First (ListGiven (keys M layout L R G) begin) beginningNumbers n
             → First (PageGiven M L R begin wanted out) pageNumbers n
-        page-first first = parts.first-of-list page-made enough none (λ n m. m) [] first
+        page-first first = parts.first-of-list page-made enough none (λ n m. m) first
 
         pub page-none : NoneOf (ListGiven (keys M layout L R G) begin) beginningNumbers
             → NoneOf (PageGiven M L R begin wanted out) pageNumbers
-        page-none nothing = parts.none-at-all page-made enough none (λ n m. m) [] nothing end
+        page-none nothing = parts.none-of-list page-made enough none (λ n m. m) nothing
 
-      -- and so is that of Values, or it is 17
+      -- and so is that of Values
       module _ {key : ℕ} {out : List ℕ} (enough : valuesBuffer ≤ length out) where
         pub values-first : {n : ℕ} → First (ListGiven (keys M layout L R G) (after key)) keyNumbers n
             → First (ValuesGiven M L R key out) valuesNumbers n
-        values-first first = parts.first-of-list values-made enough none (within-front _) lengthNumbers first
+        values-first first = parts.first-of-list values-made enough none (within-front _) first
 
-        module _ (listed : List·Memᴰ key (keys M layout L R G)) where
-          pub values-long : LongValue M L R G key → First (ValuesGiven M L R key out) valuesNumbers 17
-          values-long long =
-              parts.first-of-others values-made enough none (within-front _) lengthNumbers (not-refused listed)
-              (here (long-value groups long))
-
-          pub values-none : (LongValue M L R G key → ⊥) → NoneOf (ValuesGiven M L R key out) valuesNumbers
-          values-none short =
-              parts.none-at-all values-made enough none (within-front _) lengthNumbers (not-refused listed)
-              (also (λ given. short (parts.given-length values-made given)) end)
+        pub values-none : List·Memᴰ key (keys M layout L R G) → NoneOf (ValuesGiven M L R key out) valuesNumbers
+        values-none listed = parts.none-of-list values-made enough none (within-front _) (not-refused listed)

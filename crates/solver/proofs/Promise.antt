@@ -21,8 +21,7 @@ use Rattle.numbers.specs.First.{First, NoneOf}
 use Rattle.numbers.specs.Order.{sidesNumbers, beginningNumbers}
 use Rattle.numbers.specs.Outcome.{Outcome, refused, given, is-refused, is-given}
 use Rattle.numbers.specs.declared.Refusal.{Refusal}
-use Rattle.numbers.specs.declared.Refusal.the-variants.{LongValue as TooLong}
-use Rattle.numbers.proofs.Said.{refuses-carried, refuses-alone, refuses-other}
+use Rattle.numbers.proofs.Said.{refuses-carried, refuses-alone}
 use Rattle.numbers.proofs.Parts.{none-of-sides}
 use Rattle.pair.specs.Given.{PairGiven}
 use Rattle.table.specs.Table.{TableOf, groupsIn}
@@ -39,14 +38,14 @@ use Rattle.list.proofs.Finding.{told-listed, told-refused}
 use Rattle.solver.specs.Rows.{rowsBuffer, sizesAs, size, sizesOf, allRows, bytesOf, RowsPromise}
 use Rattle.solver.specs.Rows as its-rows
 use Rattle.solver.specs.Page.{wantedCount, PageWritten, keysWeighed, pageWritten, PagePromise, next}
-use Rattle.solver.specs.Values.{valuesBuffer, ValuesPromise}
+use Rattle.solver.specs.Values.{valuesBuffer, ValuesPromise, valuesOf}
 use Rattle.solver.specs.Values as its-values
 use Rattle.solver.specs.Count.{CountPromise, as-listed}
-use Rattle.solver.specs.Steps.{SettledOf, to-refuse, to-answer, KeysWritten, WritesValues, too-long, fits, WeighedUpto}
+use Rattle.solver.specs.Steps.{SettledOf, to-refuse, to-answer, KeysWritten, WritesValues, WeighedUpto}
 use Rattle.solver.specs.declared.page.WrittenKeys.{WrittenKeys}
 use Rattle.solver.specs.declared.page.Settled.{Settled}
 use Rattle.solver.specs.declared.page.Settled.the-variants.{FirstKey, Refused}
-use Rattle.solver.proofs.Given.{rows-made, page-first, page-none, values-first, values-long, values-none}
+use Rattle.solver.proofs.Given.{rows-made, page-first, page-none, values-first, values-none}
 
 -- the cases of what is settled
 settled-refusal : {listed : List ℕ} {begin : Beginning} {why : Refusal} → SettledOf listed begin (Refused why)
@@ -147,17 +146,12 @@ module _ {M : Mode} {L R : List ℕ} {t : Table} (of : TableOf M L R t)
         is-refused (refuses-carried (values-first (of .the-groups) none enough)
         (refuses-alone refl why (told-refused told e)))
 
-    -- of a listed key 17, or its values
-    pub values-promised : found ≡ lookup.Listed → {outcome : Outcome ℕ} {out′ : List ℕ}
-        → (List·Memᴰ key (keys M layout L R (groupsIn t)) → WritesValues M L R (groupsIn t) key out outcome out′)
-        → ValuesPromise M L R key out outcome out′
-    values-promised e writes = go (writes (told-listed told e))
-      where
-        go : {outcome : Outcome ℕ} {out′ : List ℕ} → WritesValues M L R (groupsIn t) key out outcome out′
-            → ValuesPromise M L R key out outcome out′
-        go (too-long long) =
-            is-refused (refuses-other TooLong refl
-            (values-long (of .the-groups) none enough (told-listed told e) long))
-        go (fits short) =
-            is-given (values-none (of .the-groups) none enough (told-listed told e) short)
-            (its-values.values (of .the-groups))
+    -- of a listed key its values
+    pub values-promised : found ≡ lookup.Listed → {n : ℕ} {out′ : List ℕ}
+        → (List·Memᴰ key (keys M layout L R (groupsIn t)) → WritesValues (valuesOf M L R (groupsIn t) key) out n out′)
+        → ValuesPromise M L R key out (given n) out′
+    values-promised e writes =
+        let listed = told-listed told e in
+        let written = writes listed in
+        subst₂ (λ n b. ValuesPromise M L R key out (given n) b) (sym (written .the-length)) (sym (written .the-buffer))
+        (is-given (values-none (of .the-groups) none enough listed) (its-values.values (of .the-groups)))

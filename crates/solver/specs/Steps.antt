@@ -16,7 +16,6 @@ use Rattle.numbers.specs.First.{First, NoneOf}
 use Rattle.numbers.specs.Order.{sidesNumbers, beginningNumbers}
 use Rattle.numbers.specs.Outcome.{Outcome, refused, given}
 use Rattle.numbers.specs.declared.Refusal.{Refusal}
-use Rattle.numbers.specs.declared.Refusal.the-variants.{LongValue as TooLong}
 use Rattle.pair.specs.Given.{PairGiven}
 use Rattle.table.specs.Table.{TableOf, groupsIn}
 use Rattle.table.specs.Masks.{MasksOf}
@@ -26,7 +25,7 @@ use Rattle.list.specs.Given.{ListGiven}
 use Rattle.list.specs.List.{OfItsPair}
 use Rattle.solver.specs.Rows.{GroupSizes, RowsPromise}
 use Rattle.solver.specs.Page.{PageWritten, beginningOf, PagePromise}
-use Rattle.solver.specs.Values.{LongValue, valuesOf, ValuesPromise}
+use Rattle.solver.specs.Values.{valuesOf, ValuesPromise}
 use Rattle.solver.specs.Count.{CountPromise}
 use Rattle.solver.specs.declared.page.PageRequest.{PageRequest}
 use Rattle.solver.specs.declared.page.Settled.{Settled}
@@ -80,14 +79,13 @@ WeighedUpto masks begin last count =
     ((k : ℕ) → begin ≡ after k → Candidate layout (groupsIn table) k) → Candidate layout (groupsIn table) last
     → count ≡ weighed begin (last ∷ []) (candidates M layout (groupsIn table)))
 
--- Of a listed key: 17 where a value would be too long, else the values are written and their length is told.
-pub data WritesValues (M : Mode) (L R : List ℕ) (G : Groups) (key : ℕ) (out : List ℕ) : Outcome ℕ → List ℕ
-    → Type 0 where
-  too-long : LongValue M L R G key → WritesValues M L R G key out (refused (saidOf TooLong)) out
-  fits : (LongValue M L R G key → ⊥)
-      → WritesValues M L R G key out (given (length (valuesOf M L R G key))) (receives out (valuesOf M L R G key))
+-- the values are written, and it is told how long they are
+pub record WritesValues (values : List ℕ) (out : List ℕ) (length′ : ℕ) (out′ : List ℕ) : Type 0 where
+  pub the-length : length′ ≡ length values
+  pub the-buffer : out′ ≡ receives out values
 
-abbrev pub ValuesWritten : Table → ℕ → List ℕ → Outcome ℕ → List ℕ → Type 0
-ValuesWritten table key out outcome out′ =
+-- so it is of a listed key
+abbrev pub ValuesWritten : Table → ℕ → List ℕ → ℕ → List ℕ → Type 0
+ValuesWritten table key out length′ out′ =
     OfItsPair table (λ M L R. List·Memᴰ key (keys M layout L R (groupsIn table))
-    → WritesValues M L R (groupsIn table) key out outcome out′)
+    → WritesValues (valuesOf M L R (groupsIn table) key) out length′ out′)

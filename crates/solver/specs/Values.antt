@@ -1,6 +1,6 @@
 -- The question Values (document 01, "The questions"): which numbers it gives, and what it promises.
 use Prim.Native.Nat.{ℕ, _+_, _*_, _<_}
-use mathlib.Core.List.{List, List·Memᴰ}
+use mathlib.Core.List.{List}
 use lib.ListN.{length}
 use Rattle.ac.specs.Lists.{receives}
 use Rattle.ac.specs.Limits.{limits}
@@ -17,19 +17,14 @@ use Rattle.list.specs.Given.{ListGiven}
 use Rattle.solver.specs.declared.values.ValuesAnswer.{ValuesAnswer}
 use Rattle.solver.specs.declared.values.ValuesAnswer.the-variants.{Values, Refused}
 
--- the most atoms that a value may have
+-- Within the limits no value has more than 160 atoms (document 02, R-9): a selection takes a row of each unbalanced
+-- constant and any balanced rows, and each names its atom at most as often as a net count may be far from 0.
 abbrev pub longestValue : ℕ
-longestValue = 200
+longestValue = limits .net-count * (limits .constants + limits .balanced-rows)
 
--- a lent buffer of at least 1,212 bytes: for each variable its byte, a byte count and the atoms
+-- a lent buffer of at least 972 bytes: for each variable its byte, a byte count and the atoms
 abbrev pub valuesBuffer : ℕ
 valuesBuffer = limits .variables * (2 + longestValue)
-
--- a variable of the pair would have a value of more than 200 atoms
-pub record LongValue (M : Mode) (L R : List ℕ) (G : Groups) (key : ℕ) : Type 0 where
-  pub variable : ℕ
-  pub of-the-pair : List·Memᴰ variable (variables M L R)
-  pub long : longestValue < length (value M (layout .new) L R G (selectionAt layout G key) variable)
 
 -- The rows of the table that Values gives: when each number is given, whatever else is wrong.
 pub data ValuesGiven (M : Mode) (L R : List ℕ) (key : ℕ) (out : List ℕ) : ℕ → Type 0 where
@@ -40,8 +35,6 @@ pub data ValuesGiven (M : Mode) (L R : List ℕ) (key : ℕ) (out : List ℕ) : 
       → ValuesGiven M L R key out n
   -- a lent buffer is too short
   short-buffer : length out < valuesBuffer → ValuesGiven M L R key out 16
-  -- a value would have more than 200 atoms
-  long-value : {G : Groups} → GroupsOf M L R G → LongValue M L R G key → ValuesGiven M L R key out 17
 
 -- document 01's number and values for each case of the answer: the length is returned
 abbrev pub toldValues : ValuesAnswer → Outcome ℕ

@@ -8,6 +8,9 @@ use list::selection_of;
 use list::times;
 use numbers::Refusal;
 use numbers::Verdict;
+use numbers::limits::BALANCED_ROWS;
+use numbers::limits::CONSTANTS;
+use numbers::limits::NET_COUNT;
 use numbers::limits::VARIABLES;
 use pair::ways::Way;
 use table::ROWS;
@@ -15,23 +18,24 @@ use table::Table;
 use table::masks::masks_of;
 use table::solve;
 ghost use mathlib.Core.Path.{_≡_};
-ghost use mathlib.Core.Bool.{false};
 ghost use mathlib.Core.List.{_∷_};
 ghost use Prim.Native.Nat.{_+_, _≤_, _<_};
 ghost use lib.ListN.{length};
 ghost use Rattle.ac.specs.Limits.{limits};
+ghost use Rattle.ac.specs.Lists.{NoneAbove};
 ghost use Rattle.ac.specs.Pair.{unifying, matching};
 ghost use Rattle.pair.specs.Ways.{modeOf};
 ghost use Rattle.ac.specs.Values.{laidOut};
 ghost use Rattle.buffer.specs.Put.{Put};
 ghost use Rattle.table.specs.Table.{InRoom};
 ghost use Rattle.list.specs.Runs.{Fit, runCount, atomOf, atomsAt, lengthAt};
-ghost use Rattle.solver.specs.Bindings.{tooLong, bindingsBelow};
+ghost use Rattle.solver.specs.Bindings.{bindingsBelow};
 ghost use Rattle.solver.specs.Values.{longestValue, valuesBuffer, toldValues, ValuesPromise};
 ghost use Rattle.solver.specs.Steps.{ValuesWritten, ValuesOfTable};
 
-// A value has at most 200 atoms.
-pub const LONGEST: usize = 200;
+// No value has more than 160 atoms: each row that is taken names its atom at most as often as a net count may be
+// far from 0.
+pub const LONGEST: usize = NET_COUNT as usize * (CONSTANTS + BALANCED_ROWS);
 
 // The first new variable's byte.
 pub const NEW: u8 = 192;
@@ -70,21 +74,6 @@ fn value_length(rows: &[u8; ROWS], selection: KeyedSelection, place: usize) -> u
         run += 1;
     }
     length
-}
-
-// Whether a value would have more than 200 atoms.
-fn too_long(rows: &[u8; ROWS], places: usize, selection: KeyedSelection) -> bool
-    requires { ⌜ Fit selection × (places ≤ limits .variables) ⌝ }
-    ensures { λ r. ⌜ r ≡ tooLong (now (rows .entry)) places selection ⌝ }
-{
-    let mut place = 0;
-    while place < places {
-        if LONGEST < value_length(rows, selection, place) {
-            return true;
-        }
-        place += 1;
-    }
-    false
 }
 
 // The atoms of the value at the place: that of each run, as often as the run names it.
@@ -139,7 +128,7 @@ fn put_bindings(
     out: &mut [u8],
 ) -> usize
     requires { ⌜ Fit selection × (places ≤ limits .variables) ⌝ }
-    requires { ⌜ tooLong (now rows) places selection ≡ false ⌝ }
+    requires { ⌜ NoneAbove (limits .net-count) (now rows) ⌝ }
     requires { ⌜ valuesBuffer ≤ length (now out) ⌝ }
     ensures { λ r. ⌜ Put (now (out .entry)) 0
         (laidOut (bindingsBelow (now (variables .entry)) (atomsAt (now (rows .entry)) selection) places)) r (now (out .exit)) ⌝ }
@@ -154,22 +143,19 @@ fn put_bindings(
     next
 }
 
-// The values of a key on the list, unless one would be too long.
-pub fn write_values(table: Table, key: Key, out: &mut [u8]) -> ValuesAnswer
+// The values of a key on the list, and how long they are.
+pub fn write_values(table: Table, key: Key, out: &mut [u8]) -> usize
     requires { ⌜ InRoom table ⌝ }
     requires { ⌜ valuesBuffer ≤ length (now out) ⌝ }
-    ensures { λ r. ⌜ ValuesWritten table key (now (out .entry)) (toldValues r) (now (out .exit)) ⌝ }
+    ensures { λ r. ⌜ ValuesWritten table key (now (out .entry)) r (now (out .exit)) ⌝ }
+    ensures { λ r. ⌜ r ≤ valuesBuffer ⌝ }
 {
     let selection = selection_of(table, key);
-    if too_long(&table.rows, table.places, selection) {
-        return ValuesAnswer::Refused(Refusal::LongValue);
-    }
     let variables = table.variables;
-    let length = put_bindings(&table.rows, &variables, table.places, selection, out);
-    ValuesAnswer::Values { length }
+    put_bindings(&table.rows, &variables, table.places, selection, out)
 }
 
-// Values of a solved pair: 16, 13, 14, 17 or the values.
+// Values of a solved pair: 16, 13, 14 or the values.
 pub fn values_of(table: Table, key: Key, out: &mut [u8]) -> ValuesAnswer
     requires { ⌜ InRoom table ⌝ }
     ensures { λ r. ⌜ ValuesOfTable table key (now (out .entry)) (toldValues r) (now (out .exit)) ⌝ }
@@ -181,7 +167,9 @@ pub fn values_of(table: Table, key: Key, out: &mut [u8]) -> ValuesAnswer
     let found = find_key(masks, key);
     match found {
         Lookup::Refused(refusal) => ValuesAnswer::Refused(refusal),
-        Lookup::Listed => write_values(table, key, out),
+        Lookup::Listed => ValuesAnswer::Values {
+            length: write_values(table, key, out),
+        },
     }
 }
 

@@ -1,9 +1,9 @@
 -- Pairs that are alike get the same answers from Rows, Page and Values (document 02, R-6), and from Count (R-7):
 -- `alike-answers`. What meets a promise on the one pair meets it on the other: `rows-carried`, `page-carried`,
 -- `values-carried`, `count-carried`.
-use Prim.Native.Nat.{ℕ, _<_}
+use Prim.Native.Nat.{ℕ}
 use mathlib.Core.Path.{_≡_, sym, ap, subst, subst₂}
-use mathlib.Core.List.{List, List·Memᴰ}
+use mathlib.Core.List.{List}
 use lib.ListN.{length}
 use Rattle.ac.specs.Lists.{receives}
 use Rattle.ac.specs.Limits.{limits}
@@ -23,7 +23,7 @@ use Rattle.solver.specs.Rows.{GroupSizes, toldRows, RowsGiven, RowsGives, RowsP
 use Rattle.solver.specs.Rows as of-rows
 use Rattle.solver.specs.Page.{PageGiven, PageWritten, toldPage, PageGives, PagePromise, next, wantedCount}
 use Rattle.solver.specs.Page as of-page
-use Rattle.solver.specs.Values.{LongValue, longestValue, toldValues, ValuesGiven, ValuesGives, ValuesPromise, valuesOf, values}
+use Rattle.solver.specs.Values.{toldValues, ValuesGiven, ValuesGives, ValuesPromise, valuesOf, values}
 use Rattle.solver.specs.Values as of-values
 use Rattle.solver.specs.Count.{toldCount, CountGives, CountPromise, as-listed}
 use Rattle.solver.specs.declared.rows.RowsAnswer.{RowsAnswer}
@@ -33,7 +33,7 @@ use Rattle.solver.specs.declared.count.CountAnswer.{CountAnswer}
 use Rattle.solver.proofs.Determined.{one-rows, one-page, one-values, one-count, rows-determined, page-determined, values-determined, count-determined}
 use Rattle.whole.specs.Alike.{Alike, SameAnswers}
 use Rattle.whole.proofs.Alike.{alike-symmetric, lowest-alike}
-use Rattle.whole.proofs.AlikeGroups.{groups-carried, keys-alike, candidates-alike, value-alike, pair-given-alike}
+use Rattle.whole.proofs.AlikeGroups.{groups-carried, keys-alike, candidates-alike, pair-given-alike}
 
 -- ---- the numbers that a question gives of the one pair it gives of the other
 
@@ -54,22 +54,11 @@ module _ {M M′ : Mode} {L R L′ R′ : List ℕ} (alike : Alike limits M L R 
       of-page.of-the-list (groups-carried alike of) (list-given G given)
   page-given (of-page.short-buffer short) = of-page.short-buffer short
 
-  -- a value that is too long in the one pair is so in the other
-  long-carried : {G : Groups} {key : ℕ} → LongValue M L R G key → LongValue M′ L′ R′ G key
-  long-carried {G} {key} value =
-      record {
-        variable = value .variable;
-        of-the-pair = subst (List·Memᴰ (value .variable)) (alike .same-variables) (value .of-the-pair);
-        long = subst (λ (atoms : List ℕ). longestValue < length atoms)
-            (value-alike alike (layout .new) G (selectionAt layout G key) (value .variable)) (value .long);
-      }
-
   values-given : {key : ℕ} {out : List ℕ} {n : ℕ} → ValuesGiven M L R key out n → ValuesGiven M′ L′ R′ key out n
   values-given (of-values.of-the-sides given) = of-values.of-the-sides (pair-given-alike alike _ .0 given)
   values-given (of-values.of-the-list {G = G} of given) =
       of-values.of-the-list (groups-carried alike of) (list-given G given)
   values-given (of-values.short-buffer short) = of-values.short-buffer short
-  values-given (of-values.long-value of long) = of-values.long-value (groups-carried alike of) (long-carried long)
 
   -- ---- and so are its results
 

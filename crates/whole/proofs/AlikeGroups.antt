@@ -1,5 +1,4 @@
--- Pairs that are alike have the same groups, the same list, and for each key the same values; and the same of the
--- numbers 7 to 12 and 19 are given.
+-- Pairs that are alike have the same groups and the same list; and the same of the numbers 7 to 12 and 19 are given.
 use Prim.Native.Nat.{ℕ, _<_}
 use mathlib.Core.Path.{_≡_, refl, sym, ap, ap₂, subst, _∙_, fun-ext}
 use mathlib.Core.Logic.{_↔_}
@@ -11,7 +10,7 @@ use Rattle.ac.specs.Lists.{filter}
 use Rattle.ac.specs.Limits.{Limits}
 use Rattle.ac.specs.Pair.{Mode, net, variables}
 use Rattle.ac.specs.Rows.{weigh, weight, BalancedRow, RowOf, Groups, GroupsOf}
-use Rattle.ac.specs.Selection.{Selection, taken, allReached, allTaken, valueAt, placeOf, value}
+use Rattle.ac.specs.Selection.{Selection, taken, allReached, allTaken}
 use Rattle.ac.specs.Keys.{Layout, keyOf, selections, keys}
 use Rattle.ac.specs.Weighed.{candidates}
 use Rattle.ac.proofs.Vectors.{least-same, exactly-same}
@@ -110,10 +109,6 @@ module _ {limits : Limits} {M M′ : Mode} {L R L′ R′ : List ℕ} (alike : A
   candidates-alike lay G =
       ap (λ empties. map (keyOf lay)
       (filter (λ s. elim empties [ true ↦ allTaken (s .takes) | false ↦ true ]) (selections G))) (alike .same-emptying)
-
-  -- A variable's value is the same in every selection.
-  pub value-alike : (new : ℕ) (G : Groups) (s : Selection) (x : ℕ) → value M new L R G s x ≡ value M′ new L′ R′ G s x
-  value-alike new G s x = ap (λ xs. valueAt (taken new G s) (placeOf x xs)) (alike .same-variables)
 
 -- ---- the numbers
 

@@ -67,7 +67,7 @@ module _ {M : Mode} {L R : List ℕ} {atom : ℕ} where
   pub values-ten : {key : ℕ} {out out′ : List ℕ} {outcome : Outcome ℕ} → ValuesPromise M L R key out outcome out′
       → (outcome ≡ refused (saidOf (NetCount atom)))
       ↔ (NoneOf (ValuesGiven M L R key out) beforeTen × LowestFar limits L R atom)
-  values-ten = ten-exactly (11 ∷ 12 ∷ 13 ∷ 14 ∷ 17 ∷ []) its-values.of-the-sides one-values
+  values-ten = ten-exactly (11 ∷ 12 ∷ 13 ∷ 14 ∷ []) its-values.of-the-sides one-values
 
 -- "Its number alone" for every other number.
 module _ {M : Mode} {L R : List ℕ} {said : Said} (not-ten : said .number ≡ 10 → ⊥) where

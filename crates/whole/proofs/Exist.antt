@@ -28,7 +28,6 @@ use Rattle.solver.proofs.Existence.{unifier-listed, page-existence}
 use Rattle.solver.proofs.Pages.{pages-hold-the-list}
 use Rattle.solver.specs.Values.{valuesBuffer, values}
 use Rattle.whole.specs.Whole.{ValuesAsked, no-more, one-more}
-use Rattle.whole.proofs.Short.{not-long}
 
 -- a buffer of n places
 abbrev room : ℕ → List ℕ
@@ -62,7 +61,7 @@ module _ {M : Mode} {L R : List ℕ} (none : NoneOf (PairGiven limits M L R) sid
       let others = all-answered asked (λ other m. listed other (List·Memᴰ·tail m)) in (
         _,
         one-more {out = room valuesBuffer}
-            (is-given (values-none of none (room-enough valuesBuffer) m (not-long none of m)) (values of))
+            (is-given (values-none of none (room-enough valuesBuffer) m) (values of))
             (others .1),
       )
 

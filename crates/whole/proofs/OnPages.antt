@@ -3,7 +3,7 @@
 -- `never-empty`. A page that is given has at least one key, and so a last one (`last-key`). What is written at a
 -- place of the buffer stands on the page (`stands-on-page`).
 -- `key-answered`. Values answers a key that stands on a page, whatever the page's beginning and count, if its
--- lent buffer is long enough. So none of its numbers but 16 is given of such a key, 17 among them.
+-- lent buffer is long enough. So none of its numbers but 16 is given of such a key.
 -- `asked-on`. Where more follow, Page asked for after the last key gives a page if its lent buffer is long
 -- enough; so 16 is the only number that it gives there (`refused-by-16-alone`).
 --
@@ -45,7 +45,6 @@ use Rattle.solver.proofs.Determined.{one-page, one-values}
 use Rattle.solver.proofs.Given.{page-made, page-none, values-none}
 use Rattle.solver.proofs.Limits.{within-limits, sides-give-none}
 use Rattle.solver.proofs.Pages.{page-written}
-use Rattle.whole.proofs.Short.{not-long}
 
 -- a list that is not empty has a front that is not
 some-taken : (n : ℕ) (xs : List ℕ) → 0 < n → (xs ≡ [] → ⊥) → 0 < length (take n xs)
@@ -128,11 +127,10 @@ module _ {M : Mode} {L R : List ℕ} {begin : Beginning} {wanted : ℕ} {answer 
       → valuesBuffer ≤ length lent → {outcome : Outcome ℕ}
       → ValuesPromise M L R key lent outcome lent′ → (n : ℕ) × (outcome ≡ given n)
   key-answered m enough promise =
-      let of = groups-exist M L R in
-      let short = not-long none-of-sides of (on-list m) in (
+      let of = groups-exist M L R in (
         _,
         outcome-determined one-values promise
-            (is-given (values-none of none-of-sides enough (on-list m) short) (values of)) .0,
+            (is-given (values-none of none-of-sides enough (on-list m)) (values of)) .0,
       )
 
 module _ {M : Mode} {L R : List ℕ} {begin : Beginning} {wanted : ℕ} {answer : PageWritten} {out out′ : List ℕ}

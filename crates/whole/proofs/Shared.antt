@@ -108,7 +108,7 @@ module _ {L R : List ℕ} where
       → ValuesPromise (matching L) L R key out outcome out′
       → (outcome ≡ refused (saidOf why.OnBothSides))
       ↔ (NoneOf (ValuesGiven (matching L) L R key out) beforeNineteen × OnBothSides L R)
-  values-nineteen = nineteen-exactly values-of-sides refl (9 ∷ 10 ∷ 11 ∷ 12 ∷ 13 ∷ 14 ∷ 17 ∷ []) one-values
+  values-nineteen = nineteen-exactly values-of-sides refl (9 ∷ 10 ∷ 11 ∷ 12 ∷ 13 ∷ 14 ∷ []) one-values
 
 module _ {M : Mode} (shared : M .separate ≡ false) {L R : List ℕ} where
   pub rows-without-19 : {out out′ : List ℕ} {outcome : Outcome GroupSizes}
@@ -127,9 +127,9 @@ module _ {M : Mode} (shared : M .separate ≡ false) {L R : List ℕ} where
   pub values-without-19 : {key : ℕ} {out out′ : List ℕ} {outcome : Outcome ℕ}
       → ValuesPromise M L R key out outcome out′
       ↔ Promise (ValuesGiven M L R key out) (LowestFar limits L R)
-      (16 ∷ 7 ∷ 8 ∷ 9 ∷ 10 ∷ 11 ∷ 12 ∷ 13 ∷ 14 ∷ 17 ∷ []) (ValuesGives M L R key out) out outcome out′
+      (16 ∷ 7 ∷ 8 ∷ 9 ∷ 10 ∷ 11 ∷ 12 ∷ 13 ∷ 14 ∷ []) (ValuesGives M L R key out) out outcome out′
   values-without-19 =
-      never-given-dropped 19 (never values-of-sides shared) beforeNineteen (9 ∷ 10 ∷ 11 ∷ 12 ∷ 13 ∷ 14 ∷ 17 ∷ [])
+      never-given-dropped 19 (never values-of-sides shared) beforeNineteen (9 ∷ 10 ∷ 11 ∷ 12 ∷ 13 ∷ 14 ∷ [])
 
   pub count-without-19 : {outcome : Outcome ℕ}
       → CountPromise M L R outcome

@@ -25,7 +25,7 @@ use Rattle.numbers.specs.First.{First, NoneOf, here}
 use Rattle.numbers.proofs.Carried.{first-after, first-given, first-past, its-member}
 use Rattle.numbers.proofs.Parts.{given-list}
 use Rattle.numbers.specs.Numbers.{saidOf}
-use Rattle.numbers.specs.Order.{rowsNumbers, keyNumbers, beginningNumbers, lengthNumbers, valuesNumbers}
+use Rattle.numbers.specs.Order.{rowsNumbers, keyNumbers, beginningNumbers, valuesNumbers}
 use Rattle.numbers.specs.Outcome.{Outcome, refused, is-refused}
 use Rattle.numbers.specs.declared.Refusal.the-variants.{NoUnifier}
 use Rattle.numbers.proofs.Promises.{refused-first, outcome-determined}
@@ -82,7 +82,7 @@ module _ {M : Mode} {L R : List ℕ} {key : ℕ} {out : List ℕ} where
   first-13 : First (ValuesGiven M L R key out) valuesNumbers 13
       → NoneOf (ValuesGiven M L R key out) rowsNumbers × NoneUnifies M L R
   first-13 first =
-      let none = first-past rowsNumbers (keyNumbers ++ lengthNumbers) refl first in
+      let none = first-past rowsNumbers keyNumbers refl first in
       let of = groups-exist M L R in (
         none,
         empty-none (fine-sides none) of

@@ -37,7 +37,6 @@ use Rattle.solver.proofs.Determined.{one-rows, one-page, one-values}
 use Rattle.solver.proofs.Given.{rows-made, page-first, page-none, values-none}
 use Rattle.solver.proofs.Limits.{within-limits}
 use Rattle.solver.specs.Values.{values, valuesOf}
-use Rattle.whole.proofs.Short.{not-long}
 use Rattle.worked.specs.Questions.{pageQuestion}
 use Rattle.worked.specs.Answers.{Answers, pageOf, RowsAnswers, PageAnswers, ValuesAnswers, ValuesGiveInTurn}
 use Rattle.worked.specs.Answers as turn
@@ -93,12 +92,11 @@ module _ {L R : List ℕ} {G : Groups}
   page-of-list (key ∷ others) e few out enough =
       page-from start (λ k same. absurd (start-not-after same)) key others e few out enough
 
-  -- a listed key has its values, since none is long
+  -- a listed key has its values
   pub values-of-key : (key : ℕ) → List·Memᴰ key (keys unifying layout L R G)
       → ValuesAnswers L R key (valuesOf unifying L R G key)
   values-of-key key listed-key out enough =
-      let met = is-given (values-none groups nothing enough listed-key (not-long nothing groups listed-key))
-      (values groups) in
+      let met = is-given (values-none groups nothing enough listed-key) (values groups) in
       record { meets = met; alone = λ other exit p. outcome-determined one-values p met }
 
   -- the groups are within the limits of a key

@@ -8,6 +8,7 @@ pub mod Wrong
 pub mod WrongReads
 pub mod WrongRows
 pub mod WrongPages
+pub mod Buffers
 pub mod Weighed
 pub mod WrongValues
 pub mod WrongTallies

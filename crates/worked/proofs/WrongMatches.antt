@@ -30,7 +30,6 @@ use Rattle.solver.specs.Page.{next}
 use Rattle.solver.specs.Values.{valuesBuffer, values}
 use Rattle.solver.proofs.Determined.{one-rows, one-page, one-values}
 use Rattle.solver.proofs.Given.{rows-made, page-none, values-none}
-use Rattle.whole.proofs.Short.{not-long}
 use Rattle.worked.specs.Questions.{SidesAsked, Request, rowsQuestionBy, pageQuestionBy, valuesQuestionBy}
 use Rattle.worked.specs.Answers.{Answers}
 use Rattle.worked.specs.Programs.{Program, MeetsAt, RefusesEverything, ConstantResult, WritesNothing}
@@ -81,7 +80,7 @@ pub values-of-match : (out : List ℕ) → valuesBuffer ≤ length out
     (receives out (0 ∷ 1 ∷ 33 ∷ 1 ∷ 2 ∷ 32 ∷ 32 ∷ []))
 values-of-match out enough =
     let listed = List·Memᴰ·head refl in
-    let met = is-given (values-none of nothing enough listed (not-long nothing of listed)) (values of) in
+    let met = is-given (values-none of nothing enough listed) (values of) in
     record { meets = met; alone = λ other exit p. outcome-determined one-values p met }
 
 -- v0+c0 and v0+c1: v0 stands on both sides, so it is 19

@@ -17,7 +17,7 @@ use Rattle.tally.proofs.refused_line.Tie as tie
 
 -- the refusals that are neither 10 nor 13, by their places in the enum
 abbrev others : List ℕ
-others = 0 ∷ 1 ∷ 2 ∷ 3 ∷ 4 ∷ 5 ∷ 6 ∷ 7 ∷ 8 ∷ 10 ∷ 11 ∷ 13 ∷ 14 ∷ 15 ∷ 16 ∷ 17 ∷ 18 ∷ []
+others = 0 ∷ 1 ∷ 2 ∷ 3 ∷ 4 ∷ 5 ∷ 6 ∷ 7 ∷ 8 ∷ 10 ∷ 11 ∷ 13 ∷ 14 ∷ 15 ∷ 16 ∷ 17 ∷ []
 
 -- each of them has the line of its number
 said-alone : (r : Refusal) → OneOf others (tagOf the-type r) → lineOfSaid (saidOf r) ≡ Refused (numberOf r)
@@ -37,7 +37,6 @@ said-alone why.NoUnifier its = absurd (miss others 12 tt its)
 said-alone why.NotListed its = refl
 said-alone why.LastKey its = refl
 said-alone why.ShortBuffer its = refl
-said-alone why.LongValue its = refl
 said-alone why.WrongSide its = refl
 said-alone why.OnBothSides its = refl
 

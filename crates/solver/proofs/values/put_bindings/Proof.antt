@@ -7,8 +7,7 @@ use Rattle.ac.specs.Values.{laidOut}
 use Rattle.buffer.specs.Put.{Put}
 use Rattle.buffer.proofs.Puts.{put-nothing, put-then, put-length, put-as}
 use Rattle.list.specs.Runs.{runCount, timesAt, atomOf, atomsAt, lengthAt}
-use Rattle.list.proofs.Any.{not-above}
-use Rattle.list.proofs.Runs.{length-runs}
+use Rattle.list.proofs.Runs.{length-runs, length-upto}
 use Rattle.solver.specs.Bindings.{bindingsBelow}
 use Rattle.solver.specs.Values.{longestValue}
 use Rattle.solver.proofs.Laid.{laidOut-next}
@@ -34,8 +33,8 @@ put-binding-requires c κs =
     let entry = c .before .before .before .before .before in
     let a = entry .args in
     let l = c .before .before .before .loop in
-    let short = not-above (lengthAt (a .rows .now) (a .selection)) (a .places) (entry .pre .1 .0)
-    (let h : l .place < a .places = omega arith in h) in
+    let short : lengthAt (a .rows .now) (a .selection) (l .place) ≤ longestValue =
+    omega (arith, length-upto (a .rows .now) (entry .pre .1 .0) (a .selection) (l .place)) in
     (omega arith, (short, omega (arith, put-length (l .inv .2))))
 
 add-place : tie.Need-add-place Inv-loop μ-loop
@@ -50,8 +49,7 @@ loop-again c =
     let a = entry .args in
     let l = c .before .before .before .before .before .before .loop in
     let p = c .before .before .put-binding .ensures in
-    let short = not-above (lengthAt (a .rows .now) (a .selection)) (a .places) (entry .pre .1 .0)
-    (let h : l .place < a .places = omega arith in h) in
+    let short = length-upto (a .rows .now) (entry .pre .1 .0) (a .selection) (l .place) in
     let size = length-runs (runCount (a .selection)) (timesAt (a .rows .now) (a .selection) (l .place))
     (atomOf (a .selection)) in (
       omega arith,

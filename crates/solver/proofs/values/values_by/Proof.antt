@@ -1,9 +1,8 @@
 -- `solver::values::values_by` meets its contract: 16, then the numbers of the sides, then the values of the solved pair.
 -- Assumes nothing.
 use mathlib.Core.Path.{refl}
-use mathlib.Core.List.{_++_}
 use Rattle.ac.proofs.Groups.{groups-exist}
-use Rattle.numbers.specs.Order.{keyNumbers, lengthNumbers}
+use Rattle.numbers.specs.Order.{keyNumbers}
 use Rattle.numbers.proofs.Parts.{short-promised, verdict-promised}
 use Rattle.pair.proofs.Modes.{never-empties}
 use Rattle.solver.proofs.Given.{values-made}
@@ -31,7 +30,7 @@ returns-2 : tie.Need-returns-2
 returns-2 c =
     let solved = c .before .before .before .before in
     verdict-promised (values-made (groups-exist _ _ _)) (solved .before .if1 .left) (solved .solve .ensures)
-    (keyNumbers ++ lengthNumbers) (c .before .verdict .given .1)
+    keyNumbers (c .before .verdict .given .1)
 
 same-length : tie.Need-same-length
 same-length c = search needs

@@ -42,7 +42,7 @@ returns-3 c = λ M L R of none full.
     values-promised of none (omega arith)
     (asked .find-key .ensures _ (asked .before .masks-of .ensures .0) M L R full of)
     (found .enum-told .given .1)
-    (c .before .before .write-values .ensures M L R full of)
+    (c .before .before .write-values .ensures .0 M L R full of)
 
 pub values-of-spec : {M : Type 1} → statement M
 values-of-spec =

@@ -125,3 +125,15 @@ fn give_values(values: &[Value]) -> Given {
     }
     Given { figures: [first.len() as u32, 0, 0, 0, 0, 0], first, ..Given::default() }
 }
+
+/// How many atoms the longest value has that Values gave; none if it was refused or there are no variables.
+pub fn longest_value(answer: &Answer) -> Option<u8> {
+    let given = if answer.number == 0 { answer.figures[0] as usize } else { 0 };
+    let mut rest = &answer.first[..given];
+    let mut longest = None;
+    while let [_, count, after @ ..] = rest {
+        longest = longest.max(Some(*count));
+        rest = &after[usize::from(*count)..];
+    }
+    longest
+}

@@ -1,14 +1,14 @@
 //! Planted faults: answers that are wrong in one known way, to show that the comparison can fail. One for
 //! each question, one for the variables of a right term, two for the atom that 10 names, two for the shape that
-//! is written, three for matching, three for Count, five for the number of candidates weighed, one for each plausible
-//! error of document 01, two in the nightly text and two in the census text.
+//! is written, three for matching, three for Count, five for the number of candidates weighed, two for the longest value, one
+//! for each plausible error of document 01, two in the nightly text and two in the census text.
 
-use crate::answer::{answer, in_halves};
+use crate::answer::{answer, in_halves, longest_value};
 use crate::block::{seal, Sides, APART, BLOCK, PLUS, TERMS};
 use crate::census::{census, MOST_BLOCKS};
 use crate::list::{field_shift, stages, List, Stage};
 use crate::pair::{net_counts, shared_variables, Pair, Way, FIRST_CONSTANT, FURTHEST_NET_COUNT};
-use crate::question::{Answer, Ask, Question};
+use crate::question::{Answer, Ask, Question, FIGURES};
 use crate::refusal::Refusal;
 use crate::rows::{at_or_below, weight, Groups, Row, MOST_ROWS};
 use crate::sides::apart;
@@ -72,6 +72,10 @@ pub enum Fault {
     WeighedAhead,
     /// Page works out the number weighed with the sizes of the constants' groups in the other order.
     WeighedSizesSwapped,
+    /// Values asks for the buffer that a value of 200 atoms would need.
+    ValuesLongerBuffer,
+    /// Values gives 17 for a value that is longer than 127 atoms.
+    ValuesSeventeen,
     /// The nightly text says `more` for a list of exactly 200.
     TextMore,
     /// The nightly text counts blocks without unifier as refused.
@@ -83,7 +87,7 @@ pub enum Fault {
 }
 
 /// All faults by name.
-pub const FAULTS: [(&str, Fault); 30] = [
+pub const FAULTS: [(&str, Fault); 32] = [
     ("number-before-check", Fault::NumberBeforeCheck),
     ("right-as-written", Fault::RightAsWritten),
     ("byte-after-rows", Fault::ByteAfterRows),
@@ -110,6 +114,8 @@ pub const FAULTS: [(&str, Fault); 30] = [
     ("weighed-beginning", Fault::WeighedBeginning),
     ("weighed-ahead", Fault::WeighedAhead),
     ("weighed-sizes-swapped", Fault::WeighedSizesSwapped),
+    ("values-longer-buffer", Fault::ValuesLongerBuffer),
+    ("values-seventeen", Fault::ValuesSeventeen),
     ("text-more", Fault::TextMore),
     ("text-counts", Fault::TextCounts),
     ("census-refused", Fault::CensusRefused),
@@ -299,6 +305,12 @@ impl Fault {
                 answer.figures[1] = u32::from(answer.figures[0] as usize == question.ask.wanted());
             }
             (Fault::NewVariablesFirst, Ask::Values { .. }) => put_new_variables_first(answer),
+            (Fault::ValuesLongerBuffer, Ask::Values { .. }) if question.first_buffer < 1212 => {
+                refuse(question, answer, Refusal::Buffer.number())
+            }
+            (Fault::ValuesSeventeen, Ask::Values { .. }) if longest_value(answer) > Some(127) => {
+                refuse(question, answer, 17)
+            }
             (Fault::RightNotLowered, Ask::Write { .. }) if answer.number == 0 => {
                 leave_right_as_it_was(answer)
             }
@@ -496,6 +508,12 @@ fn clear_byte_after_rows(way: Way, question: &Question, answer: &mut Answer) {
     if let (0, Some(byte)) = (answer.number, answer.first.get_mut(written)) {
         *byte = 0;
     }
+}
+
+/// Gives a number in place of what was answered.
+fn refuse(question: &Question, answer: &mut Answer, number: u8) {
+    *answer = Answer { number, figures: [0; FIGURES], ..answer.clone() };
+    answer.first.fill(question.fill);
 }
 
 /// Puts the new variables of each value before its constants.

@@ -9,7 +9,8 @@ pub const FIRST_CONSTANT: u8 = 64;
 /// The last byte that is an atom.
 pub const LAST_ATOM: u8 = 127;
 const MOST_ATOMS: usize = 64;
-const MOST_VARIABLES: usize = 6;
+/// The most variables that may move.
+pub const MOST_VARIABLES: usize = 6;
 /// How far from 0 a net count may be.
 pub const FURTHEST_NET_COUNT: i32 = 8;
 const MOST_CONSTANTS: usize = 4;

@@ -1,8 +1,9 @@
 //! Questions and answers as PROTOCOL.md writes them.
 
 use crate::block::{Sides, BLOCK};
-use crate::pair::Way;
+use crate::pair::{Way, MOST_VARIABLES};
 use crate::solved::USUAL_COUNT;
+use crate::values::LONGEST_VALUE;
 use std::io::{self, Read};
 
 const HEADER: usize = 20;
@@ -51,7 +52,7 @@ impl Ask {
             Ask::Read { .. } => 64,
             Ask::Rows { .. } => 480,
             Ask::Page { .. } => self.wanted(),
-            Ask::Values { .. } => 1212,
+            Ask::Values { .. } => MOST_VARIABLES * (2 + LONGEST_VALUE),
             Ask::Write { .. } => BLOCK,
             Ask::Count => 0,
         }

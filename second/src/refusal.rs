@@ -19,13 +19,12 @@ pub enum Refusal {
     NotListed,
     LastKey,
     Buffer,
-    LongValue,
     WrongSide,
     Shared,
 }
 
 impl Refusal {
-    /// The number that document 01 or 02 gives it.
+    /// The number that document 01 or 02 gives it; 17 is not used (document 02, R-9).
     pub fn number(self) -> u8 {
         match self {
             Refusal::BlockLength => 1,
@@ -44,7 +43,6 @@ impl Refusal {
             Refusal::NotListed => 14,
             Refusal::LastKey => 15,
             Refusal::Buffer => 16,
-            Refusal::LongValue => 17,
             Refusal::WrongSide => 18,
             Refusal::Shared => 19,
         }

@@ -1,11 +1,12 @@
 //! What a comparison has met, so that it fails if it never came to what it is meant to compare.
 
+use crate::answer::longest_value;
 use crate::pair::{net_counts, Way, FIRST_CONSTANT};
 use crate::question::{Answer, Ask, Question};
 use crate::rows::MOST_ROWS;
 
-/// The refusal that never happens.
-const NEVER_MET: usize = 17;
+/// The number that is not used.
+const NOT_USED: usize = 17;
 /// The refusal that names an atom.
 const TOO_FREQUENT: u8 = 10;
 /// All refusals, and 0 for none.
@@ -16,6 +17,8 @@ const OF_MATCHING: [usize; 11] = [7, 8, 9, 10, 11, 12, 13, 14, 15, 16, 19];
 const OF_COUNT: [usize; 6] = [7, 8, 9, 10, 11, 12];
 /// A list is long if it has more keys than this.
 const THOUSAND_MILLION: u32 = 1_000_000_000;
+/// How many atoms the longest value has.
+const LONGEST_VALUE: u8 = 135;
 /// A page has weighed many candidates if they are more than this.
 const MANY: u32 = 32_768;
 
@@ -27,6 +30,7 @@ pub struct Seen {
     rows: usize,
     pages: usize,
     values: usize,
+    longest_values: usize,
     written: usize,
     pages_given: Pages,
     without_variables: usize,
@@ -88,6 +92,9 @@ impl Seen {
         match (answer.number, question.ask) {
             (0, Ask::Rows { .. }) => self.note_rows(question, answer),
             (0, Ask::Page { .. }) => self.pages_given.note(answer),
+            (_, Ask::Values { .. }) if longest_value(answer) == Some(LONGEST_VALUE) => {
+                self.longest_values += 1
+            }
             (TOO_FREQUENT, _) if answer.figures[0] < u32::from(FIRST_CONSTANT) => self.named_variable += 1,
             (TOO_FREQUENT, _) => self.named_constant += 1,
             _ => (),
@@ -112,7 +119,7 @@ impl Seen {
     /// What should have been met, with how often it was.
     fn wanted(&self) -> Vec<(String, usize)> {
         let mut wanted: Vec<(String, usize)> = (1..NUMBERS)
-            .filter(|number| *number != NEVER_MET)
+            .filter(|number| *number != NOT_USED)
             .map(|number| (format!("number {number}"), self.numbers[number]))
             .collect();
         for size in [0, 15, 16] {
@@ -125,6 +132,7 @@ impl Seen {
             ("balanced constant", self.balanced_constant),
             ("10 that names a variable", self.named_variable),
             ("10 that names a constant", self.named_constant),
+            ("longest value", self.longest_values),
         ];
         wanted.extend(others.map(|(what, times)| (what.to_string(), times)));
         wanted.extend(self.pages_given.wanted(""));

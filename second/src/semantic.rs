@@ -17,7 +17,7 @@ const LARGEST_SUM: [usize; 5] = [0, 10, 6, 4, 2];
 /// The longest page, longer than the list of any small pair.
 const PAGE: u16 = 1024;
 /// The shortest buffer for values.
-const VALUES: u16 = 1212;
+const VALUES: u16 = 972;
 
 /// What the check did.
 #[derive(Default)]

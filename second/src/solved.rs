@@ -50,10 +50,10 @@ impl Solved {
         Ok(Page { keys, more, weighed: self.list.candidates(after, last) })
     }
 
-    /// The values of the variables for a key, or the first of the refusals 13, 14 and 17 that holds.
+    /// The values of the variables for a key, or the first of the refusals 13 and 14 that holds.
     pub fn values(&self, key: u32) -> Result<Vec<Value>, Refusal> {
         self.must_list(key)?;
-        values(&self.pair, &self.groups, key)
+        Ok(values(&self.pair, &self.groups, key))
     }
 
     /// Refusal 13 for an empty list.

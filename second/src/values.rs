@@ -2,13 +2,12 @@
 
 use crate::list::field_shift;
 use crate::pair::Pair;
-use crate::refusal::Refusal;
 use crate::rows::Groups;
 
 /// The byte of n0.
 pub const FIRST_NEW_VARIABLE: u8 = 192;
-/// The most atoms of a value.
-const LONGEST_VALUE: usize = 200;
+/// The most atoms of a value (document 02, R-9).
+pub const LONGEST_VALUE: usize = 160;
 
 /// A variable with the atoms of its value in order.
 #[derive(Clone, Debug, PartialEq, Eq)]
@@ -17,18 +16,12 @@ pub struct Value {
     pub atoms: Vec<u8>,
 }
 
-/// The values of all variables ascending for a listed key, or refusal 17.
-pub fn values(pair: &Pair, groups: &Groups, key: u32) -> Result<Vec<Value>, Refusal> {
-    let values: Vec<Value> = pair
-        .variables
-        .iter()
-        .enumerate()
+/// The values of all variables ascending for a listed key.
+pub fn values(pair: &Pair, groups: &Groups, key: u32) -> Vec<Value> {
+    let variables = pair.variables.iter().enumerate();
+    variables
         .map(|(place, variable)| Value { variable: variable.atom, atoms: atoms(pair, groups, key, place) })
-        .collect();
-    if values.iter().any(|value| value.atoms.len() > LONGEST_VALUE) {
-        return Err(Refusal::LongValue);
-    }
-    Ok(values)
+        .collect()
 }
 
 /// The atoms of the value of the variable with this place: the unbalanced constants as often as their taken

@@ -5,8 +5,8 @@
 
 Read is answered by a reader of blocks of its own (read_cases.py), Write by document 01 and by tools/library.py
 (write_cases.py), Rows by hand (tests/rows.txt), Count by hand and by what is published (count_cases.py), Page by hand where few
-candidates are weighed (page_cases.py), else Page and Values by the second solver, whose program SECOND is; nothing by the program
-under test.
+candidates are weighed (page_cases.py), Values by hand in buffers of every kind (value_cases.py), else Page and Values by the second
+solver, whose program SECOND is; nothing by the program under test.
 """
 import sys
 from pathlib import Path
@@ -16,6 +16,7 @@ import page_cases
 import read_cases
 import rows_cases
 import second_cases
+import value_cases
 import write_cases
 
 PROBE = Path(__file__).resolve().parent.parent / "crates" / "probe"
@@ -31,6 +32,7 @@ def cases(second):
         *write_cases.cases(),
         *count_cases.cases(),
         *page_cases.cases(),
+        *value_cases.cases(),
     ]
 
 

@@ -29,6 +29,9 @@ HIGHEST, HIGHEST_KEY = "7v3+7c0+7c1+7c2+7c3 = 8v0+8v1+3v2", 4294967295
 # the first key of this pair stands behind 49,666 other candidates (document 02, R-8)
 LATE = "v0+v1+4v2+8v4+c0 = v0+v1+v3+v5"
 
+# v4 has a value of 135 atoms, the longest there is (document 02, R-9)
+LONG_VALUE, LONG_VALUE_KEY = "4v4 = 8v0+7v1+7v2+7v3+7c0+7c1+7c2+7c3", 65535
+
 # document 02, R-4: patterns with their subjects, worked by hand or refused
 MATCHED = [
     "match v0+v1 = 2v32+v33",  # four
@@ -88,7 +91,7 @@ class Second:
         """Asks for the values of each key."""
         kind = MATCH_VALUES if matching(text) else VALUES
         for key in keys:
-            self.ask(f"Values of {text}, key {key}", question(kind, *sides(text), 1212, number=key))
+            self.ask(f"Values of {text}, key {key}", question(kind, *sides(text), 972, number=key))
 
     def walk(self, text, size, first):
         """Asks for the list in pages of this size up to the page after the last, and for the first values of each."""
@@ -114,6 +117,7 @@ def cases(program):
         second.page(text, 1, 1)
         second.values(text, [1])
     second.page(LATE, 1)
+    second.values(LONG_VALUE, [LONG_VALUE_KEY])
     second.page(HIGHEST, 5, HIGHEST_KEY - 5)
     second.page(HIGHEST, 5, HIGHEST_KEY)
     second.values(HIGHEST, [HIGHEST_KEY])

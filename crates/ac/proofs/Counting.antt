@@ -14,7 +14,7 @@ use Rattle.ac.specs.Pair.{Mode, variables}
 use Rattle.ac.specs.Rows.{Group, Groups}
 use Rattle.ac.specs.Selection.{Selection, Taken, takenRows, takenBalanced, taken, reached, allReached, allTaken, admissible}
 use Rattle.ac.specs.Keys.{Layout, Fits, bits, keyOf, tuples, selections, listed, keys}
-use Rattle.ac.specs.Counting.{howMany, misses, rowsMissing, tuplesMissing, selectionsMissing, selectionsReaching, admissibleCount, product, selectionCount}
+use Rattle.ac.specs.Counting.{howMany, misses, rowsMissing, tuplesMissing, selectionsMissing, selectionsReaching, admissibleCount, product, sizesProduct, selectionCount}
 use Rattle.ac.proofs.Keys.{bits-next, length-bits}
 use Rattle.ac.proofs.HowMany.{howMany-next, howMany-same, howMany-most, howMany-all, howMany-split, howMany-if, howMany-map, howMany-flatMap, howMany-places, howMany-halves}
 
@@ -231,8 +231,7 @@ reaching-parts G k places =
 -- All selections.
 
 -- where no place is to be missed, all rows do
-all-missing : (gs : List Group)
-    → tuplesMissing [] gs ≡ product (map (λ (g : Group). length (g .rows)) gs)
+all-missing : (gs : List Group) → tuplesMissing [] gs ≡ sizesProduct gs
 all-missing [] = refl
 all-missing (g ∷ gs) = ap₂ (λ (m n : ℕ). m * n) (howMany-all (g .rows)) (all-missing gs)
 
@@ -305,7 +304,7 @@ module _ (M : Mode) (lay : Layout) (L R : List ℕ) (G : Groups) where
 
 -- a product of as many numbers as there are fields, each with an index's bits
 product-fits : (b : ℕ) (gs : List Group) → ((g : Group) → List·Memᴰ g gs → length (g .rows) ≤ 2 ^ b)
-    → product (map (λ (g : Group). length (g .rows)) gs) ≤ 2 ^ (b * length gs)
+    → sizesProduct gs ≤ 2 ^ (b * length gs)
 product-fits b [] few = omega (arith, pow-pos (b * 0))
 product-fits b (g ∷ gs) few =
     le-trans

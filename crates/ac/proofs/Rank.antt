@@ -18,11 +18,13 @@ use Rattle.ac.specs.Pair.{Mode}
 use Rattle.ac.specs.Rows.{Group, Groups, rowsAt}
 use Rattle.ac.specs.Selection.{Selection, SelectionOf, Within, none, index, allTaken}
 use Rattle.ac.specs.Keys.{Layout, Fits, Candidate, mask, bits, keyOf, selectionAt, tuples, selections, start}
-use Rattle.ac.specs.Weighed.{isCandidate, candidates, weighed, sizesProduct, mostWeighed}
+use Rattle.ac.specs.Counting.{sizesProduct, selectionCount}
+use Rattle.ac.specs.Weighed.{isCandidate, candidates, weighed}
 use Rattle.ac.proofs.Order.{filter-ascending}
 use Rattle.ac.proofs.Members.{filter-all, map-append, flatMap-append, map-members, members-map, ascending-map}
 use Rattle.ac.proofs.Keys.{length-from, mask-bits, mask-below, key-low, selection-candidate, candidate-selection, packed}
 use Rattle.ac.proofs.Listed.{masked, allMasked, selections-are, selections-ascending}
+use Rattle.ac.proofs.Counting.{selections-all}
 use Rattle.ac.proofs.Weighed.{length-filter}
 
 -- ---- where a member stands in a list
@@ -171,12 +173,6 @@ tuple-stands (index {g = g} {gs = gs} {i = i} {is = is} h within) =
 length-sets : (G : Groups) (is : List ℕ) → length (allMasked G is) ≡ 2 ^ length (G .balanced)
 length-sets G is = length-map (below (2 ^ length (G .balanced))) (masked G is) ∙ length-from 0 (2 ^ length (G .balanced))
 
--- there are as many as the product of the group sizes and of two for each balanced row
-length-selections : (G : Groups) → length (selections G) ≡ mostWeighed G
-length-selections G =
-    length-flatMap (allMasked G) (2 ^ length (G .balanced)) (length-sets G) (tuples (G .constants))
-    ∙ ap (λ (n : ℕ). n * 2 ^ length (G .balanced)) (length-tuples (G .constants))
-
 selection-stands : {G : Groups} {s : Selection} → SelectionOf G s
     → StandsAt (selections G) (tupleRank 0 (G .constants) (s .indexes) * 2 ^ length (G .balanced) + mask (s .takes)) s
 selection-stands {G} {s} of =
@@ -203,13 +199,13 @@ selection-stands {G} {s} of =
 
 module _ (M : Mode) (lay : Layout) (G : Groups) where
   -- there are at most as many as selections
-  pub length-candidates : length (candidates M lay G) ≤ mostWeighed G
+  pub length-candidates : length (candidates M lay G) ≤ selectionCount G
   length-candidates =
       omega (
         arith,
         length-map (filter (isCandidate M) (selections G)) (keyOf lay),
         length-filter (isCandidate M) (selections G),
-        length-selections G,
+        selections-all G,
       )
 
   -- where no variable may be empty every selection is one

@@ -14,9 +14,13 @@ abbrev pub product : List ℕ → ℕ
 product [] = 1
 product (n ∷ ns) = n * product ns
 
+-- the product of the constants' group sizes
+abbrev pub sizesProduct : List Group → ℕ
+sizesProduct gs = product (map (λ (g : Group). length (g .rows)) gs)
+
 -- How many selections there are: the product of the constants' group sizes and of two for each balanced row.
 abbrev pub selectionCount : Groups → ℕ
-selectionCount G = product (map (λ (g : Group). length (g .rows)) (G .constants)) * 2 ^ length (G .balanced)
+selectionCount G = sizesProduct (G .constants) * 2 ^ length (G .balanced)
 
 -- how many members pass the test
 abbrev pub howMany : {A : Type 0} → (A → Bool) → List A → ℕ

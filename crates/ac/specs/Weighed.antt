@@ -1,12 +1,12 @@
 -- The number of keys weighed (document 02, R-8).
-use Prim.Native.Nat.{ℕ, _*_, _^_}
+use Prim.Native.Nat.{ℕ}
 use mathlib.Core.Bool.{Bool, true, false}
 use mathlib.Core.List.{List, [], _∷_, map}
 use lib.ListN.{length}
 use lib.Dec.{leb}
 use Rattle.ac.specs.Lists.{filter}
 use Rattle.ac.specs.Pair.{Mode}
-use Rattle.ac.specs.Rows.{Group, Groups}
+use Rattle.ac.specs.Rows.{Groups}
 use Rattle.ac.specs.Selection.{Selection, allTaken}
 use Rattle.ac.specs.Keys.{Layout, keyOf, selections, Beginning, remaining}
 
@@ -29,12 +29,3 @@ uptoLast (first ∷ second ∷ others) key = uptoLast (second ∷ others) key
 -- "The count is of the candidates after the beginning place, up to and including the last key written."
 abbrev pub weighed : Beginning → List ℕ → List ℕ → ℕ
 weighed begin written candidates = length (filter (uptoLast written) (remaining begin candidates))
-
--- the product of the constants' group sizes
-abbrev pub sizesProduct : List Group → ℕ
-sizesProduct [] = 1
-sizesProduct (g ∷ gs) = length (g .rows) * sizesProduct gs
-
--- "At most the product of the constants' group sizes and of two for each balanced row."
-abbrev pub mostWeighed : Groups → ℕ
-mostWeighed G = sizesProduct (G .constants) * 2 ^ length (G .balanced)

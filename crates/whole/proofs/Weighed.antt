@@ -14,7 +14,8 @@ use Rattle.ac.specs.Pair.{Mode}
 use Rattle.ac.specs.Rows.{Groups, GroupsOf}
 use Rattle.ac.specs.Keys.{layout, keys, Beginning, start, after, remaining}
 use Rattle.ac.specs.Pages.{together, boundOf}
-use Rattle.ac.specs.Weighed.{candidates, weighed, mostWeighed}
+use Rattle.ac.specs.Counting.{selectionCount}
+use Rattle.ac.specs.Weighed.{candidates, weighed}
 use Rattle.ac.proofs.Listed.{keys-ascending}
 use Rattle.ac.proofs.Members.{taken-member}
 use Rattle.ac.proofs.Pages.{remaining-members}
@@ -37,7 +38,7 @@ module _ {M : Mode} {L R : List ℕ} {G : Groups} (of : GroupsOf M L R G) where
 
   -- No more are weighed than there are candidates.
   pub weighed-at-most : {begin : Beginning} {wanted : ℕ} {page : PageWritten} {out out′ : List ℕ}
-      → PagePromise M L R begin wanted out (given page) out′ → page .weighed ≤ mostWeighed G
+      → PagePromise M L R begin wanted out (given page) out′ → page .weighed ≤ selectionCount G
   weighed-at-most {begin} {page = page} {out′ = out′} promise =
       omega (
         arith,

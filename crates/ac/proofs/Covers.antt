@@ -7,13 +7,15 @@ use lib.ListN.{length}
 use Rattle.ac.specs.Term.{Term, flatten}
 use Rattle.ac.specs.Pair.{isVariable, count}
 use Rattle.ac.specs.Replacement.{Replacement, put, SameSum}
-use Rattle.ac.specs.Fages.{Substitution, apply, tree}
+use Rattle.ac.specs.Fages.{AC, Substitution, apply, tree}
 use Rattle.ac.specs.Match.{LeftVariable, Match, Covers}
-use Rattle.ac.proofs.Fages.{same-sum, flattened, flatten-some, flatten-apply, flatten-tree, put-agrees}
+use Rattle.ac.proofs.Agree.{put-agrees}
+use Rattle.ac.proofs.Theory.{flattened}
+use Rattle.ac.proofs.Fages.{same-sum, flatten-some, flatten-apply, flatten-tree}
 
 module _ (s t : Term) where
   -- A substitution makes s equal to t exactly if its replacement is a match.
-  pub covers-match : (σ : Substitution) → Covers s t σ ↔ Match (flatten s) (flatten t) (flattened σ)
+  pub covers-match : (σ : Substitution) → Covers s t σ ↔ Match (flatten s) (flatten t) (flattened AC σ)
   covers-match σ = (
     λ covers.
         record {
@@ -27,7 +29,7 @@ module _ (s t : Term) where
 
   -- And every match is, on the left variables, the replacement of such a substitution.
   pub match-covers : {θ : Replacement} → Match (flatten s) (flatten t) θ
-      → (σ : Substitution) × ((x : ℕ) → LeftVariable (flatten s) x → flattened σ x ≡ θ x) × Covers s t σ
+      → (σ : Substitution) × ((x : ℕ) → LeftVariable (flatten s) x → flattened AC σ x ≡ θ x) × Covers s t σ
   match-covers {θ} match =
       (λ x. tree (θ x), its-values, covers-match (λ x. tree (θ x)) .1 (record { non-empty = non-empty; equal = equal }))
     where

@@ -37,6 +37,8 @@ pub mod Fields
 pub mod Listed
 pub mod Counting
 pub mod Pages
+pub mod Agree
+pub mod Theory
 pub mod Weighed
 pub mod Rank
 pub mod Fages

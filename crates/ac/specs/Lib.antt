@@ -13,6 +13,7 @@ pub mod Counting
 pub mod Replacement
 pub mod Values
 pub mod Pages
+pub mod Theory
 pub mod Weighed
 pub mod Fages
 pub mod Match

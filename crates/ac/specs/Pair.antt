@@ -43,6 +43,10 @@ count a (b ∷ side) = same a b + count a side
 abbrev pub matching : List ℕ → Mode
 matching L = record { moves = λ a. isVariable a && ltb 0 (count a L); empties = false; separate = true }
 
+-- Sums with an identity (document 02, R-10): all variables move, and "a variable may be empty"
+abbrev pub identity : Mode
+identity = record { moves = isVariable; empties = true; separate = false }
+
 -- An atom's net count is its occurrences on the left minus those on the right; it may be negative.
 abbrev pub net : List ℕ → List ℕ → ℕ → ℤ
 net L R a = pos (count a L) -ℤ pos (count a R)

@@ -12,7 +12,7 @@ use Rattle.ac.specs.Replacement.{Replacement, Unifies, ComesFrom}
 use Rattle.ac.proofs.Filled.{same-comes}
 use Rattle.ac.proofs.Groups.{groups-exist}
 use Rattle.ac.proofs.Places.{getD-member, one-place}
-use Rattle.ac.proofs.Fages.{Agree, unifies-alike, comes-alike}
+use Rattle.ac.proofs.Agree.{Agree, unifies-alike, comes-alike}
 use Rattle.pair.proofs.Lists.{member-at}
 use Rattle.solver.specs.Existence.{replacementOf}
 use Rattle.solver.specs.Pages.{PagesAsked}

@@ -7,7 +7,7 @@
 -- before it is given.
 use Prim.Native.Nat.{ℕ, _+_, _-_, _≤_, _<_}
 use native.Mathlib.Omega.{arith}
-use mathlib.Core.Path.{_≡_, sym, ap, ap₂, subst, subst₂, _∙_}
+use mathlib.Core.Path.{_≡_, refl, sym, ap, ap₂, subst, subst₂, _∙_}
 use mathlib.Core.Logic.{_↔_, inl, inr, ⊎-elim}
 use mathlib.Core.Bool.{cond}
 use mathlib.Core.List.{List, List·Memᴰ, List·Memᴰ·head, List·Memᴰ·append-cases}
@@ -16,9 +16,11 @@ use lib.Dec.{ltb}
 use lib.ListN.{take}
 use Rattle.ac.specs.Term.{Term, atom, plus, flatten}
 use Rattle.ac.specs.Pair.{unifying}
-use Rattle.ac.specs.Fages.{Substitution, apply, _=AC_, ACUnifier}
+use Rattle.ac.specs.Theory.{Unifier}
+use Rattle.ac.specs.Fages.{AC, Substitution, apply, _=AC_}
 use Rattle.ac.specs.Replacement.{Unifies}
-use Rattle.ac.proofs.Fages.{flattened, unifier-unifies}
+use Rattle.ac.proofs.Theory.{flattened, unifier-unifies}
+use Rattle.ac.proofs.Fages.{ac-sums}
 use Rattle.ac.proofs.Members.{map-members}
 use Rattle.numbers.specs.First.{NoneOf}
 use Rattle.numbers.specs.Numbers.{saidOf}
@@ -83,7 +85,7 @@ module _ {s t : Term} (left : Writable s) (right : Writable t) where
   -- so they make the left term and the renamed right one what σ and τ make the two terms
   pub joined-overlap : (σ τ : Substitution)
       → (apply (unifying .moves) σ s =AC apply (unifying .moves) τ t)
-      ↔ ACUnifier unifying s (renamed onTheRight t) (joinedSubstitution σ τ)
+      ↔ Unifier AC unifying s (renamed onTheRight t) (joinedSubstitution σ τ)
   joined-overlap σ τ =
       let both = joinedSubstitution σ τ in
       let on-left : apply (unifying .moves) both s ≡ apply (unifying .moves) σ s =
@@ -93,7 +95,7 @@ module _ {s t : Term} (left : Writable s) (right : Writable t) where
       (subst₂ _=AC_ (sym on-left) (sym on-right), subst₂ _=AC_ on-left on-right)
 
   -- no substitution unifies the two terms with separate variables exactly where they do not overlap
-  none-overlap : NoUnifierOf unifying s (renamed onTheRight t) ↔ NoOverlap unifying s t
+  none-overlap : NoUnifierOf AC unifying s (renamed onTheRight t) ↔ NoOverlap unifying s t
   none-overlap = (
     λ none σ τ equal. none (joinedSubstitution σ τ) (joined-overlap σ τ .0 equal),
     λ none ρ unifies. none ρ (λ x. ρ (onTheRight x))
@@ -122,12 +124,12 @@ module _ {block : List ℕ} {number : ℕ} {left right left′ right′ : List �
     pub block-overlap : (σ τ : Substitution)
         → (apply (unifying .moves) σ s =AC apply (unifying .moves) τ t)
         ↔ Unifies unifying (take (lengths .left) left′) (take (lengths .right) right′)
-        (flattened (joinedSubstitution σ τ))
+        (flattened AC (joinedSubstitution σ τ))
     block-overlap σ τ =
         let same = read-sides (given-gives read) of-left of-right in
-        let Both : List ℕ → List ℕ → Type 0 = λ L R. Unifies unifying L R (flattened (joinedSubstitution σ τ)) in
+        let Both : List ℕ → List ℕ → Type 0 = λ L R. Unifies unifying L R (flattened AC (joinedSubstitution σ τ)) in
         let overlap = joined-overlap (of-left .writable) (of-right .writable) σ τ in
-        let unifies = unifier-unifies unifying s (renamed onTheRight t) (joinedSubstitution σ τ) in (
+        let unifies = unifier-unifies (ac-sums {M = unifying} refl) s (renamed onTheRight t) (joinedSubstitution σ τ) in (
           λ equal. subst₂ Both (sym (same .0)) (sym (same .1)) (unifies .0 (overlap .0 equal)),
           λ unify. overlap .1 (unifies .1 (subst₂ Both (same .0) (same .1) unify)),
         )

@@ -8,7 +8,7 @@ use lib.Seq.{take-append-seam}
 use Rattle.ac.specs.Pair.{Mode, variables}
 use Rattle.ac.specs.Rows.{Groups, GroupsOf}
 use Rattle.ac.proofs.Groups.{groups-unique}
-use Rattle.ac.proofs.Fages.{Agree}
+use Rattle.ac.proofs.Agree.{Agree}
 use Rattle.solver.specs.Existence.{replacementOf}
 use Rattle.numbers.specs.Outcome.{given, is-given}
 use Rattle.solver.specs.Values.{ValuesPromise, values, valuesOf}

@@ -1,6 +1,6 @@
 -- From the bytes of a block to source document 000 (Fages, RR-0287): "on what a unifier is, document 000
 -- decides" (document 01, "What the program decides"). The words of the statements stand in specs/Unifiers.antt,
--- and a complete set of minimal unifiers in ac/specs/Fages.antt. They speak of promises and bytes alone, not of
+-- and a complete set of minimal unifiers in ac/specs/Theory.antt. They speak of promises and bytes alone, not of
 -- code.
 --
 -- `block-unifiers`. Let Read give the sides of a block whose two terms are s and t. Let pages be asked for on
@@ -28,8 +28,10 @@ use Rattle.ac.specs.Term.{Term, atom, plus, flatten}
 use Rattle.ac.specs.Pair.{Mode, IsSide, unifying}
 use Rattle.ac.specs.Keys.{layout, Beginning, start}
 use Rattle.ac.specs.Pages.{together}
-use Rattle.ac.specs.Fages.{MinimalSet}
-use Rattle.ac.proofs.Fages.{flattened, unifier-unifies, unifies-unifier}
+use Rattle.ac.specs.Theory.{Theory, MinimalSet}
+use Rattle.ac.specs.Fages.{AC}
+use Rattle.ac.proofs.Theory.{flattened, Sums, unifier-unifies, unifies-unifier}
+use Rattle.ac.proofs.Fages.{ac-sums}
 use Rattle.ac.proofs.Members.{map-append}
 use Rattle.numbers.specs.First.{NoneOf}
 use Rattle.numbers.specs.Numbers.{saidOf}
@@ -51,28 +53,28 @@ use Rattle.whole.proofs.Exist.{pages-wherever-given}
 use Rattle.whole.proofs.Whole.{none-at-all}
 use Rattle.whole.proofs.Substitutions.{answers-minimal-set}
 
-module _ {M : Mode} (some : M .empties ≡ false) (s t : Term) where
+module _ {T : Theory} {M : Mode} (sums : Sums T M) (s t : T .Terms) where
   -- no replacement unifies the flattened sides exactly where no substitution is a unifier
-  none-alike : IsSide (flatten s) → IsSide (flatten t) → NoneUnifies M (flatten s) (flatten t) ↔ NoUnifierOf M s t
+  none-alike : IsSide (T .flatten s) → IsSide (T .flatten t) → NoneUnifies M (T .flatten s) (T .flatten t) ↔ NoUnifierOf T M s t
   none-alike left right = (
-    λ nothing σ unifier. nothing (flattened σ) (unifier-unifies M s t σ .0 unifier),
+    λ nothing σ unifier. nothing (flattened T σ) (unifier-unifies sums s t σ .0 unifier),
     λ nothing θ unifies.
-        let found = unifies-unifier M s t left right some θ unifies in
+        let found = unifies-unifier sums s t left right θ unifies in
         nothing (found .0) (found .2),
   )
 
   -- 13 on the flattened sides is that
   terms-no-unifier : {begin : Beginning} {wanted : ℕ} {out out′ : List ℕ} {outcome : Outcome PageWritten}
-      → PagePromise M (flatten s) (flatten t) begin wanted out outcome out′
+      → PagePromise M (T .flatten s) (T .flatten t) begin wanted out outcome out′
       → (outcome ≡ refused (saidOf NoUnifier))
-      ↔ (NoneOf (PageGiven M (flatten s) (flatten t) begin wanted out) rowsNumbers × NoUnifierOf M s t)
+      ↔ (NoneOf (PageGiven M (T .flatten s) (T .flatten t) begin wanted out) rowsNumbers × NoUnifierOf T M s t)
   terms-no-unifier {begin} {wanted} {out} promise = (
     λ e. let both = none-at-all promise .0 e in (both .0, alike (both .0) .0 (both .1)),
     λ both. none-at-all promise .1 (both .0, alike (both .0) .1 (both .1)),
   )
     where
-      alike : NoneOf (PageGiven M (flatten s) (flatten t) begin wanted out) rowsNumbers
-          → NoneUnifies M (flatten s) (flatten t) ↔ NoUnifierOf M s t
+      alike : NoneOf (PageGiven M (T .flatten s) (T .flatten t) begin wanted out) rowsNumbers
+          → NoneUnifies M (T .flatten s) (T .flatten t) ↔ NoUnifierOf T M s t
       alike none =
           let fine = within-limits (sides-give-none (λ n number. of-the-sides number) none) in
           none-alike (fine .left-side) (fine .right-side)
@@ -110,10 +112,10 @@ module _ {block : List ℕ} {number : ℕ} {left right left′ right′ : List �
       → {pages answers : List (List ℕ)}
       → PagesAsked unifying (take (lengths .left) left′) (take (lengths .right) right′) start pages
       → ValuesAsked unifying (take (lengths .left) left′) (take (lengths .right) right′) (together pages) answers
-      → MinimalSet unifying (layout .new) s (renamed onTheRight t) (map readSubstitution answers)
+      → MinimalSet AC unifying (layout .new) s (renamed onTheRight t) (map (readSubstitution AC) answers)
   block-unifiers {s} {t} of-left of-right {pages} {answers} asked answered =
       let same = read-sides (given-gives read) of-left of-right in
-      answers-minimal-set refl (λ a new. le-ltb a 64 (omega arith)) s (renamed onTheRight t)
+      answers-minimal-set (ac-sums refl) (λ a new. le-ltb a 64 (omega arith)) s (renamed onTheRight t)
       (subst₂ (λ L R. PagesAsked unifying L R start pages) (same .0) (same .1) asked)
       (subst₂ (λ L R. ValuesAsked unifying L R (together pages) answers) (same .0) (same .1) answered)
 
@@ -137,12 +139,12 @@ module _ {block : List ℕ} {number : ℕ} {left right left′ right′ : List �
       out′
       → (outcome ≡ refused (saidOf NoUnifier))
       ↔ (NoneOf (PageGiven unifying (take (lengths .left) left′) (take (lengths .right) right′) begin wanted out)
-      rowsNumbers × NoUnifierOf unifying s (renamed onTheRight t))
+      rowsNumbers × NoUnifierOf AC unifying s (renamed onTheRight t))
   block-no-unifier {s} {t} of-left of-right {begin} {wanted} {out} {out′} {outcome} promise =
       let same = read-sides (given-gives read) of-left of-right in
       subst₂
       (λ L R. PagePromise unifying L R begin wanted out outcome out′
       → (outcome ≡ refused (saidOf NoUnifier))
       ↔ (NoneOf (PageGiven unifying L R begin wanted out) rowsNumbers
-      × NoUnifierOf unifying s (renamed onTheRight t)))
-      (sym (same .0)) (sym (same .1)) (terms-no-unifier refl s (renamed onTheRight t)) promise
+      × NoUnifierOf AC unifying s (renamed onTheRight t)))
+      (sym (same .0)) (sym (same .1)) (terms-no-unifier (ac-sums refl) s (renamed onTheRight t)) promise

@@ -1,10 +1,11 @@
--- The groups of a pair exist and are unique.
+-- The groups of a pair exist and are unique, and of the mode they depend by the atoms that move alone.
 use Prim.Native.Nat.{ℕ}
 use mathlib.Core.Path.{_≡_, refl, sym, ap, ap₂, subst, _∙_}
 use mathlib.Core.List.{List, [], _∷_, map, List·Memᴰ, List·Memᴰ·head, List·Memᴰ·tail, Memᴰ·of-map, nil≢cons, head-eq-of-cons-eq, tail-eq-of-cons-eq}
-use mathlib.Core.Logic.{Iff·symm}
-use Rattle.ac.specs.Pair.{Mode, unbalanced}
-use Rattle.ac.specs.Rows.{Exactly, RowOf, Group, Groups, GroupsOf}
+use mathlib.Core.Logic.{_↔_, Iff·symm}
+use mathlib.Core.Bool.{Bool}
+use Rattle.ac.specs.Pair.{Mode, unifying, identity, unbalanced}
+use Rattle.ac.specs.Rows.{Exactly, BalancedRow, RowOf, Group, Groups, GroupsOf}
 use Rattle.ac.specs.Equation.{balancedEquation, equationOf}
 use Rattle.ac.specs.Search.{groupOf, groups}
 use Rattle.ac.proofs.Vectors.{exactly-same}
@@ -67,3 +68,36 @@ module _ (M : Mode) (L R : List ℕ) where
       constants : G .constants ≡ H .constants
       constants = constants-unique (G .constants) (H .constants) (g .the-constants ∙ sym (h .the-constants))
           (g .constant-rows) (h .constant-rows)
+
+-- a mode with other atoms that move
+abbrev moving : (ℕ → Bool) → Mode → Mode
+moving moves M = record { moves = moves; empties = M .empties; separate = M .separate }
+
+-- Whether a value may be empty, and whether a variable may stand on both sides, says nothing of rows: of two modes in
+-- which the same atoms move, a row of the one is a row of the other, ..
+module _ (M M′ : Mode) (L R : List ℕ) where
+  same-balanced : (v : List ℕ) → BalancedRow M L R v ↔ BalancedRow (moving (M .moves) M′) L R v
+  same-balanced v = (
+    λ row. record { vector = row .vector; least = row .least },
+    λ row. record { vector = row .vector; least = row .least },
+  )
+
+  same-rows : (c : ℕ) (v : List ℕ) → RowOf M L R c v ↔ RowOf (moving (M .moves) M′) L R c v
+  same-rows c v = (
+    λ row. record { vector = row .vector; least = row .least },
+    λ row. record { vector = row .vector; least = row .least },
+  )
+
+  -- .. so they have the same groups.
+  pub groups-by-moving : M .moves ≡ M′ .moves → {G : Groups} → GroupsOf M L R G → GroupsOf M′ L R G
+  groups-by-moving same {G} of =
+      subst (λ moves. GroupsOf (moving moves M′) L R G) same
+      (record {
+        balanced-rows = exactly-same same-balanced (of .balanced-rows);
+        the-constants = of .the-constants;
+        constant-rows = λ g m. exactly-same (same-rows (g .constant)) (of .constant-rows g m);
+      })
+
+-- In sums with an identity (document 02, R-10) a pair has the groups that it has in unifying.
+pub identity-groups : {L R : List ℕ} {G : Groups} → GroupsOf identity L R G ↔ GroupsOf unifying L R G
+identity-groups {L} {R} = (groups-by-moving identity unifying L R refl, groups-by-moving unifying identity L R refl)

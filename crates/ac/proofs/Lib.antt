@@ -48,6 +48,9 @@ pub mod Subject
 pub mod Matching
 pub mod Covers
 pub mod MinimalSet
+pub mod WithoutRow
+pub mod Identity
 pub mod FagesExample
 pub mod MatchingExample
+pub mod IdentityExample
 pub mod Worked

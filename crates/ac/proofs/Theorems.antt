@@ -2,7 +2,7 @@
 -- to read first: the statements use the definitions of `specs/` alone, and the proofs stand in the files that
 -- are named in the `use` lines. L and R are the pair's flattened sides, G its groups of rows, `new` the first
 -- new variable, above all atoms. A mode says which atoms are variables and whether a value may be empty; in
--- the mode `unifying` none is.
+-- the mode `unifying` none is, in the mode `identity` each may be.
 use Prim.Native.Nat.{ℕ, _≤_}
 use mathlib.Core.Path.{_≡_}
 use mathlib.Core.Bool.{true}

@@ -16,5 +16,6 @@ pub mod Pages
 pub mod Theory
 pub mod Weighed
 pub mod Fages
+pub mod Identity
 pub mod Match
 pub mod Worked

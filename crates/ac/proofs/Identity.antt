@@ -1,7 +1,8 @@
--- Sums with an identity (document 02, R-10), in the words of source document 002: `same-sum`, two terms are equal modulo
--- associativity, commutativity and identity exactly if they have the same atoms equally often, 0 left out;
--- `identity-minimal-set` and `identity-most-general`, the substitutions of the listed selections are a complete set of
--- minimal, and of most general, unifiers. Which pairs have none is in WithoutRow.antt.
+-- Sums with an identity (document 02, R-10). `unifies-equal` and `comes-filled`: in the mode `identity` the theorems on
+-- unifiers in any mode (Theorems.antt) are demand 3 with "non-empty" struck out. Then the words of source document 002.
+-- `same-sum`: two terms are equal modulo associativity, commutativity and identity exactly if they have the same atoms
+-- equally often, 0 left out. `identity-minimal-set` and `identity-most-general`: the substitutions of the listed selections
+-- are a complete set of minimal, and of most general, unifiers. Which pairs have none is in WithoutRow.antt.
 use Prim.Native.Nat.{ℕ, _<_}
 use native.Mathlib.Omega.{arith}
 use native.Mathlib.Decide.{decLt}
@@ -17,17 +18,38 @@ use Rattle.ac.specs.Term as base
 use Rattle.ac.specs.Pair.{Mode, IsSide, identity, count}
 use Rattle.ac.specs.Rows.{Groups, GroupsOf}
 use Rattle.ac.specs.Keys.{layout, listed}
-use Rattle.ac.specs.Replacement.{put, SameSum}
+use Rattle.ac.specs.Replacement.{Replacement, put, SameSum, Unifies, ComesFrom}
 use Rattle.ac.specs.Theory.{MinimalSet, substitutionOf, variablesOf}
 use Rattle.ac.specs.Fages.{_=AC_}
 use Rattle.ac.specs.Fages as fages
-use Rattle.ac.specs.Identity.{TermWithZero, zero, atom, plus, flatten, Substitution, apply, _=AC1_, associative, commutative, identical, congruent, reflexive, symmetric, transitive, fromTerm, tree, AC1, MostGeneralSet}
+use Rattle.ac.specs.Identity.{MakesEqual, FilledFrom, TermWithZero, zero, atom, plus, flatten, Substitution, apply, _=AC1_, associative, commutative, identical, congruent, reflexive, symmetric, transitive, fromTerm, tree, AC1, MostGeneralSet}
 use Rattle.ac.proofs.Counts.{count-append, count-some, count-member, put-append}
 use Rattle.ac.proofs.Multisets.{same-lengths}
 use Rattle.ac.proofs.Replaced.{variables-move}
 use Rattle.ac.proofs.Theory.{flattened, Sums}
 use Rattle.ac.proofs.Fages as without-zero
 use Rattle.ac.proofs.MinimalSet.{minimal-set}
+
+-- ---- "non-empty" struck out
+
+module _ {L R : List ℕ} where
+  -- A replacement unifies exactly if it makes the sides equal.
+  pub unifies-equal : {θ : Replacement} → Unifies identity L R θ ↔ MakesEqual L R θ
+  unifies-equal = (
+    λ unifies. unifies .equal,
+    λ equal. record { non-empty = λ x m some. absurd (true≢false some); equal = equal },
+  )
+
+  -- It comes from another exactly if it is filled from it.
+  pub comes-filled : {new : ℕ} {σ θ : Replacement} → ComesFrom identity new L R σ θ ↔ FilledFrom new L R σ θ
+  comes-filled = (
+    λ comes. record { fill = comes .fill; agrees = comes .agrees },
+    λ from. record {
+      fill = from .fill;
+      filled = λ x n m k above some. absurd (true≢false some);
+      agrees = from .agrees;
+    },
+  )
 
 -- ---- =AC1 is having the same atoms equally often
 

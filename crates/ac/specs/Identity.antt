@@ -1,16 +1,33 @@
--- Sums with an identity (document 02, R-10), in the words of source document 002 (Henz, 1991): terms in which 0 may
--- stand, their equality (Definition 2.4), and complete sets of most general unifiers (Definitions 2.7 and 3.1).
--- proofs/Identity.antt shows that the unifiers are the replacements of flattened sides by sums that may be empty.
+-- Sums with an identity (document 02, R-10): what demand 3 says with "non-empty" struck out, and which pairs have no
+-- unifier. Then the same in the words of source document 002 (Henz, 1991): terms in which 0 may stand, their equality
+-- (Definition 2.4), and complete sets of most general unifiers (Definitions 2.7 and 3.1). proofs/Identity.antt shows that
+-- these unifiers are the replacements of flattened sides by sums that may be empty.
 use Prim.Native.Nat.{ℕ}
 use mathlib.Core.Path.{_≡_}
 use mathlib.Core.Bool.{Bool, true, cond}
 use mathlib.Core.List.{List, [], _∷_, _++_, List·Memᴰ}
 use Rattle.ac.specs.Term.{Term}
 use Rattle.ac.specs.Term as base
-use Rattle.ac.specs.Pair.{Mode, identity, unbalanced}
+use Rattle.ac.specs.Pair.{Mode, isVariable, identity, variables, unbalanced}
 use Rattle.ac.specs.Rows.{RowOf}
+use Rattle.ac.specs.Replacement.{Replacement, put, SameSum, isNew}
 use Rattle.ac.specs.Theory.{Theory, MoreGeneral, anyVariable, variablesOf}
 use Rattle.ac.specs.Fages.{comb}
+
+-- A replacement makes the sides equal as multisets, whether or not a value is empty.
+abbrev pub MakesEqual : List ℕ → List ℕ → Replacement → Type 0
+MakesEqual L R θ = SameSum (put isVariable θ L) (put isVariable θ R)
+
+-- θ is filled from σ on the pair's variables: some sums for the new variables, empty or not, make σ's values θ's.
+pub record FilledFrom (new : ℕ) (L R : List ℕ) (σ θ : Replacement) : Type 0 where
+  pub fill : Replacement
+  pub agrees : (x : ℕ) → List·Memᴰ x (variables identity L R) → SameSum (θ x) (put (isNew new) fill (σ x))
+
+-- some unbalanced constant has no row
+pub record WithoutRow (M : Mode) (L R : List ℕ) : Type 0 where
+  pub constant : ℕ
+  pub is-unbalanced : List·Memᴰ constant (unbalanced M L R)
+  pub no-row : (v : List ℕ) → RowOf M L R constant v → ⊥
 
 -- A term is an atom, the identity 0, or the sum of two terms.
 pub data TermWithZero : Type 0 where
@@ -83,9 +100,3 @@ pub record MostGeneralSet (new : ℕ) (s t : TermWithZero) (unifiers : List Subs
   -- and two of them are incomparable.
   pub incomparable : (σ σ′ : Substitution) → List·Memᴰ σ unifiers → List·Memᴰ σ′ unifiers
       → Subsumes new s t σ σ′ → σ ≡ σ′
-
--- some unbalanced constant has no row
-pub record WithoutRow (M : Mode) (L R : List ℕ) : Type 0 where
-  pub constant : ℕ
-  pub is-unbalanced : List·Memᴰ constant (unbalanced M L R)
-  pub no-row : (v : List ℕ) → RowOf M L R constant v → ⊥

@@ -24,7 +24,7 @@ use Rattle.numbers.proofs.Decided.{none, next, Settled, settle, same-dec, not-d
 use Rattle.ac.specs.Limits.{limits}
 use Rattle.pair.proofs.Decided.{wrong-length-dec, wrong-byte-dec, true-dec, shared-dec}
 use Rattle.pair.proofs.NetCounts.{natAbs-difference}
-use Rattle.pair.specs.Given.{left, right, WrongLength, WrongByte, OnBothSides, Far, ManyRows, balanced, of-a-constant, PairGiven, side-length, no-atom, on-both-sides, many-variables, far-net-count, many-constants, many-rows}
+use Rattle.pair.specs.Given.{left, right, leastAtoms, WrongLength, WrongByte, OnBothSides, Far, ManyRows, balanced, of-a-constant, PairGiven, side-length, no-atom, on-both-sides, many-variables, far-net-count, many-constants, many-rows}
 
 -- The numbers of Read, of buffers that are long enough.
 module _ (block : List ℕ) (number : ℕ) (left right : List ℕ) (long : (length left < 64) ⊎ (length right < 64) → ⊥) where
@@ -77,7 +77,8 @@ module _ (M : Mode) (L R : List ℕ) {G : Groups} (of : GroupsOf M L R G) where
   side-dec : {P : List ℕ → Type 0} → ((side : List ℕ) → Dec (P side)) → Dec (P L ⊎ P R)
   side-dec dec = either-dec (dec L) (dec R)
 
-  given-7 : PairGiven limits M L R 7 → WrongLength limits L ⊎ WrongLength limits R
+  given-7 : PairGiven limits M L R 7
+      → WrongLength limits (leastAtoms limits M) L ⊎ WrongLength limits (leastAtoms limits M) R
   given-7 (side-length left h) = inl h
   given-7 (side-length right h) = inr h
 
@@ -119,7 +120,7 @@ module _ (M : Mode) (L R : List ℕ) {G : Groups} (of : GroupsOf M L R G) where
   pub pair-settled : Settled (PairGiven limits M L R) sidesNumbers
   pair-settled = settle
       (next (same-dec (⊎-elim (side-length left) (side-length right)) given-7
-      (side-dec (wrong-length-dec limits)))
+      (side-dec (wrong-length-dec limits (leastAtoms limits M))))
       (next (same-dec (⊎-elim (no-atom left) (no-atom right)) given-8 (side-dec (wrong-byte-dec limits)))
       (next (same-dec (λ both. on-both-sides (both .0) (both .1)) given-19
       (both-dec (true-dec (M .separate)) (shared-dec L R)))

@@ -16,7 +16,7 @@ use Rattle.ac.proofs.Places.{getD-member}
 use Rattle.ac.proofs.Counts.{same-self, same-other, count-append, count-some, count-member}
 use Rattle.ac.specs.Limits.{limits}
 use Rattle.numbers.specs.Tells.{Tells}
-use Rattle.pair.specs.Given.{WrongLength, WrongByte, OnBothSides, PairGiven, on-both-sides}
+use Rattle.pair.specs.Given.{WrongByte, OnBothSides, PairGiven, on-both-sides}
 use Rattle.pair.specs.Ways.{modeOf}
 use Rattle.pair.specs.Counts.{Occurrences, Moves, variableMoves}
 use Rattle.pair.specs.declared.ways.Way.{Way}
@@ -69,11 +69,7 @@ counts-more side table i within place counts =
 pub counts-none : Occurrences [] (replicate 128 0)
 counts-none = record { places = refl; entries = λ a. getD-replicate-same 128 a 0 }
 
--- what a side of the right length and of atoms alone says of its numbers
-pub right-length : (side : List ℕ) → (WrongLength limits side → ⊥) → length side ≤ 64
-right-length side right = at-most (length side) 64 (λ long. right (inr long))
-
--- and each byte is an atom
+-- each byte of a side of atoms alone is an atom
 pub right-byte : (side : List ℕ) (i : ℕ) → i < length side → (WrongByte limits side → ⊥) → getD side i 0 < 128
 right-byte side i within right =
     at-most (suc (getD side i 0)) 128 (λ high. right
@@ -81,9 +77,9 @@ right-byte side i within right =
 
 -- a count so far is below the limit of a byte
 pub count-so-far : (side table : List ℕ) (i x : ℕ) → Occurrences (take i side) table
-    → (WrongLength limits side → ⊥) → getD table x 0 ≤ 64
-count-so-far side table i x counts right =
-    omega (arith, counts .entries x, count-le-length x (take i side), length-take i side, right-length side right)
+    → length side ≤ 64 → getD table x 0 ≤ 64
+count-so-far side table i x counts short =
+    omega (arith, counts .entries x, count-le-length x (take i side), length-take i side)
 
 -- the table says so of the atoms below a number, and false of all others
 abbrev pub SaidBelow : (ℕ → Bool) → ℕ → List Bool → Type 0

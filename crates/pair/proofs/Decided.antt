@@ -12,16 +12,14 @@ use Rattle.ac.proofs.Counts.{count-some, count-member}
 use Rattle.numbers.proofs.Decided.{same-dec, either-dec, both-dec, some-dec}
 use Rattle.pair.specs.Given.{WrongLength, WrongByte, OnBothSides}
 
-module _ (limits : Limits) (side : List ℕ) where
-  pub wrong-length-dec : Dec (WrongLength limits side)
-  wrong-length-dec =
-      either-dec (decLt (length side) (limits .least-atoms)) (decLt (limits .most-atoms) (length side))
+pub wrong-length-dec : (limits : Limits) (least : ℕ) (side : List ℕ) → Dec (WrongLength limits least side)
+wrong-length-dec limits least side = either-dec (decLt (length side) least) (decLt (limits .most-atoms) (length side))
 
-  pub wrong-byte-dec : Dec (WrongByte limits side)
-  wrong-byte-dec =
-      same-dec (λ s. record { byte = s .member; held = s .on-list; above = s .so })
-      (λ w. record { member = w .byte; on-list = w .held; so = w .above })
-      (some-dec (λ b. decLt (limits .highest-atom) b) side)
+pub wrong-byte-dec : (limits : Limits) (side : List ℕ) → Dec (WrongByte limits side)
+wrong-byte-dec limits side =
+    same-dec (λ s. record { byte = s .member; held = s .on-list; above = s .so })
+    (λ w. record { member = w .byte; on-list = w .held; so = w .above })
+    (some-dec (λ b. decLt (limits .highest-atom) b) side)
 
 -- a truth value is true or not
 pub true-dec : (b : Bool) → Dec (b ≡ true)

@@ -6,6 +6,8 @@ use mathlib.Core.List.{List}
 use borrow.Author.Tests.{le-ltb}
 use lib.Dec.{ltb}
 use Rattle.ac.specs.Pair.{Mode, isVariable, count}
+use Rattle.ac.specs.Limits.{limits}
+use Rattle.pair.specs.Given.{leastAtoms}
 use Rattle.pair.specs.Ways.{modeOf}
 use Rattle.pair.specs.declared.ways.Way.{Way}
 use Rattle.pair.specs.declared.ways.Way.the-variants.{Unifying, Matching}
@@ -14,6 +16,11 @@ use Rattle.pair.specs.declared.ways.Way.the-variants.{Unifying, Matching
 pub never-empties : (way : Way) (L R : List ℕ) → modeOf way L R .empties ≡ false
 never-empties Unifying L R = refl
 never-empties Matching L R = refl
+
+-- so a side has to have an atom
+pub its-least : (way : Way) (L R : List ℕ) → limits .least-atoms ≡ leastAtoms limits (modeOf way L R)
+its-least Unifying L R = refl
+its-least Matching L R = refl
 
 -- a constant, 64 or above, does not move
 pub constant-stays : (way : Way) (L R : List ℕ) (c : ℕ) → 64 ≤ c → modeOf way L R .moves c ≡ false

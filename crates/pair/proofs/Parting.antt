@@ -9,7 +9,7 @@ use lib.Dec.{ltb}
 use lib.ListN.{length}
 use Rattle.ac.specs.Pair.{Mode, variables, unbalanced}
 use Rattle.ac.specs.Limits.{limits}
-use Rattle.pair.specs.Given.{SideOf, left, right, WrongLength, WrongByte, LowestFar, PairGiven, side-length, no-atom, many-variables, many-constants}
+use Rattle.pair.specs.Given.{SideOf, left, right, leastAtoms, WrongLength, WrongByte, LowestFar, PairGiven, side-length, no-atom, many-variables, many-constants}
 use Rattle.numbers.specs.Tells.{Tells}
 use Rattle.pair.specs.Counts.{SettlesTen, a-far-one, all-near}
 use Rattle.pair.specs.Gathered.{HeldIfRoom}
@@ -37,7 +37,8 @@ tells-many {limit = limit} {number = number} found given many how-many =
 -- what tells of each number
 module _ {M : Mode} {L R : List ℕ} where
   -- what each number says
-  wrong-length : PairGiven limits M L R 7 → WrongLength limits L ⊎ WrongLength limits R
+  wrong-length : PairGiven limits M L R 7
+      → WrongLength limits (leastAtoms limits M) L ⊎ WrongLength limits (leastAtoms limits M) R
   wrong-length (side-length left wrong) = inl wrong
   wrong-length (side-length right wrong) = inr wrong
 
@@ -52,9 +53,14 @@ module _ {M : Mode} {L R : List ℕ} where
   more-constants (many-constants many) = many
 
   -- and what tells of it
-  pub tells-7 : {first second : Bool} → Tells (WrongLength limits L) first → Tells (WrongLength limits R) second
+  pub tells-7 : {least : ℕ} {first second : Bool} → least ≡ leastAtoms limits M
+      → Tells (WrongLength limits least L) first → Tells (WrongLength limits least R) second
       → Tells (PairGiven limits M L R 7) (first || second)
-  tells-7 = tells-sides {Wrong = WrongLength limits} (λ side is-side wrong. side-length is-side wrong) wrong-length
+  tells-7 {first = first} {second} its of-left of-right =
+      tells-sides {Wrong = WrongLength limits (leastAtoms limits M)} (λ side is-side wrong. side-length is-side wrong)
+      wrong-length
+      (subst (λ least. Tells (WrongLength limits least L) first) its of-left)
+      (subst (λ least. Tells (WrongLength limits least R) second) its of-right)
 
   pub tells-8 : {first second : Bool} → Tells (WrongByte limits L) first → Tells (WrongByte limits R) second
       → Tells (PairGiven limits M L R 8) (first || second)

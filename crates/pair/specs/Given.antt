@@ -2,7 +2,7 @@
 -- of any two sides, and which atom 10 names.
 use Prim.Native.Nat.{ℕ, _<_}
 use mathlib.Core.Path.{_≡_}
-use mathlib.Core.Bool.{true}
+use mathlib.Core.Bool.{true, cond}
 use mathlib.Core.Logic.{_⊎_}
 use mathlib.Core.List.{List, List·Memᴰ}
 use lib.ListN.{length}
@@ -16,9 +16,13 @@ pub data SideOf (L R : List ℕ) : List ℕ → Type 0 where
   left : SideOf L R L
   right : SideOf L R R
 
--- 0 or more than 64 atoms
-abbrev pub WrongLength : Limits → List ℕ → Type 0
-WrongLength limits side = (length side < limits .least-atoms) ⊎ (limits .most-atoms < length side)
+-- the least atoms of a side: where a variable may be empty, "a side may have no atoms" (document 02, R-10)
+abbrev pub leastAtoms : Limits → Mode → ℕ
+leastAtoms limits M = cond (M .empties) 0 (limits .least-atoms)
+
+-- fewer atoms than the least, or more than 64
+abbrev pub WrongLength : Limits → ℕ → List ℕ → Type 0
+WrongLength limits least side = (length side < least) ⊎ (limits .most-atoms < length side)
 
 -- it holds a byte above 127
 pub record WrongByte (limits : Limits) (side : List ℕ) : Type 0 where
@@ -51,8 +55,9 @@ pub record OnBothSides (L R : List ℕ) : Type 0 where
 -- A constructor for each row of the table. Each says when its number is given, whatever else is wrong with
 -- the sides.
 pub data PairGiven (limits : Limits) (M : Mode) (L R : List ℕ) : ℕ → Type 0 where
-  -- a side has 0 or more than 64 atoms
-  side-length : {side : List ℕ} → SideOf L R side → WrongLength limits side → PairGiven limits M L R 7
+  -- a side has 0 or more than 64 atoms; where a variable may be empty, only more than 64
+  side-length : {side : List ℕ} → SideOf L R side → WrongLength limits (leastAtoms limits M) side
+      → PairGiven limits M L R 7
   -- a side holds a byte above 127
   no-atom : {side : List ℕ} → SideOf L R side → WrongByte limits side → PairGiven limits M L R 8
   -- a variable on both sides, where none may stand there (document 02, R-4), whatever its net count

@@ -2,10 +2,11 @@
 use crate::ways::Way;
 ghost use mathlib.Core.Path.{_≡_};
 ghost use mathlib.Core.List.{List};
-ghost use Prim.Native.Nat.{ℕ, _<_};
+ghost use Prim.Native.Nat.{ℕ, _<_, _≤_};
+ghost use lib.ListN.{length};
 ghost use Rattle.ac.specs.Limits.{limits};
 ghost use Rattle.numbers.specs.Tells.{Tells};
-ghost use Rattle.pair.specs.Given.{WrongLength, WrongByte, OnBothSides};
+ghost use Rattle.pair.specs.Given.{WrongByte, OnBothSides};
 ghost use Rattle.pair.specs.Ways.{modeOf};
 ghost use Rattle.pair.specs.Counts.{Occurrences, Moves, variableMoves, TellsShared};
 
@@ -23,7 +24,7 @@ pub struct AtomCounts {
 
 // How often each atom stands on the side.
 pub fn occurrences(side: &[u8]) -> [u8; ATOMS]
-    requires { ⌜ (WrongLength limits (now side) → ⊥) ⌝ }
+    requires { ⌜ length (now side) ≤ limits .most-atoms ⌝ }
     requires { ⌜ (WrongByte limits (now side) → ⊥) ⌝ }
     ensures { λ r. ⌜ Occurrences (now (side .entry)) r ⌝ }
 {

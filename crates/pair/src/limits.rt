@@ -3,7 +3,6 @@
 use crate::counting::ATOMS;
 use crate::counting::AtomCounts;
 use numbers::limits::HIGHEST_ATOM;
-use numbers::limits::LEAST_ATOMS;
 use numbers::limits::MOST_ATOMS;
 use numbers::limits::NET_COUNT;
 ghost use mathlib.Core.Path.{_≡_};
@@ -13,11 +12,11 @@ ghost use Rattle.pair.specs.Given.{WrongLength, WrongByte};
 ghost use Rattle.numbers.specs.Tells.{Tells};
 ghost use Rattle.pair.specs.Counts.{FindsFar};
 
-// Whether the side has too few atoms or too many.
-pub fn wrong_length(side: &[u8]) -> bool
-    ensures { λ r. ⌜ Tells (WrongLength limits (now (side .entry))) r ⌝ }
+// Whether the side has fewer atoms than the least or too many.
+pub fn wrong_length(least: usize, side: &[u8]) -> bool
+    ensures { λ r. ⌜ Tells (WrongLength limits least (now (side .entry))) r ⌝ }
 {
-    side.len() < LEAST_ATOMS || MOST_ATOMS < side.len()
+    side.len() < least || MOST_ATOMS < side.len()
 }
 
 // Whether the side holds a byte that is no atom.

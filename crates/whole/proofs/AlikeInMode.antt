@@ -16,14 +16,15 @@ use Rattle.ac.proofs.Bridge.{difference-negated, difference-equal}
 use Rattle.ac.proofs.Multisets.{same-members, same-lengths}
 use Rattle.numbers.specs.Order.{uncountedNumbers}
 use Rattle.numbers.proofs.Carried.{not-elsewhere}
-use Rattle.pair.specs.Given.{SideOf, WrongLength, WrongByte, OnBothSides, PairGiven, side-length, no-atom, on-both-sides, many-variables, far-net-count, many-constants, many-rows}
+use Rattle.pair.specs.Given.{SideOf, leastAtoms, WrongLength, WrongByte, OnBothSides, PairGiven, side-length, no-atom, on-both-sides, many-variables, far-net-count, many-constants, many-rows}
 use Rattle.pair.proofs.Lists.{filter-same}
 use Rattle.pair.proofs.Modes.{and-same}
 use Rattle.whole.specs.Alike.{NetsAlike, equal, opposite, Alike}
 
 -- 7 and 8 are carried from one pair to another if what is wrong with a side of the one makes the other give the number
 pub uncounted-carried : {limits : Limits} {M : Mode} {L R L′ R′ : List ℕ}
-    → ((side : List ℕ) → SideOf L R side → WrongLength limits side → PairGiven limits M L′ R′ 7)
+    → ((side : List ℕ) → SideOf L R side → WrongLength limits (leastAtoms limits M) side
+    → PairGiven limits M L′ R′ 7)
     → ((side : List ℕ) → SideOf L R side → WrongByte limits side → PairGiven limits M L′ R′ 8)
     → (n : ℕ) → List·Memᴰ n uncountedNumbers → PairGiven limits M L R n → PairGiven limits M L′ R′ n
 uncounted-carried length byte n m (side-length {side} one wrong) = length side one wrong
@@ -39,12 +40,12 @@ uncounted-carried length byte n m (many-rows of many) = absurd (not-elsewhere un
 pub sides-carried : {limits : Limits} {M : Mode} {L R L′ R′ : List ℕ}
     → ((side : List ℕ) → SideOf L R side → (other : List ℕ) × SideOf L′ R′ other × SameSum side other)
     → (n : ℕ) → List·Memᴰ n uncountedNumbers → PairGiven limits M L R n → PairGiven limits M L′ R′ n
-sides-carried {limits} among =
+sides-carried {limits} {M} among =
     uncounted-carried
     (λ side one wrong.
     let found = among side one in
     side-length (found .1)
-    (subst (λ size. (size < limits .least-atoms) ⊎ (limits .most-atoms < size))
+    (subst (λ size. (size < leastAtoms limits M) ⊎ (limits .most-atoms < size))
     (same-lengths side (found .0) (found .2)) wrong))
     (λ side one wrong.
     let found = among side one in

@@ -14,6 +14,7 @@ pub mod Substitutions
 pub mod Unifiers
 pub mod Apart
 pub mod Matches
+pub mod Identity
 pub mod Alike
 pub mod AlikeGroups
 pub mod AlikeAnswers

@@ -12,7 +12,7 @@ use Prim.Native.Nat.{ℕ, _+_, _≤_, _<_}
 use native.Mathlib.Omega.{arith}
 use mathlib.Core.Path.{_≡_, refl, sym, ap, ap₂, subst, _∙_}
 use mathlib.Core.Logic.{inl, inr}
-use mathlib.Core.Bool.{true, false, true≢false}
+use mathlib.Core.Bool.{Bool, true, false, cond, true≢false}
 use mathlib.Core.List.{List, _∷_, List·Memᴰ, List·Memᴰ·head, List·Memᴰ·tail}
 use borrow.Author.Tests.{ltb-true}
 use lib.Dec.{ltb}
@@ -25,7 +25,7 @@ use Rattle.ac.proofs.Bridge.{difference-equal}
 use Rattle.ac.proofs.Counts.{same-other}
 use Rattle.ac.proofs.Multisets.{same-members, same-lengths}
 use Rattle.ac.proofs.Negated.{net-exchanged}
-use Rattle.pair.specs.Given.{SideOf, left, right, WrongLength, WrongByte, OnBothSides, no-atom}
+use Rattle.pair.specs.Given.{SideOf, left, right, leastAtoms, WrongLength, WrongByte, OnBothSides, no-atom}
 use Rattle.pair.specs.Ways.{modeOf}
 use Rattle.pair.specs.declared.ways.Way.{Way}
 use Rattle.pair.proofs.Modes.{constant-stays, same-mode}
@@ -111,16 +111,24 @@ record SideAdded (c : ℕ) (before after : List ℕ) : Type 0 where
   some : 0 < length before
   within : length after ≤ limits .most-atoms
 
+-- in no mode a side has to have more than one atom
+least-one : (M : Mode) → leastAtoms limits M ≤ 1
+least-one M = by-mode (M .empties)
+  where
+    by-mode : (b : Bool) → cond b 0 (limits .least-atoms) ≤ 1
+    by-mode true = omega arith
+    by-mode false = omega arith
+
 module _ {c : ℕ} {before after : List ℕ} (side : SideAdded c before after) where
   -- it is of no wrong length, neither before ..
-  length-before : WrongLength limits before → ⊥
-  length-before (inl few) = omega (arith, side .some)
-  length-before (inr many) = omega (arith, side .within, same-lengths after (c ∷ before) (side .one-more))
+  length-before : (M : Mode) → WrongLength limits (leastAtoms limits M) before → ⊥
+  length-before M (inl few) = omega (arith, side .some, least-one M)
+  length-before M (inr many) = omega (arith, side .within, same-lengths after (c ∷ before) (side .one-more))
 
   -- .. nor after
-  length-after : WrongLength limits after → ⊥
-  length-after (inl few) = omega (arith, same-lengths after (c ∷ before) (side .one-more))
-  length-after (inr many) = omega (arith, side .within)
+  length-after : (M : Mode) → WrongLength limits (leastAtoms limits M) after → ⊥
+  length-after M (inl few) = omega (arith, same-lengths after (c ∷ before) (side .one-more), least-one M)
+  length-after M (inr many) = omega (arith, side .within)
 
   -- what it holds before it holds after
   held-after : {a : ℕ} → List·Memᴰ a before → List·Memᴰ a after
@@ -221,10 +229,10 @@ module _ {L R L′ R′ : List ℕ} (added : ConstantAdded L R L′ R′) where
       alike-in-mode (added-occurs M stays) (equal added-net)
       (λ n m. (
         uncounted-carried
-            (λ side one wrong. absurd (length-before (after side one .2) wrong))
+            (λ side one wrong. absurd (length-before (after side one .2) M wrong))
             (λ side one wrong. no-atom (after side one .1) (byte-after (after side one .2) wrong)) n m,
         uncounted-carried
-            (λ other one wrong. absurd (length-after (before other one .2) wrong))
+            (λ other one wrong. absurd (length-after (before other one .2) M wrong))
             (λ other one wrong. no-atom (before other one .1)
             (byte-before (before other one .2) (added .to-127) wrong)) n m,
       ))

@@ -1,4 +1,5 @@
 pub mod Whole
 pub mod Matching
+pub mod Identity
 pub mod Unifiers
 pub mod Alike

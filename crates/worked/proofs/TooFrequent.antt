@@ -38,8 +38,8 @@ use Rattle.worked.proofs.Within.{all, each, sideTests, length-within, b
 -- the sides hold 1 to 64 atoms, and at most 6 variables; the atom's net count is too far from 0, and no lower one's is
 abbrev farTests : List ℕ → List ℕ → ℕ → List Bool
 farTests L R atom =
-    all (sideTests L)
-    ∷ all (sideTests R)
+    all (sideTests (limits .least-atoms) L)
+    ∷ all (sideTests (limits .least-atoms) R)
     ∷ leb (length (variables unifying L R)) (limits .variables)
     ∷ ltb (limits .net-count) (natAbs (net L R atom))
     ∷ every (λ k. leb (natAbs (net L R k)) (limits .net-count)) (below atom)
@@ -47,20 +47,20 @@ farTests L R atom =
 
 module _ (L R : List ℕ) where
   -- where the sides pass, 7 and 8 are not given
-  module _ (left-passes : all (sideTests L) ≡ true) (right-passes : all (sideTests R) ≡ true) where
-    passes : {side : List ℕ} → SideOf L R side → all (sideTests side) ≡ true
+  module _ (left-passes : all (sideTests (limits .least-atoms) L) ≡ true) (right-passes : all (sideTests (limits .least-atoms) R) ≡ true) where
+    passes : {side : List ℕ} → SideOf L R side → all (sideTests (limits .least-atoms) side) ≡ true
     passes left = left-passes
     passes right = right-passes
 
     not-7 : PairGiven limits unifying L R 7 → ⊥
-    not-7 (side-length {side = side} one wrong) = length-within side (passes one) wrong
+    not-7 (side-length {side = side} one wrong) = length-within (limits .least-atoms) side (passes one) wrong
 
     not-8 : PairGiven limits unifying L R 8 → ⊥
     not-8 (no-atom {side = side} one wrong) =
-        omega (arith, wrong .above, byte-within side (passes one) (wrong .held))
+        omega (arith, wrong .above, byte-within (limits .least-atoms) side (passes one) (wrong .held))
 
   -- seven variables are refused with 9, whatever their net counts
-  pub nine-first : all (sideTests L) ≡ true → all (sideTests R) ≡ true
+  pub nine-first : all (sideTests (limits .least-atoms) L) ≡ true → all (sideTests (limits .least-atoms) R) ≡ true
       → ltb (limits .variables) (length (variables unifying L R)) ≡ true
       → First (PairGiven limits unifying L R) sidesNumbers 9
   nine-first left-passes right-passes many =

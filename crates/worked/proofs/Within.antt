@@ -18,7 +18,7 @@ use Rattle.ac.proofs.Counts.{count-append, count-some, count-member}
 use Rattle.ac.proofs.Groups.{groups-exist, groups-unique}
 use Rattle.ac.proofs.Tests.{both, every-member}
 use Rattle.ac.specs.Limits.{limits}
-use Rattle.pair.specs.Given.{SideOf, left, right, WrongLength, OnBothSides, ManyRows, balanced, of-a-constant, PairGiven, side-length, no-atom, on-both-sides, many-variables, far-net-count, many-constants, many-rows}
+use Rattle.pair.specs.Given.{SideOf, left, right, leastAtoms, WrongLength, OnBothSides, ManyRows, balanced, of-a-constant, PairGiven, side-length, no-atom, on-both-sides, many-variables, far-net-count, many-constants, many-rows}
 use Rattle.pair.proofs.NetCounts.{natAbs-difference}
 
 -- all of some tests pass
@@ -31,9 +31,9 @@ each [] passes place = refl
 each (test ∷ tests) passes zero = both test (all tests) passes .0
 each (test ∷ tests) passes (suc place) = each tests (both test (all tests) passes .1) place
 
--- a side has 1 to 64 atoms, and none of them is above 127
-abbrev pub sideTests : List ℕ → List Bool
-sideTests side = leb (limits .least-atoms) (length side) ∷ leb (length side) (limits .most-atoms) ∷ every (λ a. leb a (limits .highest-atom)) side ∷ []
+-- a side has at least so many and at most 64 atoms, and none of them is above 127
+abbrev pub sideTests : ℕ → List ℕ → List Bool
+sideTests least side = leb least (length side) ∷ leb (length side) (limits .most-atoms) ∷ every (λ a. leb a (limits .highest-atom)) side ∷ []
 
 -- at most 16 balanced rows, and at most 16 for each constant
 abbrev rowTests : Groups → List Bool
@@ -43,8 +43,8 @@ rowTests G = leb (length (G .balanced)) (limits .balanced-rows) ∷ every (λ g.
 -- unbalanced constants; and where the mode asks for it, no variable of the left side on the right
 abbrev pairTests : Mode → List ℕ → List ℕ → List Bool
 pairTests M L R =
-    all (sideTests L)
-    ∷ all (sideTests R)
+    all (sideTests (leastAtoms limits M) L)
+    ∷ all (sideTests (leastAtoms limits M) R)
     ∷ leb (length (variables M L R)) (limits .variables)
     ∷ every (λ a. leb (natAbs (net L R a)) (limits .net-count)) (L ++ R)
     ∷ leb (length (unbalanced M L R)) (limits .constants)
@@ -56,14 +56,15 @@ pairTests M L R =
 abbrev pub within : Mode → List ℕ → List ℕ → Bool
 within M L R = all (pairTests M L R)
 
-module _ (side : List ℕ) (passes : all (sideTests side) ≡ true) where
-  pub length-within : WrongLength limits side → ⊥
-  length-within (inl few) = omega (arith, leb-true (limits .least-atoms) (length side) (each (sideTests side) passes 0))
-  length-within (inr many) = omega (arith, leb-true (length side) (limits .most-atoms) (each (sideTests side) passes 1))
+module _ (least : ℕ) (side : List ℕ) (passes : all (sideTests least side) ≡ true) where
+  pub length-within : WrongLength limits least side → ⊥
+  length-within (inl few) = omega (arith, leb-true least (length side) (each (sideTests least side) passes 0))
+  length-within (inr many) =
+      omega (arith, leb-true (length side) (limits .most-atoms) (each (sideTests least side) passes 1))
 
   -- every byte of a side that passes is at most 127
   pub byte-within : {byte : ℕ} → List·Memᴰ byte side → byte ≤ limits .highest-atom
-  byte-within {byte} m = leb-true byte (limits .highest-atom) (every-member (λ a. leb a (limits .highest-atom)) (each (sideTests side) passes 2) m)
+  byte-within {byte} m = leb-true byte (limits .highest-atom) (every-member (λ a. leb a (limits .highest-atom)) (each (sideTests least side) passes 2) m)
 
 -- groups that pass have not too many rows
 rows-within : {G : Groups} → all (rowTests G) ≡ true → ManyRows limits G → ⊥
@@ -92,7 +93,7 @@ module _ (M : Mode) (L R : List ℕ) (passes : within M L R ≡ true) where
   passed = each (pairTests M L R) passes
 
   -- each of the two sides passes
-  side-within : {side : List ℕ} → SideOf L R side → all (sideTests side) ≡ true
+  side-within : {side : List ℕ} → SideOf L R side → all (sideTests (leastAtoms limits M) side) ≡ true
   side-within left = passed 0
   side-within right = passed 1
 
@@ -109,9 +110,9 @@ module _ (M : Mode) (L R : List ℕ) (passes : within M L R ≡ true) where
 
   -- no row of the table is given
   pub never-given : {n : ℕ} → PairGiven limits M L R n → ⊥
-  never-given (side-length {side} one wrong) = length-within side (side-within one) wrong
+  never-given (side-length {side} one wrong) = length-within (leastAtoms limits M) side (side-within one) wrong
   never-given (no-atom {side} one wrong) =
-      omega (arith, wrong .above, byte-within side (side-within one) (wrong .held))
+      omega (arith, wrong .above, byte-within (leastAtoms limits M) side (side-within one) (wrong .held))
   never-given (on-both-sides asked shared) = none-shared asked shared
   never-given (many-variables many) = omega (arith, leb-true (length (variables M L R)) (limits .variables) (passed 2))
   never-given (far-net-count atom far) = omega (arith, near-zero L R (passed 3) atom)

@@ -96,12 +96,12 @@ first-19 = later not-7 (later not-8 (here (on-both-sides refl (record {
 }))))
   where
     not-7 : PairGiven limits (matching (0 ∷ 64 ∷ [])) (0 ∷ 64 ∷ []) (0 ∷ 65 ∷ []) 7 → ⊥
-    not-7 (side-length left wrong) = length-within (0 ∷ 64 ∷ []) refl wrong
-    not-7 (side-length right wrong) = length-within (0 ∷ 65 ∷ []) refl wrong
+    not-7 (side-length left wrong) = length-within (limits .least-atoms) (0 ∷ 64 ∷ []) refl wrong
+    not-7 (side-length right wrong) = length-within (limits .least-atoms) (0 ∷ 65 ∷ []) refl wrong
 
     not-8 : PairGiven limits (matching (0 ∷ 64 ∷ [])) (0 ∷ 64 ∷ []) (0 ∷ 65 ∷ []) 8 → ⊥
-    not-8 (no-atom left wrong) = omega (arith, wrong .above, byte-within (0 ∷ 64 ∷ []) refl (wrong .held))
-    not-8 (no-atom right wrong) = omega (arith, wrong .above, byte-within (0 ∷ 65 ∷ []) refl (wrong .held))
+    not-8 (no-atom left wrong) = omega (arith, wrong .above, byte-within (limits .least-atoms) (0 ∷ 64 ∷ []) refl (wrong .held))
+    not-8 (no-atom right wrong) = omega (arith, wrong .above, byte-within (limits .least-atoms) (0 ∷ 65 ∷ []) refl (wrong .held))
 
 pub shared-refused : (out : List ℕ) → rowsBuffer ≤ length out
     → Answers (rowsQuestionBy Matching) (shared tt) out (refused (saidOf OnBothSides)) out

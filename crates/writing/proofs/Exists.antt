@@ -41,7 +41,7 @@ module _ (L R : List ℕ) (number : ℕ) (block : List ℕ) where
   write-settled = settle
       (next (same-dec short-buffer too-short (decLt (length block) 512))
       (next (same-dec (⊎-elim (side-length left) (side-length right)) wrong-lengths
-      (either-dec (wrong-length-dec limits L) (wrong-length-dec limits R)))
+      (either-dec (wrong-length-dec limits (limits .least-atoms) L) (wrong-length-dec limits (limits .least-atoms) R)))
       (next (same-dec (⊎-elim (no-atom left) (no-atom right)) wrong-bytes
       (either-dec (wrong-byte-dec limits L) (wrong-byte-dec limits R)))
       (next (same-dec wrong-side wrong-sides (either-dec (holds-variable-dec 32 63 L) (holds-variable-dec 0 31 R)))

@@ -26,7 +26,8 @@ use Rattle.writing.proofs.Sides.{Lengths}
 
 module _ {L R block : List ℕ} where
   -- what each number says
-  pub wrong-lengths : WriteGiven L R block 7 → WrongLength limits L ⊎ WrongLength limits R
+  pub wrong-lengths : WriteGiven L R block 7
+      → WrongLength limits (limits .least-atoms) L ⊎ WrongLength limits (limits .least-atoms) R
   wrong-lengths (side-length left wrong) = inl wrong
   wrong-lengths (side-length right wrong) = inr wrong
 
@@ -41,9 +42,12 @@ module _ {L R block : List ℕ} where
   too-short (short-buffer short) = short
 
   -- and what tells of it
-  pub tells-7 : {first second : Bool} → Tells (WrongLength limits L) first → Tells (WrongLength limits R) second
+  pub tells-7 : {first second : Bool} → Tells (WrongLength limits (limits .least-atoms) L) first
+      → Tells (WrongLength limits (limits .least-atoms) R) second
       → Tells (WriteGiven L R block 7) (first || second)
-  tells-7 = tells-sides {Wrong = WrongLength limits} (λ side is-side wrong. side-length is-side wrong) wrong-lengths
+  tells-7 =
+      tells-sides {Wrong = WrongLength limits (limits .least-atoms)} (λ side is-side wrong. side-length is-side wrong)
+      wrong-lengths
 
   pub tells-8 : {first second : Bool} → Tells (WrongByte limits L) first → Tells (WrongByte limits R) second
       → Tells (WriteGiven L R block 8) (first || second)

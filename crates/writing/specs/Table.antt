@@ -20,7 +20,8 @@ WrongSide left right = HoldsVariable 32 63 left ⊎ HoldsVariable 0 31 right
 -- When each number is given, whatever else is wrong.
 pub data WriteGiven (left right block : List ℕ) : ℕ → Type 0 where
   -- a side has 0 or more than 64 atoms
-  side-length : {side : List ℕ} → SideOf left right side → WrongLength limits side → WriteGiven left right block 7
+  side-length : {side : List ℕ} → SideOf left right side → WrongLength limits (limits .least-atoms) side
+      → WriteGiven left right block 7
   -- a side holds a byte above 127
   no-atom : {side : List ℕ} → SideOf left right side → WrongByte limits side → WriteGiven left right block 8
   -- a variable on the wrong side

@@ -3,6 +3,7 @@ use block::header::check_of;
 use buffer::put_bytes;
 use buffer::put_repeated;
 use numbers::Refusal;
+use numbers::limits::LEAST_ATOMS;
 use numbers::limits::MOST_ATOMS;
 use pair::limits::wrong_byte;
 use pair::limits::wrong_length;
@@ -27,7 +28,7 @@ pub fn write(left: &[u8], right: &[u8], number: u16, block: &mut [u8]) -> WriteA
     ensures { λ r. ⌜ WritePromise (now (left .entry)) (now (right .entry)) number (now (block .entry))
         (toldWrite r) (now (block .exit)) ⌝ }
 {
-    let wrong_lengths = wrong_length(left) | wrong_length(right);
+    let wrong_lengths = wrong_length(LEAST_ATOMS, left) | wrong_length(LEAST_ATOMS, right);
     let wrong_bytes = wrong_byte(left) | wrong_byte(right);
     let wrong_sides = holds_variable(left, 32, 63) | holds_variable(right, 0, 31);
     if block.len() < 512 {

@@ -2,6 +2,7 @@
 -- rest. Assumes nothing.
 use mathlib.Core.Path.{refl}
 use mathlib.Core.Bool.{_||_}
+use mathlib.Core.Logic.{inr}
 use mathlib.Core.List.{List}
 use Prim.Native.Nat.{ℕ}
 use denote.Ref.{now}
@@ -13,7 +14,10 @@ use Rattle.pair.specs.Given.{PairGiven, side-length, no-atom, left, righ
 use Rattle.numbers.specs.Tells.{Tells}
 use Rattle.numbers.specs.declared.Refusal.the-variants.{SideLength, NoAtom, OnBothSides}
 use Rattle.pair.specs.Ways.{modeOf}
+use Rattle.pair.specs.declared.ways.Way.{Way}
+use Rattle.pair.proofs.Modes.{its-least}
 use Rattle.pair.proofs.Parting.{tells-7, tells-8}
+use Rattle.pair.proofs.Telling.{at-most}
 use Rattle.pair.proofs.take_apart.Statement.{statement}
 use Rattle.pair.proofs.take_apart.Tie as tie
 
@@ -24,13 +28,16 @@ L c = now (c .before .before .before .before .before .before .args .left)
 abbrev R : tie.After-wrong-byte2 → List ℕ
 R c = now (c .before .before .before .before .before .before .args .right)
 
+abbrev way : tie.After-wrong-byte2 → Way
+way c = c .before .before .before .before .before .before .args .way
+
 abbrev M : tie.After-wrong-byte2 → Mode
-M c = modeOf (c .before .before .before .before .before .before .args .way) (L c) (R c)
+M c = modeOf (way c) (L c) (R c)
 
 seven : (c : tie.After-wrong-byte2)
     → Tells (PairGiven limits (M c) (L c) (R c) 7)
     (c .before .before .before .wrong-length .result || c .before .before .wrong-length2 .result)
-seven c = tells-7 (c .before .before .before .wrong-length .ensures) (c .before .before .wrong-length2 .ensures)
+seven c = tells-7 (its-least (way c) (L c) (R c)) (c .before .before .before .wrong-length .ensures) (c .before .before .wrong-length2 .ensures)
 
 eight : (c : tie.After-wrong-byte2)
     → Tells (PairGiven limits (M c) (L c) (R c) 8) (c .before .wrong-byte .result || c .wrong-byte2 .result)
@@ -80,11 +87,13 @@ returns-2 c =
 
 occurrences-requires : tie.Need-occurrences-requires
 occurrences-requires c κs =
-    (λ wrong. not7 c (side-length left wrong), λ wrong. not8 c (no-atom left wrong))
+    (at-most _ _ (λ many. not7 c (side-length left (inr many))), λ wrong. not8 c (no-atom left wrong))
 
 occurrences-requires-2 : tie.Need-occurrences-requires-2
-occurrences-requires-2 c κs =
-    (λ wrong. not7 (c .before) (side-length right wrong), λ wrong. not8 (c .before) (no-atom right wrong))
+occurrences-requires-2 c κs = (
+  at-most _ _ (λ many. not7 (c .before) (side-length right (inr many))),
+  λ wrong. not8 (c .before) (no-atom right wrong),
+)
 
 not-separate-requires : tie.Need-not-separate-requires
 not-separate-requires c κs = tt

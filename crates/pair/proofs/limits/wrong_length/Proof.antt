@@ -10,7 +10,7 @@ use Rattle.pair.proofs.limits.wrong_length.Statement.{statement}
 use Rattle.pair.proofs.limits.wrong_length.Tie as tie
 
 returns : tie.Need-returns
-returns c = rw (lt-ltb (length (now (c .before .args .side))) 1 (c .if1 .taken)) (tells-true (inl (c .if1 .taken)))
+returns c = rw (lt-ltb (length (now (c .before .args .side))) (c .before .args .least) (c .if1 .taken)) (tells-true (inl (c .if1 .taken)))
 
 returns-2 : tie.Need-returns-2
 returns-2 c = tells-second (omega arith) (tells-less 64 (length (now (c .before .args .side))))

@@ -6,7 +6,7 @@ use mathlib.Core.Logic.{_↔_}
 use mathlib.Core.Bool.{Bool, _||_}
 use mathlib.Core.List.{List, List·Memᴰ}
 use borrow.Author.Tests.{leb-true}
-use Rattle.ac.specs.Pair.{Mode, IsSide, count, variables}
+use Rattle.ac.specs.Pair.{Mode, IsSide, count}
 use Rattle.ac.specs.Replacement.{Replacement, put, SameSum, NonEmpty, Unifies, ComesFrom, isNew}
 use Rattle.ac.specs.Theory.{Theory, Substitution, Unifier, MoreGeneral, Pure, anyVariable, variablesOf}
 use Rattle.ac.proofs.Agree.{put-agrees, put-moving, Agree, unifies-alike}

@@ -1,11 +1,11 @@
 -- Where a value may be empty (document 02, R-10), nothing is listed exactly where some unbalanced constant has no row
 -- (`none-without-row`), and so no replacement unifies exactly there (`unifies-without-row`).
-use Prim.Native.Nat.{ℕ, zero, suc, _≤_, _<_}
+use Prim.Native.Nat.{ℕ, zero, suc, _<_}
 use native.Mathlib.Omega.{arith}
 use mathlib.Core.Path.{_≡_, refl, sym, ap, subst, _∙_}
 use mathlib.Core.Logic.{_↔_, Iff·symm, Iff·trans}
-use mathlib.Core.Bool.{Bool, true}
-use mathlib.Core.List.{List, [], _∷_, map, List·Memᴰ, List·Memᴰ·head, List·Memᴰ·tail, List·Memᴰ·not-nil}
+use mathlib.Core.Bool.{true}
+use mathlib.Core.List.{List, [], _∷_, List·Memᴰ, List·Memᴰ·head, List·Memᴰ·tail, List·Memᴰ·not-nil}
 use lib.Dec.{lit≤}
 use lib.ListN.{length, getD, replicate, length-replicate}
 use Rattle.ac.specs.Pair.{Mode, IsSide}

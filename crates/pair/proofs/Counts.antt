@@ -10,7 +10,7 @@ use lib.ListN.{length, getD, set, take, replicate, length-take, length-set}
 use lib.Seq.{take-suc, getD-set-same, getD-set-other}
 use lib.Dec.{eqb, ltb}
 use borrow.Author.Tests.{lt-ltb, le-ltb, ltb-true}
-use Rattle.ac.specs.Pair.{count, same, unifying, matching}
+use Rattle.ac.specs.Pair.{Mode, count, same, matching}
 use Rattle.ac.proofs.Places.{getD-member}
 use Rattle.ac.proofs.Counts.{same-self, same-other, count-append, count-some, count-member}
 use Rattle.ac.specs.Limits.{limits}
@@ -19,7 +19,7 @@ use Rattle.pair.specs.Given.{WrongByte, OnBothSides, PairGiven, on-both-
 use Rattle.pair.specs.Ways.{modeOf}
 use Rattle.pair.specs.Counts.{Occurrences, Moves, variableMoves}
 use Rattle.pair.specs.declared.ways.Way.{Way}
-use Rattle.pair.specs.declared.ways.Way.the-variants.{Unifying, Matching}
+use Rattle.pair.specs.declared.ways.Way.the-variants.{Unifying, Matching, Identity}
 use Rattle.pair.proofs.Lists.{getD-replicate-same}
 use Rattle.pair.proofs.Telling.{at-most, tells-same}
 
@@ -108,6 +108,7 @@ moves-said Unifying L R table {n} counted all said a = said a ∙ and-true-right
 moves-said Matching L R table {n} counted all said a =
     said a ∙ ap (λ (k : ℕ). ltb a n && ltb 0 k) (counted .entries a)
     ∙ ap (λ (k : ℕ). ltb a k && ltb 0 (count a L)) all
+moves-said Identity L R table {n} counted all said a = said a ∙ and-true-right (ltb a n) ∙ ap (ltb a) all
 
 -- a variable that stands on both sides, by the two tables
 module _ {L R lefts rights : List ℕ} (of-left : Occurrences L lefts) (of-right : Occurrences R rights) where
@@ -129,8 +130,8 @@ module _ {L R lefts rights : List ℕ} (of-left : Occurrences L lefts) (of-right
       )
 
 -- it refuses where the way asks for separate variables
-pub never-separate : {L R : List ℕ} → PairGiven limits unifying L R 19 → ⊥
-never-separate (on-both-sides asked shared) = let z : _≡_ {A = ℕ} 0 1 = cc asked in omega arith
+pub never-separate : {M : Mode} {L R : List ℕ} → M .separate ≡ false → PairGiven limits M L R 19 → ⊥
+never-separate free (on-both-sides asked shared) = let z : _≡_ {A = ℕ} 0 1 = cc (free, asked) in omega arith
 
 pub tells-separate : {L R : List ℕ} {told : Bool} → Tells (OnBothSides L R) told
     → Tells (PairGiven limits (matching L) L R 19) told

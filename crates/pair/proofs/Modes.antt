@@ -6,26 +6,15 @@ use mathlib.Core.List.{List}
 use borrow.Author.Tests.{le-ltb}
 use lib.Dec.{ltb}
 use Rattle.ac.specs.Pair.{Mode, isVariable, count}
-use Rattle.ac.specs.Limits.{limits}
-use Rattle.pair.specs.Given.{leastAtoms}
 use Rattle.pair.specs.Ways.{modeOf}
 use Rattle.pair.specs.declared.ways.Way.{Way}
-use Rattle.pair.specs.declared.ways.Way.the-variants.{Unifying, Matching}
-
--- no value is empty
-pub never-empties : (way : Way) (L R : List ℕ) → modeOf way L R .empties ≡ false
-never-empties Unifying L R = refl
-never-empties Matching L R = refl
-
--- so a side has to have an atom
-pub its-least : (way : Way) (L R : List ℕ) → limits .least-atoms ≡ leastAtoms limits (modeOf way L R)
-its-least Unifying L R = refl
-its-least Matching L R = refl
+use Rattle.pair.specs.declared.ways.Way.the-variants.{Unifying, Matching, Identity}
 
 -- a constant, 64 or above, does not move
 pub constant-stays : (way : Way) (L R : List ℕ) (c : ℕ) → 64 ≤ c → modeOf way L R .moves c ≡ false
 constant-stays Unifying L R c from-64 = le-ltb c 64 from-64
 constant-stays Matching L R c from-64 = ap (λ variable. variable && ltb 0 (count c L)) (le-ltb c 64 from-64)
+constant-stays Identity L R c from-64 = le-ltb c 64 from-64
 
 -- two tests after one that both ask first
 pub and-same : (b : Bool) {p q : Bool} → (b ≡ true → p ≡ q) → (b && p) ≡ (b && q)
@@ -39,3 +28,4 @@ same-mode Unifying L R L′ R′ same = refl
 same-mode Matching L R L′ R′ same =
     ap {B = Mode} (λ moves. record { moves = moves; empties = false; separate = true })
     (fun-ext (λ a. and-same (isVariable a) (λ variable. ap (ltb 0) (same a variable))))
+same-mode Identity L R L′ R′ same = refl

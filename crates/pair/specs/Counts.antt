@@ -12,7 +12,7 @@ use Rattle.numbers.specs.Tells.{Tells}
 use Rattle.pair.specs.Given.{LowestFar, PairGiven}
 use Rattle.pair.specs.Ways.{modeOf}
 use Rattle.pair.specs.declared.ways.Way.{Way}
-use Rattle.pair.specs.declared.ways.Way.the-variants.{Unifying, Matching}
+use Rattle.pair.specs.declared.ways.Way.the-variants.{Unifying, Matching, Identity}
 use Rattle.pair.specs.declared.counting.AtomCounts.{AtomCounts}
 use Rattle.pair.specs.declared.limits.NetCounts.{NetCounts}
 use Rattle.pair.specs.declared.limits.NetCounts.the-variants.{Far, Near}
@@ -30,6 +30,7 @@ Moves M table = (atom : ℕ) → getD table atom false ≡ M .moves atom
 abbrev pub variableMoves : Way → ℕ → Bool
 variableMoves Unifying left = true
 variableMoves Matching left = ltb 0 left
+variableMoves Identity left = true
 
 -- it says whether 19 is given of the sides whose atoms were counted
 abbrev pub TellsShared : Way → List ℕ → List ℕ → Bool → Type 0

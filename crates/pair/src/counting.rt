@@ -45,6 +45,7 @@ fn moves(way: Way, left: u8) -> bool
     match way {
         Way::Unifying => true,
         Way::Matching => 0 < left,
+        Way::Identity => true,
     }
 }
 
@@ -89,5 +90,6 @@ pub fn not_separate(way: Way, lefts: [u8; ATOMS], rights: [u8; ATOMS]) -> bool
     match way {
         Way::Unifying => false,
         Way::Matching => shares_variable(lefts, rights),
+        Way::Identity => false,
     }
 }

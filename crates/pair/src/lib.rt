@@ -12,7 +12,6 @@ use limits::NetCounts;
 use numbers::Refusal;
 use numbers::Verdict;
 use numbers::limits::CONSTANTS;
-use numbers::limits::LEAST_ATOMS;
 use numbers::limits::VARIABLES;
 use ways::Way;
 ghost use mathlib.Core.Path.{_≡_};
@@ -94,8 +93,8 @@ fn part(counts: AtomCounts) -> Parted
 pub fn take_apart(way: Way, left: &[u8], right: &[u8]) -> Parted
     ensures { λ r. ⌜ TakesApart (modeOf way (now (left .entry)) (now (right .entry))) (now (left .entry)) (now (right .entry)) r ⌝ }
 {
-    let wrong_lengths = limits::wrong_length(LEAST_ATOMS, left)
-        | limits::wrong_length(LEAST_ATOMS, right);
+    let least = limits::least_atoms(way);
+    let wrong_lengths = limits::wrong_length(least, left) | limits::wrong_length(least, right);
     let wrong_bytes = limits::wrong_byte(left) | limits::wrong_byte(right);
     if wrong_lengths {
         return refused(Refusal::SideLength);

@@ -2,15 +2,27 @@
 // sides do not.
 use crate::counting::ATOMS;
 use crate::counting::AtomCounts;
+use crate::ways::Way;
+use crate::ways::may_be_empty;
 use numbers::limits::HIGHEST_ATOM;
+use numbers::limits::LEAST_ATOMS;
 use numbers::limits::MOST_ATOMS;
 use numbers::limits::NET_COUNT;
 ghost use mathlib.Core.Path.{_≡_};
-ghost use Prim.Native.Nat.{_+_, _-_};
+ghost use mathlib.Core.List.{List};
+ghost use Prim.Native.Nat.{ℕ, _+_, _-_};
 ghost use Rattle.ac.specs.Limits.{limits};
-ghost use Rattle.pair.specs.Given.{WrongLength, WrongByte};
+ghost use Rattle.pair.specs.Given.{leastAtoms, WrongLength, WrongByte};
 ghost use Rattle.numbers.specs.Tells.{Tells};
 ghost use Rattle.pair.specs.Counts.{FindsFar};
+ghost use Rattle.pair.specs.Ways.{modeOf};
+
+// The least atoms of a side: none where a variable may be empty.
+pub fn least_atoms(way: Way) -> usize
+    ensures { λ r. ⌜ ((L R : List ℕ) → r ≡ leastAtoms limits (modeOf way L R)) ⌝ }
+{
+    if may_be_empty(way) { 0 } else { LEAST_ATOMS }
+}
 
 // Whether the side has fewer atoms than the least or too many.
 pub fn wrong_length(least: usize, side: &[u8]) -> bool

@@ -15,7 +15,6 @@ use Rattle.numbers.specs.Tells.{Tells}
 use Rattle.numbers.specs.declared.Refusal.the-variants.{SideLength, NoAtom, OnBothSides}
 use Rattle.pair.specs.Ways.{modeOf}
 use Rattle.pair.specs.declared.ways.Way.{Way}
-use Rattle.pair.proofs.Modes.{its-least}
 use Rattle.pair.proofs.Parting.{tells-7, tells-8}
 use Rattle.pair.proofs.Telling.{at-most}
 use Rattle.pair.proofs.take_apart.Statement.{statement}
@@ -23,13 +22,13 @@ use Rattle.pair.proofs.take_apart.Tie as tie
 
 -- the sides and their mode, and what the flags tell of them, where both are made
 abbrev L : tie.After-wrong-byte2 → List ℕ
-L c = now (c .before .before .before .before .before .before .args .left)
+L c = now (c .before .before .before .before .before .before .before .args .left)
 
 abbrev R : tie.After-wrong-byte2 → List ℕ
-R c = now (c .before .before .before .before .before .before .args .right)
+R c = now (c .before .before .before .before .before .before .before .args .right)
 
 abbrev way : tie.After-wrong-byte2 → Way
-way c = c .before .before .before .before .before .before .args .way
+way c = c .before .before .before .before .before .before .before .args .way
 
 abbrev M : tie.After-wrong-byte2 → Mode
 M c = modeOf (way c) (L c) (R c)
@@ -37,7 +36,7 @@ M c = modeOf (way c) (L c) (R c)
 seven : (c : tie.After-wrong-byte2)
     → Tells (PairGiven limits (M c) (L c) (R c) 7)
     (c .before .before .before .wrong-length .result || c .before .before .wrong-length2 .result)
-seven c = tells-7 (its-least (way c) (L c) (R c)) (c .before .before .before .wrong-length .ensures) (c .before .before .wrong-length2 .ensures)
+seven c = tells-7 (c .before .before .before .before .least-atoms .ensures (L c) (R c)) (c .before .before .before .wrong-length .ensures) (c .before .before .wrong-length2 .ensures)
 
 eight : (c : tie.After-wrong-byte2)
     → Tells (PairGiven limits (M c) (L c) (R c) 8) (c .before .wrong-byte .result || c .wrong-byte2 .result)
@@ -55,6 +54,9 @@ nineteen : (c : tie.After-not-separate)
     → let made = c .before .before .before .before .before in
     Tells (PairGiven limits (M made) (L made) (R made) 19) (c .not-separate .result)
 nineteen c = c .not-separate .ensures _ _ (c .before .before .occurrences .ensures) (c .before .occurrences2 .ensures)
+
+least-atoms-requires : tie.Need-least-atoms-requires
+least-atoms-requires c κs = tt
 
 wrong-length-requires : tie.Need-wrong-length-requires
 wrong-length-requires c κs = tt
@@ -132,6 +134,7 @@ pub take-apart-spec : {M : Type 1} → statement M
 take-apart-spec =
     tie.close
     (tie.spec
+    least-atoms-requires
     wrong-length-requires
     wrong-length-requires-2
     wrong-byte-requires

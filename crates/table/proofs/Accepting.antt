@@ -3,7 +3,7 @@ use Prim.Native.Nat.{ℕ, zero, suc, _+_, _≤_, _<_}
 use native.Mathlib.Omega.{arith}
 use native.Mathlib.Decide.{ℕ-discrete}
 use mathlib.Core.Path.{_≡_, refl, sym, ap, subst, _∙_}
-use mathlib.Core.Bool.{true, false, false≢true}
+use mathlib.Core.Bool.{Bool, true, false, false≢true}
 use mathlib.Core.List.{List, List·Memᴰ}
 use lib.ListN.{length, getD, take, set, length-take}
 use lib.Seq.{take-take, getD-set-same, getD-set-other}
@@ -97,7 +97,8 @@ pub record PutUpto (pair : Pair) (rows sizes : List ℕ) (group : ℕ) : Type 0 
 
 -- The table that holds the pair's atoms beside all its groups is that of the pair.
 module _ {M : Mode} {L R : List ℕ} {pair : Pair} (none : NoneOf (PairGiven limits M L R) partingNumbers)
-    (of : PairOf M L R pair) (roomy : Roomy pair) {four rows sizes : List ℕ}
+    (of : PairOf M L R pair) (roomy : Roomy pair) {four rows sizes : List ℕ} {empties : Bool}
+    (whether : M .empties ≡ empties)
     (first-four : four ≡ take (limits .constants) (pair .constants .atoms))
     (known : GroupsUpto (RowIn M L R) (pair .variables .count) rows sizes
     (suc (length (unbalanced M L R)))) where
@@ -110,6 +111,7 @@ module _ {M : Mode} {L R : List ℕ} {pair : Pair} (none : NoneOf (PairGiven lim
         unbalanced = pair .constants .count;
         rows = rows;
         sizes = sizes;
+        empties = empties;
       }
 
   -- its constants are the unbalanced ones
@@ -163,4 +165,5 @@ module _ {M : Mode} {L R : List ℕ} {pair : Pair} (none : NoneOf (PairGiven lim
               the-constants = constants-groupsFrom tableWith 1 (take (pair .constants .count) four) ∙ the-constants;
               constant-rows = rows-of-constant;
             };
+        whether-empty = whether;
       }

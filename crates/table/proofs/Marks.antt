@@ -1,17 +1,18 @@
 -- The masks made of a table are those of its groups.
-use Prim.Native.Nat.{ℕ, _+_, _*_, _/_, _%_, _<_}
+use Prim.Native.Nat.{ℕ, _+_, _*_, _/_, _%_, _^_, _<_, _≤_}
 use native.Mathlib.Omega.{arith}
 use native.Mathlib.Decide.{decLt}
-use mathlib.Core.Path.{_≡_, refl, sym, _∙_, ap, subst}
-use mathlib.Core.Bool.{_&&_}
+use mathlib.Core.Path.{_≡_, sym, _∙_, ap, subst}
+use mathlib.Core.Bool.{Bool, true, false, _&&_}
 use mathlib.Core.List.{List, []}
 use borrow.Author.Tests.{lt-ltb, le-ltb}
 use borrow.Author.Count.{below-more}
 use lib.Dec.{ltb}
 use lib.ListN.{length, getD, set, List·getD-eq-default}
+use lib.Pow.{pow-mono}
 use lib.Seq.{getD-set-same, getD-set-other}
 use Rattle.table.specs.Table.{rowStart, groupAt, groupsIn, InRoom}
-use Rattle.table.specs.Masks.{Marks, MarksIn, MarksAt, Marked, MasksOf}
+use Rattle.table.specs.Masks.{Marks, MarksIn, MarksAt, Marked, placesToReach, rowsToTake, MasksOf}
 use Rattle.table.specs.declared.Table.{Table}
 use Rattle.table.proofs.TableGroups.{length-groupAt, how-many-constants, entry-at, group-in, table-sized}
 
@@ -23,6 +24,16 @@ set-more P l at v inside before here =
     below-more (λ k. P k (getD (set l at v) k 0)) at
     (λ k h. subst (P k) (sym (getD-set-other l at k v 0 (λ e. absurd (omega arith)))) (before k h))
     (subst (P at) (sym (getD-set-same l at v 0 inside)) here)
+
+-- no more places have to be reached than there are
+pub few-to-reach : (empties : Bool) (places : ℕ) → placesToReach empties places ≤ places
+few-to-reach true places = omega arith
+few-to-reach false places = omega arith
+
+-- a mask has room for the balanced rows that have to be taken
+pub few-to-take : (empties : Bool) {balanced : ℕ} → balanced ≤ 16 → rowsToTake empties balanced < 2 ^ 16
+few-to-take true few = omega (arith, pow-mono few)
+few-to-take false few = omega arith
 
 module _ {t : Table} (within : InRoom t) where
   -- entry by entry a mask marks the rows of the group
@@ -58,13 +69,26 @@ module _ {t : Table} (within : InRoom t) where
           (each (6 * g + p) (omega (arith, within .places-fit, within .constants-fit))))));
     }
 
-    pub masks-made : (unreached : ℕ) (choices : List ℕ) → MasksOf (groupsIn t) (t .places)
-        (record {
-          places = t .places;
+    pub masks-made : (places must unreached : ℕ) (choices : List ℕ)
+        → places ≡ placesToReach (t .empties) (t .places) → must ≡ rowsToTake (t .empties) (getD (t .sizes) 0 0)
+        → MasksOf t (record {
+          places = places;
+          must = must;
           unbalanced = t .unbalanced;
           sizes = t .sizes;
           reaching = reaching;
           unreached = unreached;
           choices = choices;
         })
-    masks-made unreached choices = record { the-places = refl; sized = table-sized within; marked = all-marked }
+    masks-made places must unreached choices its-places its-must =
+        record {
+          the-places = its-places;
+          the-must = its-must ∙ ap (rowsToTake (t .empties)) (sym (length-groupAt t 0));
+          sized = table-sized within;
+          marked =
+              record {
+                how-many-constants = all-marked .how-many-constants;
+                marks = λ g p used place.
+                    all-marked .marks g p used (omega (arith, few-to-reach (t .empties) (t .places), its-places));
+              };
+        }

@@ -1,7 +1,7 @@
 -- What masks say: which rows of the groups reach which variable (document 02, R-5).
-use Prim.Native.Nat.{ℕ, zero, suc, _+_, _*_, _/_, _%_, _<_, _≤_}
+use Prim.Native.Nat.{ℕ, zero, suc, _+_, _*_, _-_, _/_, _%_, _^_, _<_, _≤_}
 use mathlib.Core.Path.{_≡_}
-use mathlib.Core.Bool.{_&&_}
+use mathlib.Core.Bool.{Bool, cond, _&&_}
 use mathlib.Core.List.{List, []}
 use lib.Bits.{bitAnd}
 use lib.Dec.{ltb, eqb}
@@ -9,7 +9,7 @@ use lib.ListN.{length, getD}
 use Rattle.ac.specs.Rows.{Groups, rowsAt}
 use Rattle.ac.specs.Keys.{bit}
 use Rattle.ac.specs.Limits.{limits}
-use Rattle.table.specs.Table.{mostRows, rowStart}
+use Rattle.table.specs.Table.{mostRows, rowStart, groupsIn}
 use Rattle.table.specs.Choices.{Complete}
 use Rattle.table.specs.declared.Table.{Table}
 use Rattle.table.specs.declared.masks.Masks.{Masks}
@@ -42,11 +42,20 @@ pub record Marked (reaching : List ℕ) (unbalanced places : ℕ) (G : Groups) :
   pub how-many-constants : length (G .constants) ≡ unbalanced
   pub marks : (g p : ℕ) → g ≤ unbalanced → p < places → Marks (group G g) p (getD reaching (6 * g + p) 0)
 
--- the masks are those of the groups, whose rows have so many places
-pub record MasksOf (G : Groups) (places : ℕ) (m : Masks) : Type 0 where
-  pub the-places : m .places ≡ places
-  pub sized : Sized (m .sizes) (m .unbalanced) G
-  pub marked : Marked (m .reaching) (m .unbalanced) (m .places) G
+-- the places that a listed selection has to reach: each variable's; where a variable may be empty, none
+abbrev pub placesToReach : Bool → ℕ → ℕ
+placesToReach empties places = cond empties 0 places
+
+-- the balanced rows that it has to take, as a mask: none; where a variable may be empty, all of them
+abbrev pub rowsToTake : Bool → ℕ → ℕ
+rowsToTake empties balanced = cond empties (2 ^ balanced - 1) 0
+
+-- the masks are those of the table's groups, and ask of a selection what it has to reach and to take
+pub record MasksOf (t : Table) (m : Masks) : Type 0 where
+  pub the-places : m .places ≡ placesToReach (t .empties) (t .places)
+  pub the-must : m .must ≡ rowsToTake (t .empties) (length (groupsIn t .balanced))
+  pub sized : Sized (m .sizes) (m .unbalanced) (groupsIn t)
+  pub marked : Marked (m .reaching) (m .unbalanced) (m .places) (groupsIn t)
 
 -- the places at which none of these rows of group g is above 0
 abbrev pub MissedBy : List ℕ → ℕ → ℕ → ℕ → ℕ → Type 0
@@ -66,4 +75,5 @@ pub record Coherent (m : Masks) : Type 0 where
   pub constants-fit : m .unbalanced ≤ limits .constants
   pub sizes-fit : (g : ℕ) → getD (m .sizes) g 0 ≤ mostRows g
   pub unreached-fits : m .unreached < 64
+  pub must-fits : m .must < 2 ^ limits .balanced-rows
   pub sets : SetsOf (m .reaching) (m .sizes) (m .unbalanced) (m .places) (m .unreached) (m .choices)

@@ -67,3 +67,4 @@ pub record TableOf (M : Mode) (L R : List ℕ) (t : Table) : Type 0 where
   pub the-variables : take (t .places) (t .variables) ≡ variables M L R
   pub the-places : t .places ≡ length (variables M L R)
   pub the-groups : GroupsOf M L R (groupsIn t)
+  pub whether-empty : M .empties ≡ t .empties

@@ -13,6 +13,7 @@ use numbers::limits::VARIABLES;
 use pair::Pair;
 use pair::take_apart;
 use pair::ways::Way;
+use pair::ways::may_be_empty;
 ghost use mathlib.Core.Path.{_≡_};
 ghost use Prim.Native.Nat.{_≤_};
 ghost use lib.ListN.{take};
@@ -40,6 +41,8 @@ pub struct Table {
     pub rows: [u8; ROWS],
     // how many rows each group has
     pub sizes: [usize; GROUPS],
+    // whether a variable may be empty
+    pub empties: bool,
 }
 
 // How many rows a group may have: the balanced ones are group 0.
@@ -83,6 +86,7 @@ fn refused(refusal: Refusal) -> Solved
         unbalanced: 0,
         rows: [0; ROWS],
         sizes: [0; GROUPS],
+        empties: false,
     };
     Solved {
         verdict: Verdict::Refused(refusal),
@@ -97,10 +101,10 @@ fn first_four(atoms: [u8; VARIABLES]) -> [u8; CONSTANTS]
     [atoms[0], atoms[1], atoms[2], atoms[3]]
 }
 
-// The table of a pair, or number 12.
-fn solve_pair(pair: Pair) -> Solved
+// The table of a pair whose variables may be empty or not, or number 12.
+fn solve_pair(pair: Pair, empties: bool) -> Solved
     requires { ⌜ Roomy pair ⌝ }
-    ensures { λ r. ⌜ SolvesPair pair r ⌝ }
+    ensures { λ r. ⌜ SolvesPair pair empties r ⌝ }
 {
     let found = groups::find_groups(pair);
     if !found.fits {
@@ -120,6 +124,7 @@ fn solve_pair(pair: Pair) -> Solved
         unbalanced: constants.count,
         rows: rows,
         sizes: sizes,
+        empties: empties,
     };
     Solved {
         verdict: Verdict::Accepted,
@@ -131,11 +136,12 @@ fn solve_pair(pair: Pair) -> Solved
 pub fn solve(way: Way, left: &[u8], right: &[u8]) -> Solved
     ensures { λ r. ⌜ SolvesSides (modeOf way (now (left .entry)) (now (right .entry))) (now (left .entry)) (now (right .entry)) r ⌝ }
 {
+    let empties = may_be_empty(way);
     let parted = take_apart(way, left, right);
     let verdict = parted.verdict;
     let pair = parted.pair;
     match verdict {
         Verdict::Refused(refusal) => refused(refusal),
-        Verdict::Accepted => solve_pair(pair),
+        Verdict::Accepted => solve_pair(pair, empties),
     }
 }

@@ -4,8 +4,8 @@ ghost use Prim.Native.Nat.{ℕ, _<_, _≤_};
 ghost use lib.ListN.{getD};
 ghost use Rattle.ac.specs.Limits.{limits};
 ghost use Rattle.ac.specs.Keys.{bit};
-ghost use Rattle.table.specs.Table.{mostRows, InRoom, groupsIn};
-ghost use Rattle.table.specs.Masks.{MarksIn, MarksAt, MissedBy, MasksOf, Coherent};
+ghost use Rattle.table.specs.Table.{mostRows, InRoom};
+ghost use Rattle.table.specs.Masks.{MarksIn, MarksAt, MissedBy, placesToReach, rowsToTake, MasksOf, Coherent};
 use crate::GROUPS;
 use crate::ROWS;
 use crate::Table;
@@ -20,8 +20,10 @@ pub const MASKS: usize = VARIABLES * GROUPS;
 pub const ALL_ROWS: u64 = 65_535;
 
 pub struct Masks {
-    // how many variables there are, and how many unbalanced constants
+    // how many places a listed selection has to reach, and the balanced rows that it has to take
     pub places: usize,
+    pub must: u64,
+    // how many unbalanced constants there are
     pub unbalanced: usize,
     // how many rows each group has
     pub sizes: [usize; GROUPS],
@@ -91,18 +93,40 @@ pub fn missed_by(reaching: &[u64; MASKS], places: usize, g: usize, rows: u64) ->
     missed
 }
 
+// How many places a listed selection has to reach: that of each variable, but none where a variable may be empty.
+fn places_to_reach(table: Table) -> usize
+    ensures { λ r. ⌜ r ≡ placesToReach (table .empties) (table .places) ⌝ }
+{
+    if table.empties { 0 } else { table.places }
+}
+
+// The balanced rows that it has to take, as a mask: none, but all of them where a variable may be empty.
+fn rows_to_take(table: Table) -> u64
+    requires { ⌜ InRoom table ⌝ }
+    ensures { λ r. ⌜ r ≡ rowsToTake (table .empties) (getD (table .sizes) 0 0) ⌝ }
+{
+    if table.empties {
+        (1 << table.sizes[0]) - 1
+    } else {
+        0
+    }
+}
+
 // The masks of a solved pair, with what they say of sets of places.
 pub fn masks_of(table: Table) -> Masks
     requires { ⌜ InRoom table ⌝ }
-    ensures { λ r. ⌜ MasksOf (groupsIn table) (table .places) r ⌝ }
+    ensures { λ r. ⌜ MasksOf table r ⌝ }
     ensures { λ r. ⌜ Coherent r ⌝ }
 {
     let reaching = reaching_of(table);
-    let unreached = missed_by(&reaching, table.places, 0, ALL_ROWS);
+    let places = places_to_reach(table);
+    let must = rows_to_take(table);
+    let unreached = missed_by(&reaching, places, 0, ALL_ROWS);
     let sizes = table.sizes;
-    let choices = choices_of(&reaching, &sizes, table.unbalanced, table.places, unreached);
+    let choices = choices_of(&reaching, &sizes, table.unbalanced, places, unreached);
     Masks {
-        places: table.places,
+        places,
+        must,
         unbalanced: table.unbalanced,
         sizes,
         reaching,

@@ -8,6 +8,9 @@ use borrow.Author.Needs.{needs}
 use Rattle.table.proofs.solve.Statement.{statement}
 use Rattle.table.proofs.solve.Tie as tie
 
+may-be-empty-requires : tie.Need-may-be-empty-requires
+may-be-empty-requires c κs = search needs
+
 take-apart-requires : tie.Need-take-apart-requires
 take-apart-requires c κs = search needs
 
@@ -35,12 +38,13 @@ returns-2 : tie.Need-returns-2
 returns-2 c =
     let parted = c .before .before .before .before .take-apart .ensures in
     let accepted = c .before .enum-told .given .1 in
-    decides-after (parted .none-given accepted) (c .solve-pair .ensures _ _ _ (parted .none-given accepted) (parted .so accepted))
+    decides-after (parted .none-given accepted) (c .solve-pair .ensures _ _ _ (c .before .before .before .before .before .may-be-empty .ensures _ _) (parted .none-given accepted) (parted .so accepted))
 
 pub solve-spec : {M : Type 1} → statement M
 solve-spec =
     tie.close
     (tie.spec
+    may-be-empty-requires
     take-apart-requires
     enum-known-verdict
     refused-requires

@@ -17,7 +17,7 @@ refused-requires : tie.Need-refused-requires
 refused-requires c κs = search needs
 
 returns : tie.Need-returns
-returns c M L R none of =
+returns c M L R whether none of =
     let found = c .before .before .before .find-groups .ensures M L R of in
     decides-refused {why = Rows} (c .refused .ensures) refl (here (found .if-false (not-true _ (c .before .if1 .taken))))
 
@@ -25,10 +25,10 @@ first-four-requires : tie.Need-first-four-requires
 first-four-requires c κs = search needs
 
 returns-2 : tie.Need-returns-2
-returns-2 c M L R none of =
+returns-2 c M L R whether none of =
     let made = c .before .before .before .before .before .before .before in
     let found = made .before .before .find-groups .ensures M L R of .if-true (not-false _ (made .if1 .left)) in
-    let table = table-of none of (made .before .before .before .pre) (c .before .before .first-four .ensures) found in
+    let table = table-of none of (made .before .before .before .pre) whether (c .before .before .first-four .ensures) found in
     decides-accepted refl (also (twelve-not-given (table .within) (table .the-groups)) end) table
 
 pub solve-pair-spec : {M : Type 1} → statement M

@@ -249,7 +249,7 @@ all-taken [] (t ∷ ts) e = absurd (omega arith)
 all-taken (r ∷ rs) [] e = refl
 all-taken (r ∷ rs) (t ∷ ts) e = ap (λ b. t && b) (all-taken rs ts (omega arith))
 
-one-set : (rows : List (List ℕ)) → setsPassing (length rows) allTaken ≡ 1
+pub one-set : (rows : List (List ℕ)) → setsPassing (length rows) allTaken ≡ 1
 one-set rows =
     howMany-same (λ m. all-taken rows (bits (length rows) m) (length-bits (length rows) m)) (below (2 ^ length rows))
     ∙ sets-agreeing (λ r t. t) rows ∙ ones rows

@@ -40,6 +40,7 @@ pub mod Pages
 pub mod Agree
 pub mod Theory
 pub mod Weighed
+pub mod AllTaken
 pub mod Rank
 pub mod Fages
 pub mod Atoms

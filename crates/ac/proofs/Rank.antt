@@ -3,13 +3,14 @@
 -- `candidates-exactly`. The candidates as a list are the numbers that are candidates.
 -- `rank-counts`. Up to a candidate and with it there are as many as its row indexes say, read as digits whose values
 -- are the rows of each group, times the sets of balanced rows, and its own set, and itself.
+-- `rank-tuples`. Where a variable may be empty, as many as its row indexes say, and itself.
 use Prim.Native.Nat.{ℕ, zero, suc, _+_, _*_, _%_, _^_, _<_, _≤_}
 use native.Mathlib.Omega.{arith}
 use native.Mathlib.Nat.{le-refl, mul-assoc}
 use mathlib.Core.Path.{_≡_, refl, sym, ap, subst, subst₂, _∙_}
 use mathlib.Core.Logic.{_↔_}
 use mathlib.Core.Bool.{Bool, true, false}
-use mathlib.Core.List.{List, [], _∷_, _++_, map, append-assoc, List·Memᴰ, List·Memᴰ·head, List·Memᴰ·tail, Memᴰ·append-right, Memᴰ·cast}
+use mathlib.Core.List.{List, [], _∷_, _++_, map, append-assoc, List·Memᴰ, List·Memᴰ·head, List·Memᴰ·tail, List·Memᴰ·not-nil, Memᴰ·append-right, Memᴰ·cast}
 use borrow.Author.Tests.{le-leb, lt-leb}
 use lib.Dec.{leb}
 use lib.ListN.{length, getD, drop, length-append, length-map}
@@ -20,11 +21,13 @@ use Rattle.ac.specs.Selection.{Selection, SelectionOf, Within, none, ind
 use Rattle.ac.specs.Keys.{Layout, Fits, Candidate, mask, bits, keyOf, selectionAt, tuples, selections, start}
 use Rattle.ac.specs.Counting.{sizesProduct, selectionCount}
 use Rattle.ac.specs.Weighed.{isCandidate, candidates, weighed}
-use Rattle.ac.proofs.Order.{filter-ascending}
+use Rattle.ac.proofs.Order.{filter-ascending, member-filter}
 use Rattle.ac.proofs.Members.{filter-all, map-append, flatMap-append, map-members, members-map, ascending-map}
 use Rattle.ac.proofs.Keys.{length-from, mask-bits, mask-below, key-low, selection-candidate, candidate-selection, packed}
 use Rattle.ac.proofs.Listed.{masked, allMasked, selections-are, selections-ascending}
-use Rattle.ac.proofs.Counting.{selections-all}
+use Rattle.ac.proofs.HowMany.{howMany-map}
+use Rattle.ac.proofs.Counting.{selections-all, one-set}
+use Rattle.ac.proofs.AllTaken.{candidate-in}
 use Rattle.ac.proofs.Weighed.{length-filter}
 
 -- ---- where a member stands in a list
@@ -173,10 +176,13 @@ tuple-stands (index {g = g} {gs = gs} {i = i} {is = is} h within) =
 length-sets : (G : Groups) (is : List ℕ) → length (allMasked G is) ≡ 2 ^ length (G .balanced)
 length-sets G is = length-map (below (2 ^ length (G .balanced))) (masked G is) ∙ length-from 0 (2 ^ length (G .balanced))
 
-selection-stands : {G : Groups} {s : Selection} → SelectionOf G s
-    → StandsAt (selections G) (tupleRank 0 (G .constants) (s .indexes) * 2 ^ length (G .balanced) + mask (s .takes)) s
-selection-stands {G} {s} of =
-    flatMap-stands (allMasked G) (2 ^ length (G .balanced)) (length-sets G) (tuple-stands (of .a-row-each)) among-masks
+-- a selection stands among those of its tuple
+among-masks : {G : Groups} {s : Selection} → SelectionOf G s → StandsAt (allMasked G (s .indexes)) (mask (s .takes)) s
+among-masks {G} {s} of =
+    subst (StandsAt (allMasked G (s .indexes)) (mask (s .takes))) itself
+    (map-stands (masked G (s .indexes))
+    (from-stands 0 (2 ^ length (G .balanced)) (mask (s .takes))
+    (mask-below (length (G .balanced)) (s .takes) (of .a-truth-each))))
   where
     its-mask : 0 + mask (s .takes) ≡ mask (s .takes)
     its-mask = omega arith
@@ -188,12 +194,60 @@ selection-stands {G} {s} of =
           ∙ mask-bits (length (G .balanced)) (s .takes) (of .a-truth-each)) i;
     }
 
-    among-masks : StandsAt (allMasked G (s .indexes)) (mask (s .takes)) s
-    among-masks =
-        subst (StandsAt (allMasked G (s .indexes)) (mask (s .takes))) itself
-        (map-stands (masked G (s .indexes))
-        (from-stands 0 (2 ^ length (G .balanced)) (mask (s .takes))
-        (mask-below (length (G .balanced)) (s .takes) (of .a-truth-each))))
+selection-stands : {G : Groups} {s : Selection} → SelectionOf G s
+    → StandsAt (selections G) (tupleRank 0 (G .constants) (s .indexes) * 2 ^ length (G .balanced) + mask (s .takes)) s
+selection-stands {G} {s} of =
+    flatMap-stands (allMasked G) (2 ^ length (G .balanced)) (length-sets G) (tuple-stands (of .a-row-each)) (among-masks of)
+
+-- ---- the selections that take all balanced rows
+
+module _ {B : Type 0} (test : B → Bool) where
+  -- what passes of lists one after the other
+  filter-append : (xs ys : List B) → filter test (xs ++ ys) ≡ filter test xs ++ filter test ys
+  filter-append [] ys = refl
+  filter-append (x ∷ xs) ys = go (test x) (filter-append xs ys)
+    where
+      go : (b : Bool) → filter test (xs ++ ys) ≡ filter test xs ++ filter test ys
+          → keep b x (filter test (xs ++ ys)) ≡ keep b x (filter test xs) ++ filter test ys
+      go true e = ap {B = List B} (λ l. x ∷ l) e
+      go false e = e
+
+  filter-flatMap : {A : Type 0} (f : A → List B) (xs : List A) → filter test (flatMap f xs) ≡ flatMap (λ a. filter test (f a)) xs
+  filter-flatMap f [] = refl
+  filter-flatMap f (x ∷ xs) =
+      filter-append (f x) (flatMap f xs) ∙ ap (λ (l : List B). filter test (f x) ++ l) (filter-flatMap f xs)
+
+-- the only member of a list stands first
+alone-stands : {A : Type 0} (xs : List A) {a : A} → length xs ≡ 1 → List·Memᴰ a xs → StandsAt xs 0 a
+alone-stands [] e m = absurd (List·Memᴰ·not-nil m)
+alone-stands (x ∷ []) e (List·Memᴰ·head same) =
+    record { before = []; behind = []; splits = ap (λ y. y ∷ []) (sym same); its-place = refl }
+alone-stands (x ∷ []) e (List·Memᴰ·tail m) = absurd (List·Memᴰ·not-nil m)
+alone-stands (x ∷ y ∷ xs) e m = absurd (omega arith)
+
+-- each tuple has one of them, so that they stand as their tuples do
+full-stands : {G : Groups} {s : Selection} → SelectionOf G s → allTaken (s .takes) ≡ true
+    → StandsAt (filter (λ (t : Selection). allTaken (t .takes)) (selections G)) (tupleRank 0 (G .constants) (s .indexes)) s
+full-stands {G} {s} of all =
+    subst₂ (λ xs (n : ℕ). StandsAt xs n s) (sym (filter-flatMap full (allMasked G) (tuples (G .constants)))) place
+    (flatMap-stands (λ is. filter full (allMasked G is)) 1 one-each (tuple-stands (of .a-row-each))
+    (alone-stands (filter full (allMasked G (s .indexes))) (one-each (s .indexes)) itself))
+  where
+    full : Selection → Bool
+    full t = allTaken (t .takes)
+
+    one-each : (is : List ℕ) → length (filter full (allMasked G is)) ≡ 1
+    one-each is = howMany-map full (masked G is) (below (2 ^ length (G .balanced))) ∙ one-set (G .balanced)
+
+    at : StandsAt (allMasked G (s .indexes)) (mask (s .takes)) s
+    at = among-masks of
+
+    itself : List·Memᴰ s (filter full (allMasked G (s .indexes)))
+    itself =
+        member-filter full (subst (List·Memᴰ s) (sym (at .splits)) (Memᴰ·append-right (at .before) (List·Memᴰ·head refl))) all
+
+    place : tupleRank 0 (G .constants) (s .indexes) * 1 + 0 ≡ tupleRank 0 (G .constants) (s .indexes)
+    place = omega arith
 
 -- ---- the candidates
 
@@ -255,3 +309,24 @@ module _ (M : Mode) {lay : Layout} {G : Groups} (fits : Fits lay G) where
             (tupleRank 0 (G .constants) (selectionAt lay G key .indexes) * 2 ^ length (G .balanced)
             + mask (selectionAt lay G key .takes)) k)
             (sym (candidates-selections M lay G full)) (packed fits candidate) (map-stands (keyOf lay) (selection-stands of))
+
+  -- Where a variable may be empty, as many as the row indexes of one say, and itself.
+  pub rank-tuples : M .empties ≡ true → {key : ℕ} → List·Memᴰ key (candidates M lay G)
+      → weighed start (key ∷ []) (candidates M lay G)
+      ≡ tupleRank 0 (G .constants) (selectionAt lay G key .indexes) + 1
+  rank-tuples empty {key} m = upto-stands candidates-ascending stands ∙ omega arith
+    where
+      one : Candidate lay G key × (isCandidate M (selectionAt lay G key) ≡ true)
+      one = candidate-in M lay G fits m
+
+      by-mode : (b : Bool) → List ℕ
+      by-mode b = map (keyOf lay) (filter (λ s. elim b [ true ↦ allTaken (s .takes) | false ↦ true ]) (selections G))
+
+      all : allTaken (selectionAt lay G key .takes) ≡ true
+      all = sym (ap (λ (b : Bool). elim b [ true ↦ allTaken (selectionAt lay G key .takes) | false ↦ true ]) empty) ∙ one .1
+
+      stands : StandsAt (candidates M lay G) (tupleRank 0 (G .constants) (selectionAt lay G key .indexes)) key
+      stands =
+          subst₂ (λ ks k. StandsAt ks (tupleRank 0 (G .constants) (selectionAt lay G key .indexes)) k)
+          (sym (ap by-mode empty)) (packed fits (one .0))
+          (map-stands (keyOf lay) (full-stands (candidate-selection fits (one .0)) all))

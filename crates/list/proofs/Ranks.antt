@@ -4,16 +4,19 @@ use native.Mathlib.Omega.{arith}
 use native.Mathlib.Nat.{mul-le-mul-left, pow-suc, pow-le-pow-right}
 use native.Mathlib.Numerals.{add-one}
 use mathlib.Core.Path.{_≡_, refl, sym, ap, ap₂, subst, _∙_}
-use mathlib.Core.List.{List, []}
+use mathlib.Core.Bool.{Bool, true, false}
+use mathlib.Core.List.{List, [], _∷_}
 use lib.Bits.{bitAnd, and-mask, mask-lt}
 use lib.ListN.{length, getD, drop, drop-of-length-le}
-use lib.Pow.{pow-mono, shl-lt, shl-exact}
+use lib.Pow.{pow-pos, pow-mono, shl-lt, shl-exact}
 use Rattle.ac.specs.Rows.{Group, Groups, rowsAt}
-use Rattle.ac.specs.Keys.{layout, fieldAt, selectionAt, Fits}
+use Rattle.ac.specs.Keys.{layout, fieldAt, selectionAt, start, Candidate, Fits}
+use Rattle.ac.specs.Weighed.{candidates, weighed}
 use Rattle.ac.proofs.Fields.{length-fieldsOf, index-at}
-use Rattle.ac.proofs.Rank.{tupleRank, index-read, rank-counts}
+use Rattle.ac.proofs.Rank.{tupleRank, index-read, rank-counts, rank-tuples}
+use Rattle.ac.proofs.AllTaken.{candidate-in}
 use Rattle.table.specs.Table.{mostRows}
-use Rattle.table.specs.Masks.{Sized}
+use Rattle.table.specs.Masks.{Sized, rowsToTake}
 use Rattle.list.specs.Ranks.{RankIn}
 
 -- so many indexes are read: what they come to, with the others read behind it, is what all come to
@@ -85,20 +88,48 @@ module _ {sizes : List ℕ} {unbalanced key g tuple : ℕ} (read : Read sizes un
         mask-lt key 16,
       )
 
-  -- All are read: with every set of balanced rows for each tuple before, the key's own set and itself it is the rank.
-  pub read-all : unbalanced ≤ g → unbalanced ≤ 4 → getD sizes 0 0 ≤ 16
-      → RankIn sizes unbalanced key (tuple * 2 ^ getD sizes 0 0 % 2 ^ 64 + bitAnd key 65535 + 1)
-  read-all end few few-balanced M full G sized fits candidate =
-      omega (
-        arith,
-        shl-exact 16 (getD sizes 0 0) 64 (read-small few) (omega arith),
-        and-mask key 16,
-        ap₂ (λ (m n : ℕ). m * 2 ^ n) whole (sym (sized .a-size-each 0 (omega arith))),
-        rank-counts M fits full candidate,
-      )
+  -- all are read: they come to the rank of the tuple
+  whole : unbalanced ≤ g → {G : Groups} → Sized sizes unbalanced G → Fits layout G
+      → tuple ≡ tupleRank 0 (G .constants) (selectionAt layout G key .indexes)
+  whole end {G} sized fits =
+      ap (λ gs. tupleRank tuple gs (drop g (selectionAt layout G key .indexes)))
+      (sym (drop-of-length-le (G .constants) {i = g} (omega (arith, sized .how-many-constants))))
+      ∙ read .the-rest G sized fits
+
+  -- With every set of balanced rows for each tuple before, the key's own set and itself it is the rank. Where all balanced
+  -- rows must be taken but there are none, each tuple has one set.
+  pub read-all : {must : ℕ} → must ≤ 0 → unbalanced ≤ g → unbalanced ≤ 4 → getD sizes 0 0 ≤ 16
+      → RankIn sizes unbalanced must key (tuple * 2 ^ getD sizes 0 0 % 2 ^ 64 + bitAnd key 65535 + 1)
+  read-all none end few few-balanced M G its sized fits m = by-mode (M .empties) refl
     where
-      whole : tuple ≡ tupleRank 0 (G .constants) (selectionAt layout G key .indexes)
-      whole =
-          ap (λ gs. tupleRank tuple gs (drop g (selectionAt layout G key .indexes)))
-          (sym (drop-of-length-le (G .constants) {i = g} (omega (arith, sized .how-many-constants))))
-          ∙ read .the-rest G sized fits
+      one : Candidate layout G key
+      one = candidate-in M layout G fits m .0
+
+      exact : tuple * 2 ^ getD sizes 0 0 % 2 ^ 64
+          ≡ tupleRank 0 (G .constants) (selectionAt layout G key .indexes) * 2 ^ length (G .balanced)
+      exact =
+          shl-exact 16 (getD sizes 0 0) 64 (read-small few) (omega arith)
+          ∙ ap₂ (λ (m n : ℕ). m * 2 ^ n) (whole end sized fits) (sym (sized .a-size-each 0 (omega arith)))
+
+      by-mode : (b : Bool) → M .empties ≡ b
+          → tuple * 2 ^ getD sizes 0 0 % 2 ^ 64 + bitAnd key 65535 + 1 ≡ weighed start (key ∷ []) (candidates M layout G)
+      by-mode false full = omega (arith, exact, and-mask key 16, rank-counts M fits full one)
+      by-mode true empty =
+          let no-row : 2 ^ length (G .balanced) ≡ 1 =
+          omega (arith, none, its, ap (λ b. rowsToTake b (length (G .balanced))) empty, pow-pos (length (G .balanced))) in
+          omega (
+            arith,
+            exact,
+            ap (λ (n : ℕ). tupleRank 0 (G .constants) (selectionAt layout G key .indexes) * n) no-row,
+            and-mask key 16,
+            one .no-bit-beyond,
+            rank-tuples M fits empty m,
+          )
+
+  -- where some balanced row must be taken, all are, and it is the tuple's rank and itself
+  pub read-tuple : {must : ℕ} → 0 < must → unbalanced ≤ g → RankIn sizes unbalanced must key (tuple + 1)
+  read-tuple some end M G its sized fits m = by-mode (M .empties) refl
+    where
+      by-mode : (b : Bool) → M .empties ≡ b → tuple + 1 ≡ weighed start (key ∷ []) (candidates M layout G)
+      by-mode true empty = omega (arith, whole end sized fits, rank-tuples M fits empty m)
+      by-mode false full = absurd (omega (arith, some, its, ap (λ b. rowsToTake b (length (G .balanced))) full))

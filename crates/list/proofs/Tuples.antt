@@ -1,5 +1,5 @@
 -- The sets of balanced rows that go with a tuple of row indexes, in the order of their masks: those before this
--- one miss a place.
+-- one lack a row that must be taken or miss a place.
 use Prim.Native.Nat.{ℕ, _+_, _-_, _*_, _/_, _^_, _<_, _≤_}
 use native.Mathlib.Omega.{arith}
 use native.Mathlib.Nat.{div-lt-iff-lt-mul}
@@ -13,7 +13,7 @@ use Rattle.ac.specs.Rows.{Groups}
 use Rattle.ac.specs.Keys.{layout, Fits}
 use Rattle.table.specs.Masks.{Marked}
 use Rattle.list.specs.Reach.{InTuple, Weighs}
-use Rattle.list.specs.Candidates.{fills, LeastWithin, found, nothing}
+use Rattle.list.specs.Candidates.{admits, LeastWithin, found, nothing}
 use Rattle.list.specs.declared.NextKey.{NextKey}
 use Rattle.list.specs.declared.NextKey.the-variants.{Key, None}
 
@@ -54,32 +54,32 @@ from-key passes key end {next} tried =
     let begins : key / 65536 * 65536 + bitAnd key 65535 ≡ key = omega (arith, and-mask key 16) in
     subst (λ (n : ℕ). LeastWithin passes n end next) begins tried
 
-module _ (reaching : List ℕ) (unbalanced places balanced tuple from : ℕ) where
+module _ (reaching : List ℕ) (unbalanced places must balanced tuple from : ℕ) where
   -- it is so of all groups that the masks are of
   abbrev OfTheirGroups : (Groups → Type 0) → Type 0
   OfTheirGroups So =
       (G : Groups) → Marked reaching unbalanced places G → Fits layout G → So G
 
-  -- the masks from the first on to before this one miss a place
+  -- the masks from the first on to before this one lack a row or miss a place
   abbrev pub Missed : ℕ → Type 0
   Missed mask = OfTheirGroups (λ G. (other : ℕ) → tuple * 65536 + from ≤ other → other < tuple * 65536 + mask
-      → fills G places other ≡ false)
+      → admits G places must other ≡ false)
 
   -- what was tried of a tuple
   abbrev Tried : NextKey → Type 0
-  Tried next = OfTheirGroups (λ G. LeastWithin (fills G places) (tuple * 65536 + from)
+  Tried next = OfTheirGroups (λ G. LeastWithin (admits G places must) (tuple * 65536 + from)
       (tuple * 65536 + 2 ^ balanced) next)
 
   pub missed-none : Missed from
   missed-none G marked fits other above below = absurd (omega arith)
 
   module _ (mask : ℕ) {key first : ℕ} (missed : Missed mask) (packed : key ≡ tuple * 65536 + mask)
-      (weighed : OfTheirGroups (λ G. Weighs (fills G places) key first)) where
-    -- those that a missed place passes over miss it too
+      (weighed : OfTheirGroups (λ G. Weighs (admits G places must) key first)) where
+    -- those that are passed over do so too
     pub missed-more : key ≤ first → Missed (mask + (first - key))
     missed-more from-on G marked fits other above below = go (decLt other (tuple * 65536 + mask))
       where
-        go : Dec (other < tuple * 65536 + mask) → fills G places other ≡ false
+        go : Dec (other < tuple * 65536 + mask) → admits G places must other ≡ false
         go (yes before) = missed G marked fits other above before
         go (no beyond) = weighed G marked fits .none-before other (omega arith) (omega arith)
 

@@ -1,20 +1,22 @@
 -- Weighing a key on the masks. Where it misses a place, so does every number before the next multiple of the bit
 -- of the lowest row that is above 0 there.
-use Prim.Native.Nat.{ℕ, _+_, _*_, _/_, _%_, _^_, _<_, _≤_}
+use Prim.Native.Nat.{ℕ, suc, _+_, _-_, _*_, _/_, _%_, _^_, _<_, _≤_}
 use native.Mathlib.Omega.{arith}
 use native.Mathlib.Numerals.{add-one}
 use native.Mathlib.Decide.{decLt}
 use mathlib.Core.Path.{_≡_, sym, _∙_, ap, ap₂, subst}
-use mathlib.Core.Bool.{Bool, true, false, _||_, _&&_, and-false}
+use mathlib.Core.Bool.{Bool, true, false, _||_, _&&_, and-false, and-true, and-assoc}
 use mathlib.Core.List.{List}
+use borrow.Author.Tests.{le-leb, lt-leb}
+use lib.Bits.{bitAnd, and-mask}
 use lib.Dec.{eqb}
 use lib.ListN.{getD}
 use Rattle.ac.specs.Rows.{Groups}
 use Rattle.ac.specs.Keys.{layout, bit, fieldAt, Fits}
 use Rattle.table.specs.Masks.{Marked}
 use Rattle.table.proofs.Bits.{high-part}
-use Rattle.list.specs.Reach.{all, takesAny, reaches, NoRowBelow, InTuple, Weighs}
-use Rattle.list.specs.Candidates.{fills}
+use Rattle.list.specs.Reach.{all, takesAny, takesAll, reaches, NoRowBelow, InTuple, Weighs}
+use Rattle.list.specs.Candidates.{admits}
 use Rattle.list.proofs.Any.{and-left-false, and-right-false, any-same}
 use Rattle.list.proofs.Reach.{fills-reaches}
 use Rattle.list.proofs.Candidates.{blockEnd, below-block-end, same-block, block-end-inside}
@@ -85,27 +87,61 @@ module _ {f g : ℕ → Bool} {key first next : ℕ} (before : Weighs f key firs
         none-before = λ other low high. and-left-false (g other) (before .none-before other low high);
       }
 
--- The places one after the other.
-module _ (reaching : List ℕ) (unbalanced key : ℕ) where
+-- the same test in other words
+weighs-same : {f g : ℕ → Bool} {key first : ℕ} → ((k : ℕ) → f k ≡ g k) → Weighs f key first → Weighs g key first
+weighs-same {key = key} same weighed =
+    record {
+      itself = λ e. sym (same key) ∙ weighed .itself e;
+      none-before = λ other low high. sym (same other) ∙ weighed .none-before other low high;
+    }
+
+-- The rows that must be taken: the key takes them where its mask is large enough.
+module _ (must key : ℕ) where
+  pub taking-itself : must ≤ bitAnd key 65535 → InTuple key key × Weighs (takesAll must) key key
+  taking-itself enough =
+      (in-tuple-itself key, weighs-itself (le-leb must (key % 65536) (omega (arith, and-mask key 16))))
+
+  -- else the first number that does is the tuple's with their mask
+  pub taking-later : must < 65536 → bitAnd key 65535 < must
+      → InTuple key (key + (must - bitAnd key 65535)) × Weighs (takesAll must) key (key + (must - bitAnd key 65535))
+  taking-later small lacks =
+      let low = and-mask key 16 in (
+        (omega arith, omega (arith, low)),
+        record {
+          itself = λ same. absurd (omega arith);
+          none-before = λ other above below. lt-leb must (other % 65536) (omega (arith, low));
+        },
+      )
+
+-- The rows that must be taken, and the places one after the other.
+module _ (reaching : List ℕ) (unbalanced must key : ℕ) where
   abbrev pub WeighsTo : ℕ → ℕ → Type 0
-  WeighsTo n first = Weighs (λ k. all n (λ p. reaches reaching unbalanced p k)) key first
+  WeighsTo n first = Weighs (λ k. takesAll must k && all n (λ p. reaches reaching unbalanced p k)) key first
+
+  pub places-none : {first : ℕ} → Weighs (takesAll must) key first → WeighsTo 0 first
+  places-none = weighs-same (λ k. sym (and-true (takesAll must k)))
 
   module _ (place : ℕ) {first next : ℕ} (before : WeighsTo place first)
       (here : Weighs (reaches reaching unbalanced place) key next) where
+    one-more : (k : ℕ)
+        → (takesAll must k && all place (λ p. reaches reaching unbalanced p k) && reaches reaching unbalanced place k)
+        ≡ (takesAll must k && all (suc place) (λ p. reaches reaching unbalanced p k))
+    one-more k =
+        and-assoc (takesAll must k) (all place (λ p. reaches reaching unbalanced p k)) (reaches reaching unbalanced place k)
+
     pub places-farther : key ≤ first → first < next → WeighsTo (place + 1) next
     places-farther from-on less =
-        subst (λ (n : ℕ). WeighsTo n next) (sym (add-one place)) (weighs-farther before here from-on less)
+        subst (λ (n : ℕ). WeighsTo n next) (sym (add-one place))
+        (weighs-same one-more (weighs-farther before here from-on less))
 
     pub places-kept : key ≤ next → next ≤ first → WeighsTo (place + 1) first
     places-kept from-on less =
-        subst (λ (n : ℕ). WeighsTo n first) (sym (add-one place)) (weighs-kept before here from-on less)
+        subst (λ (n : ℕ). WeighsTo n first) (sym (add-one place))
+        (weighs-same one-more (weighs-kept before here from-on less))
 
   -- all places, of the groups that the masks are of
   pub places-all : (place : ℕ) {places first : ℕ} → WeighsTo place first → place ≡ places → (G : Groups)
-      → Marked reaching unbalanced places G → Fits layout G → Weighs (fills G places) key first
+      → Marked reaching unbalanced places G → Fits layout G → Weighs (admits G places must) key first
   places-all place {first = first} weighed end G marked fits =
-      let done = subst (λ (n : ℕ). WeighsTo n first) end weighed in
-      record {
-        itself = λ same. fills-reaches marked fits key ∙ done .itself same;
-        none-before = λ other low high. fills-reaches marked fits other ∙ done .none-before other low high;
-      }
+      weighs-same (λ k. ap (λ b. takesAll must k && b) (sym (fills-reaches marked fits k)))
+      (subst (λ (n : ℕ). WeighsTo n first) end weighed)

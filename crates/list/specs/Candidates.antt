@@ -1,7 +1,7 @@
 -- Where a number stands among the candidates of the groups.
 use Prim.Native.Nat.{ℕ, _+_, _/_, _^_, _<_, _≤_}
 use mathlib.Core.Path.{_≡_}
-use mathlib.Core.Bool.{Bool, true, false, cond}
+use mathlib.Core.Bool.{Bool, true, false, cond, _&&_}
 use mathlib.Core.List.{List}
 use lib.Dec.{ltb}
 use lib.ListN.{getD}
@@ -9,6 +9,7 @@ use Rattle.ac.specs.Rows.{Groups}
 use Rattle.ac.specs.Selection.{taken, allReached}
 use Rattle.ac.specs.Keys.{layout, selectionAt, Fits, Candidate as IsCandidate}
 use Rattle.table.specs.Masks.{Sized}
+use Rattle.list.specs.Reach.{takesAll}
 use Rattle.list.specs.declared.KeyStanding.{KeyStanding}
 use Rattle.list.specs.declared.KeyStanding.the-variants.{Candidate, NoneBefore}
 use Rattle.list.specs.declared.NextKey.{NextKey}
@@ -27,9 +28,13 @@ pub data StandsAmong (sizes : List ℕ) (unbalanced key : ℕ) : KeyStanding →
       → (other : ℕ) → key ≤ other → other < later → IsCandidate layout G other → ⊥)
       → StandsAmong sizes unbalanced key (NoneBefore later)
 
--- the rows that the key takes reach every place: of a candidate, that its selection is admissible
+-- the rows that the key takes reach every place
 abbrev pub fills : Groups → ℕ → ℕ → Bool
 fills G places key = allReached (taken (layout .new) G (selectionAt layout G key)) places
+
+-- and it takes all rows that must be taken: of a candidate, that its selection is admissible
+abbrev pub admits : Groups → ℕ → ℕ → ℕ → Bool
+admits G places must key = takesAll must key && fills G places key
 
 -- no candidate of the block of 2 ^ bits numbers in which the key stands reaches every place
 abbrev pub NoneInBlock : Groups → ℕ → ℕ → ℕ → Type 0

@@ -1,7 +1,5 @@
 -- The list of the pair that a table, or masks, are of, the next key on it, and whether a key is on it.
 use Prim.Native.Nat.{ℕ}
-use mathlib.Core.Path.{_≡_}
-use mathlib.Core.Bool.{false}
 use mathlib.Core.List.{List, List·Memᴰ}
 use Rattle.ac.specs.Pair.{Mode}
 use Rattle.ac.specs.Keys.{layout, keys, after}
@@ -20,17 +18,16 @@ use Rattle.list.specs.declared.NextKey.the-variants.{Key, None}
 use Rattle.list.specs.declared.Lookup.{Lookup}
 use Rattle.list.specs.declared.Lookup.the-variants.{Listed, Refused}
 
--- It is so of every pair that the table is of, in a mode in which no variable may be empty; it is so of the
--- list of every such pair.
+-- It is so of every pair that the table is of; it is so of the list of every such pair.
 abbrev pub OfItsPair : Table → (Mode → List ℕ → List ℕ → Type 0) → Type 0
-OfItsPair table So = (M : Mode) (L R : List ℕ) → M .empties ≡ false → TableOf M L R table → So M L R
+OfItsPair table So = (M : Mode) (L R : List ℕ) → TableOf M L R table → So M L R
 
 abbrev pub OfItsList : Table → (List ℕ → Type 0) → Type 0
 OfItsList table So = OfItsPair table (λ M L R. So (keys M layout L R (groupsIn table)))
 
 -- it is so of the list of every pair of every table that the masks are of
 abbrev pub OfTheirList : Masks → (List ℕ → Type 0) → Type 0
-OfTheirList masks So = (table : Table) → MasksOf (groupsIn table) (table .places) masks → OfItsList table So
+OfTheirList masks So = (table : Table) → MasksOf table masks → OfItsList table So
 
 -- the least key of the list from a number on, or that the list has none
 pub data NextFrom (keys : List ℕ) (from : ℕ) : NextKey → Type 0 where

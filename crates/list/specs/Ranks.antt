@@ -1,17 +1,18 @@
 -- The rank of a candidate (document 02, R-8).
 use Prim.Native.Nat.{ℕ}
 use mathlib.Core.Path.{_≡_}
-use mathlib.Core.Bool.{false}
-use mathlib.Core.List.{List, [], _∷_}
+use mathlib.Core.List.{List, [], _∷_, List·Memᴰ}
+use lib.ListN.{length}
 use Rattle.ac.specs.Pair.{Mode}
 use Rattle.ac.specs.Rows.{Groups}
-use Rattle.ac.specs.Keys.{layout, start, Candidate, Fits}
+use Rattle.ac.specs.Keys.{layout, start, Fits}
 use Rattle.ac.specs.Weighed.{candidates, weighed}
-use Rattle.table.specs.Masks.{Sized}
+use Rattle.table.specs.Masks.{Sized, rowsToTake}
 
--- as many as the candidates from the start up to the key, of all groups of these sizes of which it is one, in a mode in
--- which no variable may be empty
-abbrev pub RankIn : List ℕ → ℕ → ℕ → ℕ → Type 0
-RankIn sizes unbalanced key rank =
-    (M : Mode) → M .empties ≡ false → (G : Groups) → Sized sizes unbalanced G → Fits layout G → Candidate layout G key
+-- as many as the candidates from the start up to the key, of all groups of these sizes and in every mode in which these
+-- rows must be taken, where it is one of the candidates
+abbrev pub RankIn : List ℕ → ℕ → ℕ → ℕ → ℕ → Type 0
+RankIn sizes unbalanced must key rank =
+    (M : Mode) (G : Groups) → must ≡ rowsToTake (M .empties) (length (G .balanced)) → Sized sizes unbalanced G
+    → Fits layout G → List·Memᴰ key (candidates M layout G)
     → rank ≡ weighed start (key ∷ []) (candidates M layout G)

@@ -1,8 +1,9 @@
 -- Which places a key reaches.
-use Prim.Native.Nat.{ℕ, zero, suc, _+_, _*_, _/_, _^_, _<_, _≤_}
+use Prim.Native.Nat.{ℕ, zero, suc, _+_, _*_, _/_, _%_, _^_, _<_, _≤_}
 use mathlib.Core.Path.{_≡_}
 use mathlib.Core.Bool.{Bool, true, false, _||_, _&&_}
 use mathlib.Core.List.{List, [], map}
+use lib.Dec.{leb}
 use lib.ListN.{length, getD, take}
 use Rattle.ac.specs.Rows.{Group, Groups}
 use Rattle.ac.specs.Keys.{layout, bit, fieldAt}
@@ -31,6 +32,11 @@ pub record HoldsGroups (rows : List ℕ) (places : ℕ) (s : KeyedSelection) (G 
 -- the key takes a balanced row that is one of the mask's
 unfoldable pub takesAny : ℕ → ℕ → Bool
 takesAny rows key = any (layout .rows) (λ i. bit key i && bit rows i)
+
+-- the key takes all rows that must be taken, of which there are none or as many as its mask may have: its mask is not
+-- below theirs
+abbrev pub takesAll : ℕ → ℕ → Bool
+takesAll must key = leb must (key % 2 ^ layout .rows)
 
 -- a row that the key takes is above 0 at the place, by the masks: that of a constant, or a balanced one
 abbrev pub reaches : List ℕ → ℕ → ℕ → ℕ → Bool

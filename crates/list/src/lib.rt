@@ -10,9 +10,9 @@ ghost use Rattle.ac.specs.Limits.{limits};
 ghost use Rattle.ac.specs.Rows.{Groups};
 ghost use Rattle.ac.specs.Keys.{layout, bit, fieldAt, Fits};
 ghost use Rattle.table.specs.Masks.{Sized, Marked, SetsOf, Coherent};
-ghost use Rattle.list.specs.Candidates.{StandsAmong, fieldLimit, fills, NoneInBlock, LeastWithin};
+ghost use Rattle.list.specs.Candidates.{StandsAmong, fieldLimit, admits, NoneInBlock, LeastWithin};
 ghost use Rattle.list.specs.List.{OfTheirList, NextFrom, LookedUp};
-ghost use Rattle.list.specs.Reach.{takesAny, reaches, NoRowBelow, InTuple, Weighs};
+ghost use Rattle.list.specs.Reach.{takesAny, takesAll, reaches, NoRowBelow, InTuple, Weighs};
 ghost use Rattle.list.specs.Runs.{selectionIn, Fit, runCount, timesAt};
 use buffer::wide;
 use numbers::Refusal;
@@ -158,14 +158,30 @@ fn first_reaching(reaching: &[u64; MASKS], unbalanced: usize, place: usize, key:
     block_end(key, lowest_row(reaching[place]))
 }
 
-// The first number from the key on that may be admissible, of candidates: the key itself if it is, for each
-// place is above 0 in at least one taken row. Else it is the farthest that a missed place sends to.
-fn weigh(reaching: &[u64; MASKS], unbalanced: usize, places: usize, key: Key) -> u64
-    requires { ⌜ (unbalanced ≤ limits .constants) × (places ≤ limits .variables) ⌝ }
+// The first number from the key on that may take all rows that must be taken: those are none or all balanced rows, so
+// that the key does or its tuple's full mask is the only one.
+fn first_taking(must: u64, key: Key) -> u64
+    requires { ⌜ must < 2 ^ layout .rows ⌝ }
     ensures { λ r. ⌜ InTuple key r ⌝ }
-    ensures { λ r. ⌜ ((G : Groups) → Marked (now (reaching .entry)) unbalanced places G → Fits layout G → Weighs (fills G places) key r) ⌝ }
+    ensures { λ r. ⌜ Weighs (takesAll must) key r ⌝ }
 {
-    let mut first = key as u64;
+    let taken = (key & LOW_MASK) as u64;
+    if taken < must {
+        key as u64 + (must - taken)
+    } else {
+        key as u64
+    }
+}
+
+// The first number from the key on that may be admissible, of candidates: the key itself if it is, for it takes the
+// rows that must be taken and each place is above 0 in at least one taken row. Else it is the farthest that a row or a
+// missed place sends to.
+fn weigh(reaching: &[u64; MASKS], unbalanced: usize, places: usize, must: u64, key: Key) -> u64
+    requires { ⌜ (unbalanced ≤ limits .constants) × (places ≤ limits .variables) × (must < 2 ^ layout .rows) ⌝ }
+    ensures { λ r. ⌜ InTuple key r ⌝ }
+    ensures { λ r. ⌜ ((G : Groups) → Marked (now (reaching .entry)) unbalanced places G → Fits layout G → Weighs (admits G places must) key r) ⌝ }
+{
+    let mut first = first_taking(must, key);
     let mut place: usize = 0;
     while place < places {
         let next = first_reaching(reaching, unbalanced, place, key);
@@ -231,23 +247,24 @@ pub enum NextKey {
 }
 
 // The least admissible key from a key on that has its row indexes: the sets of balanced rows are taken in the
-// order of their masks, and those that miss a place are passed over.
+// order of their masks, and those that lack a row or miss a place are passed over.
 fn least_of_tuple(
     reaching: &[u64; MASKS],
     unbalanced: usize,
     places: usize,
+    must: u64,
     balanced: usize,
     key: Key,
 ) -> NextKey
-    requires { ⌜ (unbalanced ≤ limits .constants) × (places ≤ limits .variables) × (balanced ≤ layout .rows) ⌝ }
+    requires { ⌜ (unbalanced ≤ limits .constants) × (places ≤ limits .variables) × (must < 2 ^ layout .rows) × (balanced ≤ layout .rows) ⌝ }
     ensures { λ r. ⌜ ((G : Groups) → Marked (now (reaching .entry)) unbalanced places G → Fits layout G
-        → LeastWithin (fills G places) key (key / 2 ^ layout .rows * 2 ^ layout .rows + 2 ^ balanced) r) ⌝ }
+        → LeastWithin (admits G places must) key (key / 2 ^ layout .rows * 2 ^ layout .rows + 2 ^ balanced) r) ⌝ }
 {
     let tuple = key >> MASK_BITS;
     let mut mask = key & LOW_MASK;
     while mask >> balanced == 0 {
         let tried = pack(tuple, mask);
-        let first = weigh(reaching, unbalanced, places, tried);
+        let first = weigh(reaching, unbalanced, places, must, tried);
         if first == tried as u64 {
             return NextKey::Key(tried);
         }
@@ -309,7 +326,14 @@ pub fn least_listed(masks: Masks, from: u64) -> NextKey
                 at = later;
             }
             KeyStanding::Candidate => {
-                let least = least_of_tuple(&masks.reaching, unbalanced, places, balanced, key);
+                let least = least_of_tuple(
+                    &masks.reaching,
+                    unbalanced,
+                    places,
+                    masks.must,
+                    balanced,
+                    key,
+                );
                 if let NextKey::Key(found) = least {
                     return NextKey::Key(found);
                 }

@@ -26,26 +26,26 @@ enum-told-3 : tie.Need-enum-told-3
 enum-told-3 c = search needs
 
 returns : tie.Need-returns
-returns c = λ t its M L R full of.
+returns c = λ t its M L R of.
     let told = c .before .before in
-    found-itself (next-key (told .before .before .least-listed .ensures t its M L R full of)
+    found-itself (next-key (told .before .before .least-listed .ensures t its M L R of)
     (told .least .given .1)) (c .if1 .taken)
 
 returns-2 : tie.Need-returns-2
-returns-2 c = λ t its M L R full of.
+returns-2 c = λ t its M L R of.
     let told = c .before .before in
-    found-other (next-key (told .before .before .least-listed .ensures t its M L R full of) (told .least .given .1))
+    found-other (next-key (told .before .before .least-listed .ensures t its M L R of) (told .least .given .1))
     (c .if1 .left)
 
 returns-3 : tie.Need-returns-3
-returns-3 c = λ t its M L R full of.
+returns-3 c = λ t its M L R of.
     let told = c .before .before .before in
-    found-above (next-none (told .before .before .least-listed .ensures t its M L R full of) (told .enum-told .given .1))
-    (next-key (c .before .before .least-listed2 .ensures t its M L R full of) (c .enum-told2 .given .1))
+    found-above (next-none (told .before .before .least-listed .ensures t its M L R of) (told .enum-told .given .1))
+    (next-key (c .before .before .least-listed2 .ensures t its M L R of) (c .enum-told2 .given .1))
 
 returns-4 : tie.Need-returns-4
-returns-4 c = λ t its M L R full of.
-    found-nothing (table-ascending of) (next-none (c .before .before .least-listed2 .ensures t its M L R full of)
+returns-4 c = λ t its M L R of.
+    found-nothing (table-ascending of) (next-none (c .before .before .least-listed2 .ensures t its M L R of)
     (c .enum-told3 .given .1))
 
 pub find-key-spec : {M : Type 1} → statement M

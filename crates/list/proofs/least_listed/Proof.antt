@@ -67,7 +67,7 @@ least-of-tuple-requires : tie.Need-least-of-tuple-requires Inv-loop μ-loop
 least-of-tuple-requires c κs =
     let turn = c .before .before .before .before .before .before .before in
     let fit = turn .before .before .before .before .before .before .pre in
-    (fit .constants-fit, fit .places-fit, fit .sizes-fit 0)
+    (fit .constants-fit, fit .places-fit, fit .must-fits, fit .sizes-fit 0)
 
 enum-known-least : tie.Need-enum-known-least Inv-loop μ-loop
 enum-known-least c = search needs

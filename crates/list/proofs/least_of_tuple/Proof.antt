@@ -1,5 +1,5 @@
--- `list::least_of_tuple` meets its contract. The invariant: the masks before this one miss a place. The
--- measure is what is left of the masks.
+-- `list::least_of_tuple` meets its contract. The invariant: the masks before this one lack a row or miss a place.
+-- The measure is what is left of the masks.
 use Prim.Native.Nat.{_≤_, _-_, _/_}
 use native.Mathlib.Omega.{arith}
 use native.Mathlib.Nat.{le-refl}
@@ -10,11 +10,11 @@ use Rattle.list.proofs.least_of_tuple.Statement.{statement}
 use Rattle.list.proofs.least_of_tuple.Tie as tie
 
 abbrev Inv-loop : tie.InvT-loop
-Inv-loop reaching unbalanced places balanced key tuple mask₀ mask =
-    (mask₀ ≤ mask) × (mask ≤ 65536) × Missed reaching unbalanced places balanced tuple mask₀ mask
+Inv-loop reaching unbalanced places must balanced key tuple mask₀ mask =
+    (mask₀ ≤ mask) × (mask ≤ 65536) × Missed reaching unbalanced places must balanced tuple mask₀ mask
 
 abbrev μ-loop : tie.MeasureT-loop
-μ-loop reaching unbalanced places balanced key tuple mask₀ mask = 65536 - mask
+μ-loop reaching unbalanced places must balanced key tuple mask₀ mask = 65536 - mask
 
 cast-tuple : tie.Need-cast-tuple Inv-loop μ-loop
 cast-tuple c = search needs
@@ -27,7 +27,7 @@ loop-holds c =
     let a = c .args in (
       le-refl _,
       omega (arith, mask-lt (a .key) 16),
-      missed-none (a .reaching .now) (a .unbalanced) (a .places) (a .balanced) (a .key / 65536) (bitAnd (a .key) 65535),
+      missed-none (a .reaching .now) (a .unbalanced) (a .places) (a .must) (a .balanced) (a .key / 65536) (bitAnd (a .key) 65535),
     )
 
 cast-loop : tie.Need-cast-loop Inv-loop μ-loop
@@ -39,7 +39,7 @@ shr-loop c = omega arith
 pack-requires : tie.Need-pack-requires Inv-loop μ-loop
 pack-requires c κs = (
   omega (arith, c .before .before .fits .key),
-  no-bit-fits (c .before .loop .mask) (c .before .before .pre .2) (c .loop-test .taken),
+  no-bit-fits (c .before .loop .mask) (c .before .before .pre .3) (c .loop-test .taken),
 )
 
 weigh-requires : tie.Need-weigh-requires Inv-loop μ-loop
@@ -54,7 +54,7 @@ returns c = λ G marked fits.
     let a = turn .before .before .args in
     let at = turn .before .loop in
     from-key _ (a .key) _
-    (missed-found (a .reaching .now) (a .unbalanced) (a .places) (a .balanced) (a .key / 65536)
+    (missed-found (a .reaching .now) (a .unbalanced) (a .places) (a .must) (a .balanced) (a .key / 65536)
     (bitAnd (a .key) 65535) (at .mask) (at .inv .2) (c .before .before .pack .ensures) (c .before .weigh .ensures .1)
     (c .if1 .taken) (no-bit-left (at .mask) _ (turn .loop-test .taken)) (at .inv .0) G marked fits)
 
@@ -75,7 +75,7 @@ loop-less c =
     let turn = c .before .before .before in
     omega (
       arith,
-      no-bit-fits (turn .before .loop .mask) (turn .before .before .pre .2) (turn .loop-test .taken),
+      no-bit-fits (turn .before .loop .mask) (turn .before .before .pre .3) (turn .loop-test .taken),
       c .before .weigh .ensures .0,
       c .if1 .left,
     )
@@ -88,9 +88,9 @@ loop-again c =
     let at = turn .before .loop in
     let packed = c .before .before .pack .ensures in (
       omega (arith, at .inv .0),
-      mask-on (a .key / 65536) (at .mask) packed (no-bit-fits (at .mask) (entry .pre .2) (turn .loop-test .taken))
+      mask-on (a .key / 65536) (at .mask) packed (no-bit-fits (at .mask) (entry .pre .3) (turn .loop-test .taken))
           (c .before .weigh .ensures .0),
-      missed-more (a .reaching .now) (a .unbalanced) (a .places) (a .balanced) (a .key / 65536)
+      missed-more (a .reaching .now) (a .unbalanced) (a .places) (a .must) (a .balanced) (a .key / 65536)
           (bitAnd (a .key) 65535) (at .mask) (at .inv .2) packed (c .before .weigh .ensures .1)
           (c .before .weigh .ensures .0 .0),
     )
@@ -99,7 +99,7 @@ returns-2 : tie.Need-returns-2 Inv-loop μ-loop
 returns-2 c = λ G marked fits.
     let a = c .before .before .args in
     from-key _ (a .key) _
-    (missed-all (a .reaching .now) (a .unbalanced) (a .places) (a .balanced) (a .key / 65536) (bitAnd (a .key) 65535)
+    (missed-all (a .reaching .now) (a .unbalanced) (a .places) (a .must) (a .balanced) (a .key / 65536) (bitAnd (a .key) 65535)
     (c .before .loop .inv .2) (a-bit-left (c .before .loop .mask) _ (c .loop-test .left)) G marked fits)
 
 pub least-of-tuple-spec : {M : Type 1} → statement M

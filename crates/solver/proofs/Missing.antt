@@ -22,8 +22,9 @@ use Rattle.ac.specs.Counting.{howMany, misses, rowsMissing, tuplesMissing, sele
 use Rattle.ac.proofs.Keys.{bit-of-half, lowest-bit}
 use Rattle.ac.proofs.HowMany.{howMany-next, howMany-most, howMany-further, howMany-places}
 use Rattle.ac.proofs.Counting.{reaching-parts}
-use Rattle.table.specs.Table.{mostRows}
+use Rattle.table.specs.Table.{mostRows, groupsIn}
 use Rattle.table.specs.Masks.{group, MasksOf, Coherent}
+use Rattle.table.specs.declared.Table.{Table}
 use Rattle.table.specs.declared.masks.Masks.{Masks}
 use Rattle.table.proofs.Bits.{bit-and, no-bit-from, no-bit-zero}
 use Rattle.solver.specs.Missing.{MarksMissing, RowsLeft, ReachingLeft, AllRows, Without, NotReaching}
@@ -118,19 +119,19 @@ module _ {unbalanced : ℕ} {rows : List ℕ} (left : RowsLeft unbalanced rows) 
 
 -- ---- all rows, where no place is to be missed
 
-abbrev pub all-left : {G : Groups} {places : ℕ} {m : Masks} (rows : List ℕ) → MasksOf G places m → Coherent m
+abbrev pub all-left : {t : Table} {m : Masks} (rows : List ℕ) → MasksOf t m → Coherent m
     → ((g : ℕ) → g ≤ limits .constants → AllRows (getD (m .sizes) g 0) (getD rows g 0))
     → ReachingLeft (m .reaching) rows (m .unbalanced) (m .places)
-all-left {G} {m = m} rows masks coherent each =
+all-left {t} {m} rows masks coherent each =
     record {
       left = record {
-        groups = G;
+        groups = groupsIn t;
         missed = [];
         how-many-constants = masks .sized .how-many-constants;
         few-rows = λ g used. omega (arith, masks .sized .a-size-each g used, coherent .sizes-fit g);
         marks = λ g used i.
             each g (omega (arith, coherent .constants-fit)) i
-            ∙ ap (ltb i) (sym (masks .sized .a-size-each g used)) ∙ sym (and-true (ltb i (length (group G g))));
+            ∙ ap (ltb i) (sym (masks .sized .a-size-each g used)) ∙ sym (and-true (ltb i (length (group (groupsIn t) g))));
       };
       marked = masks .marked;
     }

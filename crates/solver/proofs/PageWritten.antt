@@ -56,7 +56,7 @@ writing-first m {first} out some enough fits =
       enough = omega (arith, length-set-first out first);
       a-key = fits;
       the-buffer = set-first out first (omega arith);
-      the-rest = λ t its M L R full of. refl;
+      the-rest = λ t its M L R of. refl;
     }
 
 module _ {m : Masks} {first last written wanted : ℕ} {out now : List ℕ}
@@ -105,11 +105,11 @@ module _ {m : Masks} {first last written wanted : ℕ} {out now : List ℕ}
 
       rest : OfTheirList m (λ listed. (writing .done ++ key ∷ []) ++ remaining (after key) listed ≡ first
           ∷ remaining (after first) listed)
-      rest t its M L R full of =
+      rest t its M L R of =
           append-assoc (writing .done) (key ∷ []) (remaining (after key) (keys M layout L R (groupsIn t)))
           ∙ ap (λ (b : List ℕ). writing .done ++ b)
-          (sym (least-first (table-ascending of) (after last) (least t its M L R full of)))
-          ∙ writing .the-rest t its M L R full of
+          (sym (least-first (table-ascending of) (after last) (least t its M L R of)))
+          ∙ writing .the-rest t its M L R of
 
 module _ {m : Masks} {first last written wanted : ℕ} (out : List ℕ) {now : List ℕ}
     (writing : Writing m first last written wanted (set out 0 first) now) where
@@ -136,9 +136,9 @@ module _ {m : Masks} {first last written wanted : ℕ} (out : List ℕ) {now : L
   pub written-all : OfTheirList m (λ listed. NoneFrom listed (last + 1))
       → OfTheirList m (λ listed. KeysWritten (first ∷ remaining (after first) listed) wanted out
       (record { written = written; more = false; last = last }) now)
-  written-all nothing t its M L R full of =
+  written-all nothing t its M L R of =
       subst (λ left. KeysWritten left wanted out (record { written = written; more = false; last = last }) now)
-      (sym whole ∙ writing .the-rest t its M L R full of)
+      (sym whole ∙ writing .the-rest t its M L R of)
       (written-of (writing .done) false (take-all wanted (writing .done)
       (omega (arith, writing .how-many, writing .not-too-many)))
       (le-ltb wanted (length (writing .done)) (omega (arith, writing .how-many, writing .not-too-many))))
@@ -146,15 +146,15 @@ module _ {m : Masks} {first last written wanted : ℕ} (out : List ℕ) {now : L
       whole : writing .done ++ remaining (after last) (keys M layout L R (groupsIn t)) ≡ writing .done
       whole =
           ap (λ (b : List ℕ). writing .done ++ b)
-          (none-remains (table-ascending of) (after last) (nothing t its M L R full of)) ∙ append-nil (writing .done)
+          (none-remains (table-ascending of) (after last) (nothing t its M L R of)) ∙ append-nil (writing .done)
 
   -- as many are written as are wanted, and another is left
   pub written-more : {key : ℕ} → wanted ≤ written → OfTheirList m (λ listed. LeastFrom listed (last + 1) key)
       → OfTheirList m (λ listed. KeysWritten (first ∷ remaining (after first) listed) wanted out
       (record { written = written; more = true; last = last }) now)
-  written-more {key} full-page least t its M L R full of =
+  written-more {key} full-page least t its M L R of =
       subst (λ left. KeysWritten left wanted out (record { written = written; more = true; last = last }) now)
-      (writing .the-rest t its M L R full of)
+      (writing .the-rest t its M L R of)
       (written-of (writing .done ++ remaining (after last) listed) true
       (take-at (writing .done) (remaining (after last) listed) wanted
       (omega (arith, writing .how-many, writing .not-too-many)))
@@ -168,7 +168,7 @@ module _ {m : Masks} {first last written wanted : ℕ} (out : List ℕ) {now : L
           omega (
             arith,
             length-append (writing .done) (remaining (after last) listed),
-            ap length (least-first (table-ascending of) (after last) (least t its M L R full of)),
+            ap length (least-first (table-ascending of) (after last) (least t its M L R of)),
             writing .how-many,
             writing .not-too-many,
           )

@@ -7,9 +7,9 @@ use mathlib.Core.List.{List, [], _∷_, List·Memᴰ, List·Memᴰ·head, Memᴰ
 use lib.ListN.{length, getD}
 use Rattle.ac.specs.Limits.{limits}
 use Rattle.ac.specs.Pair.{Mode}
-use Rattle.ac.specs.Keys.{layout, keys, Beginning, after, remaining, Candidate}
+use Rattle.ac.specs.Keys.{layout, keys, Beginning, after, remaining}
 use Rattle.ac.specs.Weighed.{candidates, weighed}
-use Rattle.ac.proofs.Listed.{listed-candidates}
+use Rattle.ac.proofs.AllTaken.{listed-in}
 use Rattle.ac.proofs.Pages.{page-members}
 use Rattle.ac.proofs.Weighed.{weighed-later}
 use Rattle.ac.specs.Counting.{selectionsReaching}
@@ -25,7 +25,7 @@ use Rattle.numbers.proofs.Said.{refuses-carried, refuses-alone}
 use Rattle.numbers.proofs.Parts.{none-of-sides}
 use Rattle.pair.specs.Given.{PairGiven}
 use Rattle.table.specs.Table.{TableOf, groupsIn}
-use Rattle.table.specs.Masks.{MasksOf}
+use Rattle.table.specs.Masks.{placesToReach, MasksOf}
 use Rattle.table.specs.declared.Table.{Table}
 use Rattle.table.specs.declared.masks.Masks.{Masks}
 use Rattle.table.proofs.TableGroups.{length-groupAt, how-many-constants}
@@ -33,7 +33,6 @@ use Rattle.list.specs.Given.{ListGiven}
 use Rattle.list.specs.List.{LookedUp}
 use Rattle.list.specs.declared.Lookup.{Lookup}
 use Rattle.list.specs.declared.Lookup.the-variants as lookup
-use Rattle.list.proofs.Table.{table-fits}
 use Rattle.list.proofs.Finding.{told-listed, told-refused}
 use Rattle.solver.specs.Rows.{rowsBuffer, sizesAs, size, sizesOf, allRows, bytesOf, RowsPromise}
 use Rattle.solver.specs.Rows as its-rows
@@ -77,13 +76,14 @@ module _ {M : Mode} {L R : List ℕ} {t : Table} (of : TableOf M L R t)
       sizes = cc (length-groupAt t 0, how-many-constants t (of .within), e₁, e₂, e₃, e₄)
 
   -- Count: how many selections reach every variable
-  pub count-promised : {n places : ℕ} → M .empties ≡ false → places ≡ t .places
-      → n ≡ selectionsReaching (groupsIn t) places []
+  pub count-promised : {n : ℕ} {m : Masks} → M .empties ≡ false → MasksOf t m
+      → n ≡ selectionsReaching (groupsIn t) (m .places) []
       → CountPromise M L R (given n)
-  count-promised full same counted =
+  count-promised full its counted =
       subst (λ n. CountPromise M L R (given n))
       (keys-reaching M layout L R (groupsIn t) full
-      ∙ sym (counted ∙ ap (λ (k : ℕ). selectionsReaching (groupsIn t) k []) (same ∙ of .the-places)))
+      ∙ sym (counted ∙ ap (λ (k : ℕ). selectionsReaching (groupsIn t) k [])
+      (its .the-places ∙ ap (λ b. placesToReach b (t .places)) (sym (of .whether-empty) ∙ full) ∙ of .the-places)))
       (is-given none (as-listed (of .the-groups)))
 
   module _ {begin : Beginning} {wanted : ℕ} {out : List ℕ} (enough : wantedCount wanted ≤ length out)
@@ -96,14 +96,14 @@ module _ {M : Mode} {L R : List ℕ} {t : Table} (of : TableOf M L R t)
         (refuses-alone refl why (settled-refusal (subst (SettledOf (keys M layout L R (groupsIn t)) begin) e told))))
 
     -- a page is what was written of the keys that remain, with what was weighed from the beginning up to the last
-    pub page-promised : {m : Masks} → MasksOf (groupsIn t) (t .places) m → M .empties ≡ false
+    pub page-promised : {m : Masks} → MasksOf t m
         → {first count : ℕ} {written : WrittenKeys} {out′ : List ℕ} → settled ≡ FirstKey first
         → KeysWritten (first ∷ remaining (after first) (keys M layout L R (groupsIn t))) (wantedCount wanted)
         out written out′
         → WeighedUpto m begin (written .last) count
         → PagePromise M L R begin wanted out
         (given (record { written = written .written; more = written .more; weighed = count })) out′
-    page-promised its full {first = first} {count = count} {written = written} {out′ = out′} e writes weighs =
+    page-promised its {first = first} {count = count} {written = written} {out′ = out′} e writes weighs =
         subst₂ (λ o b. PagePromise M L R begin wanted out (given o) b) (sym values) (sym (whole .the-buffer))
         (is-given (page-none (of .the-groups) none enough (answer .0)) (next (of .the-groups)))
       where
@@ -118,8 +118,8 @@ module _ {M : Mode} {L R : List ℕ} {t : Table} (of : TableOf M L R t)
         whole : KeysWritten (remaining begin listed) (wantedCount wanted) out written out′
         whole = subst (λ left. KeysWritten left (wantedCount wanted) out written out′) (sym (answer .1)) writes
 
-        a-candidate : {key : ℕ} → List·Memᴰ key listed → Candidate layout (groupsIn t) key
-        a-candidate m = listed-candidates (table-fits (of .within)) M L R .0 m .0
+        a-candidate : {key : ℕ} → List·Memᴰ key listed → List·Memᴰ key (candidates M layout (groupsIn t))
+        a-candidate = listed-in M layout (groupsIn t) L R
 
         last-listed : List·Memᴰ (written .last) listed
         last-listed =
@@ -129,7 +129,7 @@ module _ {M : Mode} {L R : List ℕ} {t : Table} (of : TableOf M L R t)
 
         same-weighed : count ≡ keysWeighed M L R (groupsIn t) begin wanted
         same-weighed =
-            weighs t its M L R full of (λ k same. a-candidate (answer .2 k same)) (a-candidate last-listed)
+            weighs t its M L R of (λ k same. a-candidate (answer .2 k same)) (a-candidate last-listed)
             ∙ sym (ap (λ ks. weighed begin ks (candidates M layout (groupsIn t))) (whole .the-last)
             ∙ weighed-later begin (whole .before) (written .last) [] (candidates M layout (groupsIn t)))
 

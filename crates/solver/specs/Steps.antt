@@ -9,7 +9,7 @@ use Rattle.ac.specs.Lists.{receives}
 use Rattle.ac.specs.Limits.{limits}
 use Rattle.ac.specs.Pair.{Mode}
 use Rattle.ac.specs.Rows.{Groups}
-use Rattle.ac.specs.Keys.{layout, keys, Candidate, Beginning, after, remaining}
+use Rattle.ac.specs.Keys.{layout, keys, Beginning, after, remaining}
 use Rattle.ac.specs.Weighed.{candidates, weighed}
 use Rattle.numbers.specs.Numbers.{numberOf, saidOf}
 use Rattle.numbers.specs.First.{First, NoneOf}
@@ -43,13 +43,13 @@ RowsOfTable table out outcome out′ = OfSolved table (λ M L R. RowsPromise M L
 
 abbrev pub PageOfTable : Table → PageRequest → List ℕ → Outcome PageWritten → List ℕ → Type 0
 PageOfTable table request out outcome out′ =
-    OfSolved table (λ M L R. M .empties ≡ false
-    → PagePromise M L R (beginningOf (request .begin)) (request .wanted) out outcome out′)
+    OfSolved table (λ M L R. PagePromise M L R (beginningOf (request .begin)) (request .wanted) out outcome out′)
 
 abbrev pub ValuesOfTable : Table → ℕ → List ℕ → Outcome ℕ → List ℕ → Type 0
 ValuesOfTable table key out outcome out′ =
-    OfSolved table (λ M L R. M .empties ≡ false → ValuesPromise M L R key out outcome out′)
+    OfSolved table (λ M L R. ValuesPromise M L R key out outcome out′)
 
+-- Count is asked where no variable may be empty
 abbrev pub CountOfTable : Table → Outcome ℕ → Type 0
 CountOfTable table outcome = OfSolved table (λ M L R. M .empties ≡ false → CountPromise M L R outcome)
 
@@ -75,8 +75,9 @@ pub record KeysWritten (left : List ℕ) (wanted : ℕ) (out : List ℕ) (keys :
 -- where that key and the one after which to begin, if any, are candidates
 abbrev pub WeighedUpto : Masks → Beginning → ℕ → ℕ → Type 0
 WeighedUpto masks begin last count =
-    (table : Table) → MasksOf (groupsIn table) (table .places) masks → OfItsPair table (λ M L R.
-    ((k : ℕ) → begin ≡ after k → Candidate layout (groupsIn table) k) → Candidate layout (groupsIn table) last
+    (table : Table) → MasksOf table masks → OfItsPair table (λ M L R.
+    ((k : ℕ) → begin ≡ after k → List·Memᴰ k (candidates M layout (groupsIn table)))
+    → List·Memᴰ last (candidates M layout (groupsIn table))
     → count ≡ weighed begin (last ∷ []) (candidates M layout (groupsIn table)))
 
 -- the values are written, and it is told how long they are

@@ -16,7 +16,6 @@ ghost use lib.ListN.{getD};
 ghost use Rattle.ac.specs.Limits.{limits};
 ghost use Rattle.ac.specs.Pair.{unifying};
 ghost use Rattle.ac.specs.Counting.{selectionsMissing, selectionsReaching};
-ghost use Rattle.pair.specs.Ways.{modeOf};
 ghost use Rattle.table.specs.Table.{mostRows, InRoom};
 ghost use Rattle.solver.specs.Count.{toldCount, CountPromise};
 ghost use Rattle.solver.specs.Missing.{RowsLeft, ReachingLeft, AllRows, Without, NotReaching};
@@ -117,19 +116,11 @@ pub fn count_of(table: Table) -> CountAnswer
     CountAnswer::Count { unifiers }
 }
 
-// The question Count: how many unifiers two sides have.
+// The question Count: how many unifiers two sides have, after what solving the pair refuses.
 pub fn count(left: &[u8], right: &[u8]) -> CountAnswer
     ensures { λ r. ⌜ CountPromise unifying (now (left .entry)) (now (right .entry)) (toldCount r) ⌝ }
 {
-    count_by(Way::Unifying, left, right)
-}
-
-// Count by a way of listing: what solving the pair refuses, then the number of the solved pair.
-fn count_by(way: Way, left: &[u8], right: &[u8]) -> CountAnswer
-    ensures { λ r. ⌜ CountPromise (modeOf way (now (left .entry)) (now (right .entry))) (now (left .entry)) (now (right .entry))
-        (toldCount r) ⌝ }
-{
-    let solved = solve(way, left, right);
+    let solved = solve(Way::Unifying, left, right);
     let verdict = solved.verdict;
     let table = solved.table;
     match verdict {

@@ -17,7 +17,7 @@ ghost use mathlib.Core.List.{_∷_};
 ghost use Prim.Native.Nat.{_<_, _≤_};
 ghost use lib.ListN.{length};
 ghost use Rattle.ac.specs.Keys.{after, remaining};
-ghost use Rattle.ac.specs.Pair.{unifying, matching};
+ghost use Rattle.ac.specs.Pair.{unifying, matching, identity};
 ghost use Rattle.pair.specs.Ways.{modeOf};
 ghost use Rattle.table.specs.Table.{InRoom};
 ghost use Rattle.table.specs.Masks.{Coherent};
@@ -149,11 +149,11 @@ fn weigh_up_to(masks: Masks, begin: Begin, last: Key) -> u64
     requires { ⌜ Coherent masks ⌝ }
     ensures { λ r. ⌜ WeighedUpto masks (beginningOf begin) last r ⌝ }
 {
-    let upto = rank(&masks.sizes, masks.unbalanced, last);
+    let upto = rank(&masks.sizes, masks.unbalanced, masks.must, last);
     match begin {
         Begin::Start => upto,
         Begin::After(key) => {
-            let passed = rank(&masks.sizes, masks.unbalanced, key);
+            let passed = rank(&masks.sizes, masks.unbalanced, masks.must, key);
             if passed < upto { upto - passed } else { 0 }
         }
     }
@@ -204,6 +204,16 @@ pub fn match_page(left: &[u8], right: &[u8], request: PageRequest, out: &mut [Ke
         (request .wanted) (now (out .entry)) (toldPage r) (now (out .exit)) ⌝ }
 {
     page_by(Way::Matching, left, right, request, out)
+}
+
+// Page in sums with an identity: a variable may be empty, and a side may have no atoms.
+pub fn identity_page(left: &[u8], right: &[u8], request: PageRequest, out: &mut [Key]) -> PageAnswer
+    ensures promise { λ r. ⌜ PagePromise identity (now (left .entry)) (now (right .entry)) (beginningOf (request .begin)) (request .wanted) (now (out .entry))
+        (toldPage r) (now (out .exit)) ⌝ }
+    ensures existence { λ r. ⌜ PageExistence identity (now (left .entry)) (now (right .entry)) (beginningOf (request .begin)) (request .wanted)
+        (now (out .entry)) (toldPage r) (now (out .exit)) ⌝ }
+{
+    page_by(Way::Identity, left, right, request, out)
 }
 
 // Page by a way of listing: 16 first, then what solving the pair refuses, then the page of the solved pair.

@@ -11,7 +11,7 @@ ghost use mathlib.Core.Path.{_≡_};
 ghost use Prim.Native.Nat.{_+_, _*_, _<_, _≤_};
 ghost use lib.ListN.{length};
 ghost use Rattle.ac.specs.Limits.{limits};
-ghost use Rattle.ac.specs.Pair.{unifying, matching};
+ghost use Rattle.ac.specs.Pair.{unifying, matching, identity};
 ghost use Rattle.pair.specs.Ways.{modeOf};
 ghost use Rattle.buffer.specs.Put.{Put};
 ghost use Rattle.table.specs.Table.{mostRows, roomOfRows, InRoom, groupIn, groupsIn};
@@ -120,6 +120,13 @@ pub fn match_rows(left: &[u8], right: &[u8], out: &mut [u8]) -> RowsAnswer
         (now (out .exit)) ⌝ }
 {
     rows_by(Way::Matching, left, right, out)
+}
+
+// Rows in sums with an identity: a variable may be empty, and a side may have no atoms.
+pub fn identity_rows(left: &[u8], right: &[u8], out: &mut [u8]) -> RowsAnswer
+    ensures { λ r. ⌜ RowsPromise identity (now (left .entry)) (now (right .entry)) (now (out .entry)) (toldRows r) (now (out .exit)) ⌝ }
+{
+    rows_by(Way::Identity, left, right, out)
 }
 
 // Rows by a way of listing. Every refusal is settled before the first byte is written.

@@ -23,7 +23,7 @@ ghost use Prim.Native.Nat.{_+_, _≤_, _<_};
 ghost use lib.ListN.{length};
 ghost use Rattle.ac.specs.Limits.{limits};
 ghost use Rattle.ac.specs.Lists.{NoneAbove};
-ghost use Rattle.ac.specs.Pair.{unifying, matching};
+ghost use Rattle.ac.specs.Pair.{unifying, matching, identity};
 ghost use Rattle.pair.specs.Ways.{modeOf};
 ghost use Rattle.ac.specs.Values.{laidOut};
 ghost use Rattle.buffer.specs.Put.{Put};
@@ -186,6 +186,13 @@ pub fn match_values(left: &[u8], right: &[u8], key: Key, out: &mut [u8]) -> Valu
         (now (out .exit)) ⌝ }
 {
     values_by(Way::Matching, left, right, key, out)
+}
+
+// Values in sums with an identity: a value of no atoms has count 0.
+pub fn identity_values(left: &[u8], right: &[u8], key: Key, out: &mut [u8]) -> ValuesAnswer
+    ensures { λ r. ⌜ ValuesPromise identity (now (left .entry)) (now (right .entry)) key (now (out .entry)) (toldValues r) (now (out .exit)) ⌝ }
+{
+    values_by(Way::Identity, left, right, key, out)
 }
 
 // Values by a way of listing: 16 first, then what solving the pair refuses, then the values of the solved pair.

@@ -7,7 +7,6 @@ use mathlib.Core.List.{[]}
 use Rattle.ac.proofs.Groups.{groups-exist}
 use Rattle.numbers.specs.Order.{beginningNumbers}
 use Rattle.numbers.proofs.Parts.{verdict-promised}
-use Rattle.pair.proofs.Modes.{never-empties}
 use Rattle.solver.proofs.Given.{rows-made, page-made}
 use mathlib.Core.Bool.{Bool}
 use Rattle.numbers.specs.declared.Refusal.{Refusal}
@@ -67,7 +66,6 @@ same-length c = search needs
 returns-2 : tie.Need-returns-2
 returns-2 c =
     let at-solve = c .before .before .before .before .before .before .before .before .before .before in
-    let way = at-solve .before .before .before .before .args .way in
     let solved = at-solve .solve .ensures in
     let accepted = c .before .before .before .before .before .before .before .enum-told .given .1 in
     record {
@@ -79,7 +77,7 @@ returns-2 c =
             rows-promise = c .before .before .before .before .before .rows-of .ensures _ _ _
                 (solved .so accepted) (solved .none-given accepted);
             page-promise = c .before .before .page-of .ensures _ _ _ (solved .so accepted)
-                (solved .none-given accepted) (never-empties way _ _);
+                (solved .none-given accepted);
             solved = λ e. record { none-given = solved .none-given accepted; the-table = solved .so accepted };
           });
     }

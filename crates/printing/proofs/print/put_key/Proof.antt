@@ -5,7 +5,6 @@ use mathlib.Core.Path.{sym}
 use lib.ListN.{length, length-take}
 use lib.Seq.{length-take-le}
 use Rattle.pair.specs.Ways.{modeOf}
-use Rattle.pair.proofs.Modes.{never-empties}
 use Rattle.table.specs.Table.{groupsIn}
 use Rattle.lines.specs.Library.{bindingsOf}
 use Rattle.printing.proofs.KeyLines.{written-values}
@@ -45,7 +44,7 @@ returns c =
       omega (arith, put .1, w .ensures .1, length-take (w .result) (w .last .1 .1 .0)),
       λ way L R solved listed.
           put .0 (bindingsOf way L R (groupsIn (a .table)) (a .key))
-          (written-values (w .ensures .0 (modeOf way L R) L R (never-empties way L R) (solved .the-table) listed)),
+          (written-values (w .ensures .0 (modeOf way L R) L R (solved .the-table) listed)),
     )
 
 pub put-key-spec : {M : Type 1} → statement M

@@ -25,7 +25,7 @@ returns : tie.Need-returns
 returns c = λ M L R of none full.
     let masks = c .before .before .before .before .before .before .masks-of in
     let rows = c .before .before .before .all-rows in
-    count-promised of none full (masks .ensures .0 .the-places)
+    count-promised of none full (masks .ensures .0)
     (c .selections-reaching .ensures (all-left (rows .result) (masks .ensures .0) (masks .ensures .1) (rows .ensures)))
 
 pub count-of-spec : {M : Type 1} → statement M

@@ -6,7 +6,6 @@ use lib.ListN.{length}
 use Rattle.ac.proofs.Groups.{groups-exist}
 use Rattle.numbers.specs.Order.{beginningNumbers}
 use Rattle.numbers.proofs.Parts.{short-promised, verdict-promised}
-use Rattle.pair.proofs.Modes.{never-empties}
 use Rattle.solver.proofs.Existence.{page-existence}
 use Rattle.solver.proofs.Given.{page-made}
 use borrow.Author.Needs.{needs}
@@ -55,8 +54,7 @@ returns-3 c =
     let told = c .before .before .before .before .enum-told .given .1 in
     let solved = c .before .before .before .before .before .before .before .solve .ensures in
     let promised =
-    c .before .before .page-of .ensures _ _ _ (solved .so told) (solved .none-given told)
-    (never-empties (c .before .before .before .before .before .before .before .before .before .before .before .before .before .args .way) _ _) in
+    c .before .before .page-of .ensures _ _ _ (solved .so told) (solved .none-given told) in
     (promised, page-existence promised)
 
 pub page-by-spec : {M : Type 1} → statement M

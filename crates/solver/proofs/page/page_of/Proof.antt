@@ -11,7 +11,7 @@ wanted-count-requires : tie.Need-wanted-count-requires
 wanted-count-requires c κs = search needs
 
 returns : tie.Need-returns
-returns c = λ M L R of none full.
+returns c = λ M L R of none.
     short-promised (page-made (of .the-groups)) (rw (c .before .wanted-count .ensures) at (c .if1 .taken))
 
 masks-of-requires : tie.Need-masks-of-requires
@@ -43,26 +43,26 @@ same-length : tie.Need-same-length
 same-length c = search needs
 
 returns-2 : tie.Need-returns-2
-returns-2 c = λ M L R of none full.
+returns-2 c = λ M L R of none.
     let written = c .before .before .before in
     let settled = written .before .before .before .before .before in
     let masks = settled .before in
     let long = masks .before in
     let its = masks .masks-of .ensures .0 in
     page-promised of none (rw (long .before .wanted-count .ensures) at (long .if1 .left))
-    (settled .settle .ensures _ its M L R full of) its full
+    (settled .settle .ensures _ its M L R of) its
     (written .before .before .before .settled .given .1)
-    (rw (long .before .wanted-count .ensures) at (written .write-keys .ensures _ its M L R full of))
+    (rw (long .before .wanted-count .ensures) at (written .write-keys .ensures _ its M L R of))
     (c .weigh-up-to .ensures)
 
 returns-3 : tie.Need-returns-3
-returns-3 c = λ M L R of none full.
+returns-3 c = λ M L R of none.
     let settled = c .before .before .before in
     let masks = settled .before in
     let long = masks .before in
     let its = masks .masks-of .ensures .0 in
     page-refused of none (rw (long .before .wanted-count .ensures) at (long .if1 .left))
-    (settled .settle .ensures _ its M L R full of)
+    (settled .settle .ensures _ its M L R of)
     (c .before .settled2 .given .1)
 
 pub page-of-spec : {M : Type 1} → statement M

@@ -25,18 +25,18 @@ settle-after-requires : tie.Need-settle-after-requires
 settle-after-requires c κs = search needs
 
 returns : tie.Need-returns
-returns c = λ t its M L R full of.
+returns c = λ t its M L R of.
     rw (c .before .before .before .before .enum-told .given .1)
     (settled-start (table-ascending of)
-    (next-key (c .before .before .before .least-listed .ensures t its M L R full of) (c .before .first .given .1)))
+    (next-key (c .before .before .before .least-listed .ensures t its M L R of) (c .before .first .given .1)))
 
 returns-2 : tie.Need-returns-2
-returns-2 c = λ t its M L R full of.
-    settled-empty (table-ascending of) (next-none (c .before .before .least-listed .ensures t its M L R full of)
+returns-2 c = λ t its M L R of.
+    settled-empty (table-ascending of) (next-none (c .before .before .least-listed .ensures t its M L R of)
     (c .enum-told2 .given .1))
 
 returns-3 : tie.Need-returns-3
-returns-3 c = λ t its M L R full of. rw (c .before .before .begin .given .1) (c .settle-after .ensures t its M L R full of)
+returns-3 c = λ t its M L R of. rw (c .before .before .begin .given .1) (c .settle-after .ensures t its M L R of)
 
 pub settle-spec : {M : Type 1} → statement M
 settle-spec =

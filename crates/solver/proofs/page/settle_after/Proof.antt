@@ -30,22 +30,22 @@ enum-told-2 : tie.Need-enum-told-2
 enum-told-2 c = search needs
 
 returns : tie.Need-returns
-returns c = λ t its M L R full of. settled-unlisted
-    (told-refused (c .before .before .before .find-key .ensures t its M L R full of) (c .before .found .given .1))
+returns c = λ t its M L R of. settled-unlisted
+    (told-refused (c .before .before .before .find-key .ensures t its M L R of) (c .before .found .given .1))
 
 returns-2 : tie.Need-returns-2
-returns-2 c = λ t its M L R full of.
+returns-2 c = λ t its M L R of.
     let listed = c .before .before .before .before in
-    settled-next (table-ascending of) (told-listed (listed .before .before .find-key .ensures t its M L R full of)
+    settled-next (table-ascending of) (told-listed (listed .before .before .find-key .ensures t its M L R of)
     (listed .enum-told .given .1))
-    (next-key (c .before .before .before .least-listed .ensures t its M L R full of) (c .before .next .given .1))
+    (next-key (c .before .before .before .least-listed .ensures t its M L R of) (c .before .next .given .1))
 
 returns-3 : tie.Need-returns-3
-returns-3 c = λ t its M L R full of.
+returns-3 c = λ t its M L R of.
     let listed = c .before .before .before in
-    settled-last (table-ascending of) (told-listed (listed .before .before .find-key .ensures t its M L R full of)
+    settled-last (table-ascending of) (told-listed (listed .before .before .find-key .ensures t its M L R of)
     (listed .enum-told .given .1))
-    (next-none (c .before .before .least-listed .ensures t its M L R full of) (c .enum-told2 .given .1))
+    (next-none (c .before .before .least-listed .ensures t its M L R of) (c .enum-told2 .given .1))
 
 pub settle-after-spec : {M : Type 1} → statement M
 settle-after-spec =

@@ -45,7 +45,7 @@ returns : tie.Need-returns Inv-loop μ-loop
 returns c =
     written-all (c .before .before .before .before .before .before .args .out .now)
     (c .before .before .before .before .loop .inv)
-    (λ t its M L R full of. next-none (c .before .before .least-listed .ensures t its M L R full of) (c .enum-told .given .1))
+    (λ t its M L R of. next-none (c .before .before .least-listed .ensures t its M L R of) (c .enum-told .given .1))
 
 mul-out : tie.Need-mul-out Inv-loop μ-loop
 mul-out c =
@@ -71,7 +71,7 @@ loop-again : tie.Need-loop-again Inv-loop μ-loop
 loop-again c =
     writing-next (c .before .before .before .before .before .loop .inv)
     (c .before .before .before .before .loop-test .taken) (omega arith)
-    (λ t its M L R full of. next-key (c .before .before .before .least-listed .ensures t its M L R full of)
+    (λ t its M L R of. next-key (c .before .before .before .least-listed .ensures t its M L R of)
     (c .before .next .given .1))
 
 cast-least-listed-2 : tie.Need-cast-least-listed-2 Inv-loop μ-loop
@@ -96,7 +96,7 @@ returns-2 : tie.Need-returns-2 Inv-loop μ-loop
 returns-2 c =
     let end = c .before .before .before in
     written-more (end .before .before .before .args .out .now) (end .before .loop .inv) (end .loop-test .left)
-    (λ t its M L R full of. next-key (c .before .before .least-listed2 .ensures t its M L R full of) (c .enum-told2 .given .1))
+    (λ t its M L R of. next-key (c .before .before .least-listed2 .ensures t its M L R of) (c .enum-told2 .given .1))
 
 same-length-3 : tie.Need-same-length-3 Inv-loop μ-loop
 same-length-3 c = writing-length (c .before .before .before .before .loop .inv) ∙ simp length-set
@@ -105,7 +105,7 @@ returns-3 : tie.Need-returns-3 Inv-loop μ-loop
 returns-3 c =
     written-all (c .before .before .before .before .before .before .args .out .now)
     (c .before .before .before .before .loop .inv)
-    (λ t its M L R full of. next-none (c .before .before .least-listed2 .ensures t its M L R full of) (c .enum-told3 .given .1))
+    (λ t its M L R of. next-none (c .before .before .least-listed2 .ensures t its M L R of) (c .enum-told3 .given .1))
 
 pub write-keys-spec : {M : Type 1} → statement M
 write-keys-spec =

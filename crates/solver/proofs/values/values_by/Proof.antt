@@ -4,7 +4,6 @@ use mathlib.Core.Path.{refl}
 use Rattle.ac.proofs.Groups.{groups-exist}
 use Rattle.numbers.specs.Order.{keyNumbers}
 use Rattle.numbers.proofs.Parts.{short-promised, verdict-promised}
-use Rattle.pair.proofs.Modes.{never-empties}
 use Rattle.solver.proofs.Given.{values-made}
 use borrow.Author.Needs.{needs}
 use Rattle.solver.proofs.values.values_by.Statement.{statement}
@@ -40,7 +39,6 @@ returns-3 c =
     let told = c .before .before .before .before .enum-told .given .1 in
     let solved = c .before .before .before .before .before .before .before .solve .ensures in
     c .before .before .values-of .ensures _ _ _ (solved .so told) (solved .none-given told)
-    (never-empties (c .before .before .before .before .before .before .before .before .before .before .before .before .args .way) _ _)
 
 pub values-by-spec : {M : Type 1} → statement M
 values-by-spec =

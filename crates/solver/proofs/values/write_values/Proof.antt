@@ -27,7 +27,7 @@ returns : tie.Need-returns
 returns c =
     let put = c .before .before .put-bindings .ensures in
     let selected = c .before .before .before .before .before .before .before .before in (
-      λ M L R full of listed.
+      λ M L R of listed.
           writes-values of listed (selected .selection-of .ensures) (omega (arith, put .1)) (put .0),
       put .1,
     )

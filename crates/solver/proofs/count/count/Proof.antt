@@ -1,9 +1,9 @@
--- `solver::count::count_by` meets its contract: what solving settles, then the number. Assumes nothing.
+-- `solver::count::count` meets its contract: what solving settles, then the number. Assumes nothing.
+use mathlib.Core.Path.{refl}
 use borrow.Author.Needs.{needs}
 use Rattle.numbers.specs.Outcome.{is-refused}
-use Rattle.pair.proofs.Modes.{never-empties}
-use Rattle.solver.proofs.count.count_by.Statement.{statement}
-use Rattle.solver.proofs.count.count_by.Tie as tie
+use Rattle.solver.proofs.count.count.Statement.{statement}
+use Rattle.solver.proofs.count.count.Tie as tie
 
 solve-requires : tie.Need-solve-requires
 solve-requires c κs = search needs
@@ -25,9 +25,9 @@ returns-2 c =
     let solved = c .before .before .before .before in
     let told = c .before .enum-told .given .1 in
     c .count-of .ensures _ _ _ (solved .solve .ensures .so told) (solved .solve .ensures .none-given told)
-    (never-empties (solved .before .before .before .args .way) _ _)
+    refl
 
-pub count-by-spec : {M : Type 1} → statement M
-count-by-spec =
+pub count-spec : {M : Type 1} → statement M
+count-spec =
     tie.close
     (tie.spec solve-requires enum-known-verdict enum-told count-of-requires returns returns-2)

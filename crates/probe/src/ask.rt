@@ -10,6 +10,9 @@ use crate::answer::put_numbers;
 use crate::answer::put_returned;
 use crate::question::COUNT;
 use crate::question::Header;
+use crate::question::IDENTITY_PAGE;
+use crate::question::IDENTITY_ROWS;
+use crate::question::IDENTITY_VALUES;
 use crate::question::MATCH_PAGE;
 use crate::question::MATCH_ROWS;
 use crate::question::MATCH_VALUES;
@@ -53,7 +56,8 @@ pub fn ask(asked: Header, first: &[u8], second: &[u8], answers: &mut [u8], at: u
     put(answers, first_end, front(&second_lent, second_room))
 }
 
-// What the question returns, with the lent buffers changed as it changes them: an arm for each question.
+// What the question returns, with the lent buffers changed as it changes them: an arm for each question that lists
+// nothing.
 fn returned_by(
     asked: Header,
     first: &[u8],
@@ -69,16 +73,6 @@ fn returned_by(
             first_lent,
             second_lent,
         )),
-        ROWS => of_rows(solver::rows::rows(first, second, first_lent)),
-        PAGE => page(asked, first, second, first_lent),
-        MATCH_ROWS => of_rows(solver::rows::match_rows(first, second, first_lent)),
-        MATCH_PAGE => match_page(asked, first, second, first_lent),
-        MATCH_VALUES => of_values(solver::values::match_values(
-            first,
-            second,
-            asked.number,
-            first_lent,
-        )),
         COUNT => of_count(solver::count::count(first, second)),
         WRITE => of_write(writing::write(
             first,
@@ -86,7 +80,28 @@ fn returned_by(
             (asked.number % 65_536) as u16,
             first_lent,
         )),
-        _ => of_values(solver::values::values(first, second, asked.number, first_lent)),
+        _ => listed_by(asked, first, second, first_lent),
+    }
+}
+
+// What Rows, Page or Values returns, unifying, for matching or with an identity.
+fn listed_by(asked: Header, left: &[u8], right: &[u8], lent: &mut [u8]) -> Returned {
+    let kind = asked.kind;
+    match kind {
+        ROWS => of_rows(solver::rows::rows(left, right, lent)),
+        PAGE => page(asked, left, right, lent),
+        MATCH_ROWS => of_rows(solver::rows::match_rows(left, right, lent)),
+        MATCH_PAGE => match_page(asked, left, right, lent),
+        MATCH_VALUES => of_values(solver::values::match_values(left, right, asked.number, lent)),
+        IDENTITY_ROWS => of_rows(solver::rows::identity_rows(left, right, lent)),
+        IDENTITY_PAGE => identity_page(asked, left, right, lent),
+        IDENTITY_VALUES => of_values(solver::values::identity_values(
+            left,
+            right,
+            asked.number,
+            lent,
+        )),
+        _ => of_values(solver::values::values(left, right, asked.number, lent)),
     }
 }
 
@@ -104,6 +119,15 @@ fn match_page(asked: Header, left: &[u8], right: &[u8], shown: &mut [u8]) -> Ret
     let mut keys = filled_numbers(asked.fill);
     let room = least(shown.len() / 4, MOST_NUMBERS);
     let page = solver::page::match_page(left, right, request_of(asked), &mut keys[..room]);
+    put_numbers(shown, 0, &keys[..room]);
+    of_page(page)
+}
+
+// So is Page with an identity.
+fn identity_page(asked: Header, left: &[u8], right: &[u8], shown: &mut [u8]) -> Returned {
+    let mut keys = filled_numbers(asked.fill);
+    let room = least(shown.len() / 4, MOST_NUMBERS);
+    let page = solver::page::identity_page(left, right, request_of(asked), &mut keys[..room]);
     put_numbers(shown, 0, &keys[..room]);
     of_page(page)
 }

@@ -18,6 +18,12 @@ pub const MATCH_VALUES: u8 = 8;
 
 pub const COUNT: u8 = 9;
 
+pub const IDENTITY_ROWS: u8 = 10;
+
+pub const IDENTITY_PAGE: u8 = 11;
+
+pub const IDENTITY_VALUES: u8 = 12;
+
 // What is asked: which question, the byte that fills the lent buffers, the lengths of what follows, the
 // number that the question takes, whether a page begins after it, how many keys are wanted, and the lengths
 // of the lent buffers in bytes.
@@ -55,6 +61,7 @@ fn bytes_of(kind: u8, places: usize) -> usize
     match kind {
         PAGE => 4 * places,
         MATCH_PAGE => 4 * places,
+        IDENTITY_PAGE => 4 * places,
         _ => places,
     }
 }

@@ -3,7 +3,7 @@
 --
 -- `multisets-answers`. The left sides have the same atoms equally often, and so have the right sides; in every way of
 -- listing.
--- `swapped-answers`. Left and right are swapped; in unifying.
+-- `swapped-answers`. Left and right are swapped; in any one mode, so in unifying and in sums with an identity.
 -- `added-answers`. One constant is added to both sides, where neither was empty and both stay within 64 atoms; in
 -- every way of listing. `front-answers` is the case of a constant put in front.
 --
@@ -19,7 +19,7 @@ use lib.Dec.{ltb}
 use lib.IntN.{pos, _-ℤ_}
 use lib.ListN.{length}
 use Rattle.ac.specs.Limits.{Limits, limits}
-use Rattle.ac.specs.Pair.{Mode, unifying, isVariable, same, count, net, occurs}
+use Rattle.ac.specs.Pair.{Mode, isVariable, same, count, net, occurs}
 use Rattle.ac.specs.Replacement.{SameSum}
 use Rattle.ac.proofs.Bridge.{difference-equal}
 use Rattle.ac.proofs.Counts.{same-other}
@@ -93,15 +93,15 @@ shared-swapped shared =
       on-right = shared .on-left;
     }
 
-pub swapped-alike : {limits : Limits} {L R : List ℕ} → Alike limits unifying L R unifying R L
-swapped-alike {L = L} {R} =
+pub swapped-alike : {limits : Limits} (M : Mode) {L R : List ℕ} → Alike limits M L R M R L
+swapped-alike M {L} {R} =
     alike-in-mode (λ a moves. ap (ltb 0) (let e : count a L + count a R ≡ count a R + count a L = omega arith in e))
     (opposite (net-exchanged L R))
     (λ n m. (sides-carried other-side n m, sides-carried other-side n m)) (shared-swapped, shared-swapped)
 
--- Swapping left and right leaves all three answers the same.
-pub swapped-answers : {L R : List ℕ} → SameAnswers unifying L R unifying R L
-swapped-answers = alike-answers swapped-alike
+-- Swapping left and right leaves all three answers the same. Matching has another mode after it.
+pub swapped-answers : (M : Mode) {L R : List ℕ} → SameAnswers M L R M R L
+swapped-answers M = alike-answers (swapped-alike M)
 
 -- ---- one constant added to both sides
 

@@ -59,7 +59,7 @@ pub reordered-same : SameAnswers unifying left right unifying leftReordered righ
 reordered-same = multisets-answers Unifying (λ a. omega arith) (λ a. omega arith)
 
 pub swapped-same : SameAnswers unifying left right unifying right left
-swapped-same = swapped-answers
+swapped-same = swapped-answers unifying
 
 pub with-c2-same : SameAnswers unifying left right unifying leftWithC2 rightWithC2
 with-c2-same =

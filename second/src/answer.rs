@@ -1,4 +1,4 @@
-//! The questions with their lent buffers (document 01, The questions; document 02, R-3, R-4, R-7 and R-8).
+//! The questions with their lent buffers (document 01, The questions; document 02, R-3, R-4, R-7, R-8 and R-10).
 
 use crate::block::{self, Sides};
 use crate::pair::Way;
@@ -126,14 +126,14 @@ fn give_values(values: &[Value]) -> Given {
     Given { figures: [first.len() as u32, 0, 0, 0, 0, 0], first, ..Given::default() }
 }
 
-/// How many atoms the longest value has that Values gave; none if it was refused or there are no variables.
-pub fn longest_value(answer: &Answer) -> Option<u8> {
+/// How many atoms each value has that Values gave; none if it was refused.
+pub fn value_lengths(answer: &Answer) -> Vec<u8> {
     let given = if answer.number == 0 { answer.figures[0] as usize } else { 0 };
     let mut rest = &answer.first[..given];
-    let mut longest = None;
+    let mut lengths = Vec::new();
     while let [_, count, after @ ..] = rest {
-        longest = longest.max(Some(*count));
+        lengths.push(*count);
         rest = &after[usize::from(*count)..];
     }
-    longest
+    lengths
 }

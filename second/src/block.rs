@@ -50,7 +50,7 @@ pub fn read(block: &[u8], expected: u16) -> Result<Sides, Refusal> {
 
 /// The block of two flattened sides, or the first of the refusals 7, 8 and 18 that holds.
 pub fn write(sides: &Sides, number: u16) -> Result<Vec<u8>, Refusal> {
-    must_be_sides(sides)?;
+    must_be_sides(sides, 1)?;
     let of_left = |&atom: &u8| atom < APART || atom >= FIRST_CONSTANT;
     if !sides.left.iter().all(of_left) || sides.right.iter().any(|&atom| atom < APART) {
         return Err(Refusal::WrongSide);

@@ -144,6 +144,45 @@ pub const MATCHED: [(&str, &str, u8); 39] = [
     ("3v0+2v1", "5v32+8c0", 0),
 ];
 
+/// Pairs in sums with an identity (document 02, R-10): those worked by hand, those at and past each limit, and those
+/// that give two reasons for a refusal. Each with the number that its first page is refused with, or 0.
+pub const WITH_IDENTITY: [(&str, &str, u8); 31] = [
+    ("v0+v1", "v2+v3", 0),
+    ("c0+c1+c2", "v0+v1+v2", 0),
+    ("v0", "", 0),
+    ("", "v0+v1", 0),
+    ("", "", 0),
+    ("c0", "", 13),
+    ("", "c0+v0", 13),
+    ("v0+v1", "c0", 0),
+    ("2v0+c0", "v1+v2+c1", 0),
+    ("v0", "v0+v1", 0),
+    ("2v0", "c0", 13),
+    ("2v0", "c0+v1", 0),
+    ("2v0+c0", "v0+v0", 13),
+    ("v0+v1+c0", "v0+v1", 13),
+    ("3v0+5v1", "", 0),
+    ("64v0", "", 10),
+    ("8v0", "", 0),
+    ("65v0", "", 7),
+    ("", "65n0", 7),
+    ("", "n0", 8),
+    ("v0+v1+v2+v3+v4+v5+v6", "", 9),
+    ("v0+v1+v2+v3+v4+v5", "", 0),
+    ("9v0+v1+v2+v3+v4+v5+v6", "", 9),
+    ("", "9c63+9v39", 10),
+    ("9v0", "c0+c1+c2+c3+c4", 10),
+    ("", "c0+c1+c2+c3+c4", 11),
+    ("", "c0+c1+c2+c3", 13),
+    ("v0+v1+v2+c0", "5c1", 12),
+    ("4v0+v4+v5", "v1+v2+v3+v4+v5", 12),
+    ("4v0+v4", "v1+v2+v3+v4", 0),
+    ("v0", "c0+c1+c2+c3", 0),
+];
+
+/// A pair that has 225 keys in sums with an identity, more than a usual page.
+pub const IDENTITY_OF_PAGES: (&str, &str) = ("v0+v1+v2", "4c0+4c1");
+
 /// The pattern and subject with the longest list: 16 ways for each of four atoms.
 pub const LONGEST_MATCHES: (&str, &str) = ("v0+v1+2v2", "6v32+6v33+6c0+6c1");
 

@@ -1,13 +1,15 @@
 //! Planted faults: answers that are wrong in one known way, to show that the comparison can fail. One for
 //! each question, one for the variables of a right term, two for the atom that 10 names, two for the shape that
-//! is written, three for matching, three for Count, five for the number of candidates weighed, two for the longest value, one
-//! for each plausible error of document 01, two in the nightly text and two in the census text.
+//! is written, three for matching, three for Count, five for the number of candidates weighed, two for the longest value, six
+//! for sums with an identity, one for each plausible error of document 01, two in the nightly text and two in the census text.
 
-use crate::answer::{answer, in_halves, longest_value};
+use crate::answer::{answer, in_halves, value_lengths};
 use crate::block::{seal, Sides, APART, BLOCK, PLUS, TERMS};
 use crate::census::{census, MOST_BLOCKS};
-use crate::list::{field_shift, stages, List, Stage};
-use crate::pair::{net_counts, shared_variables, Pair, Way, FIRST_CONSTANT, FURTHEST_NET_COUNT};
+use crate::list::{field_shift, stages, take_all_balanced, without_covers, List, Stage};
+use crate::pair::{
+    must_be_sides, net_counts, shared_variables, Pair, Way, FIRST_CONSTANT, FURTHEST_NET_COUNT,
+};
 use crate::question::{Answer, Ask, Question, FIGURES};
 use crate::refusal::Refusal;
 use crate::rows::{at_or_below, weight, Groups, Row, MOST_ROWS};
@@ -76,6 +78,18 @@ pub enum Fault {
     ValuesLongerBuffer,
     /// Values gives 17 for a value that is longer than 127 atoms.
     ValuesSeventeen,
+    /// With an identity the first balanced row is not taken.
+    IdentityBitMissing,
+    /// With an identity any set of balanced rows may be taken.
+    IdentityAnySet,
+    /// With an identity each variable must still be covered.
+    IdentityReach,
+    /// With an identity 13 is given where some variable is covered by no row at all.
+    IdentityThirteen,
+    /// With an identity a side without atoms is refused.
+    IdentityEmptySide,
+    /// With an identity Page weighs every set of balanced rows.
+    IdentityWeighed,
     /// The nightly text says `more` for a list of exactly 200.
     TextMore,
     /// The nightly text counts blocks without unifier as refused.
@@ -87,7 +101,7 @@ pub enum Fault {
 }
 
 /// All faults by name.
-pub const FAULTS: [(&str, Fault); 32] = [
+pub const FAULTS: [(&str, Fault); 38] = [
     ("number-before-check", Fault::NumberBeforeCheck),
     ("right-as-written", Fault::RightAsWritten),
     ("byte-after-rows", Fault::ByteAfterRows),
@@ -116,6 +130,12 @@ pub const FAULTS: [(&str, Fault); 32] = [
     ("weighed-sizes-swapped", Fault::WeighedSizesSwapped),
     ("values-longer-buffer", Fault::ValuesLongerBuffer),
     ("values-seventeen", Fault::ValuesSeventeen),
+    ("identity-bit-missing", Fault::IdentityBitMissing),
+    ("identity-any-set", Fault::IdentityAnySet),
+    ("identity-reach", Fault::IdentityReach),
+    ("identity-thirteen", Fault::IdentityThirteen),
+    ("identity-empty-side", Fault::IdentityEmptySide),
+    ("identity-weighed", Fault::IdentityWeighed),
     ("text-more", Fault::TextMore),
     ("text-counts", Fault::TextCounts),
     ("census-refused", Fault::CensusRefused),
@@ -204,7 +224,26 @@ impl Fault {
                 | Fault::CountSign
                 | Fault::CountUnrestricted
                 | Fault::CountThirteen
+                | Fault::IdentityBitMissing
+                | Fault::IdentityAnySet
+                | Fault::IdentityReach
+                | Fault::IdentityThirteen
+                | Fault::IdentityEmptySide
         )
+    }
+
+    /// The way of listing in which the fault shows.
+    pub fn way(self) -> Way {
+        match self {
+            Fault::IdentityBitMissing
+            | Fault::IdentityAnySet
+            | Fault::IdentityReach
+            | Fault::IdentityThirteen
+            | Fault::IdentityEmptySide
+            | Fault::IdentityWeighed => Way::Identity,
+            Fault::SubjectMoves | Fault::SharedByNetCount | Fault::NineCountsBoth => Way::Matching,
+            _ => Way::Unifying,
+        }
     }
 
     /// Whether the fault is in the number of candidates weighed.
@@ -216,6 +255,7 @@ impl Fault {
                 | Fault::WeighedBeginning
                 | Fault::WeighedAhead
                 | Fault::WeighedSizesSwapped
+                | Fault::IdentityWeighed
         )
     }
 
@@ -232,7 +272,7 @@ impl Fault {
     /// A pair solved with the fault.
     fn solve(self, way: Way, sides: &Sides) -> Result<Solved, Refusal> {
         match way {
-            Way::Unifying => self.unify(sides),
+            Way::Unifying | Way::Identity => self.unify(way, sides),
             Way::Matching => self.match_subject(sides),
         }
     }
@@ -257,22 +297,55 @@ impl Fault {
         }
     }
 
-    /// A pair unified with the fault.
-    fn unify(self, sides: &Sides) -> Result<Solved, Refusal> {
-        let mut pair = Pair::of(Way::Unifying, sides)?;
+    /// A pair unified with the fault, with an identity or without.
+    fn unify(self, way: Way, sides: &Sides) -> Result<Solved, Refusal> {
+        if self == Fault::IdentityEmptySide {
+            must_be_sides(sides, 1)?;
+        }
+        let mut pair = Pair::of(way, sides)?;
         if self == Fault::NetCountZeroDropped {
             pair.variables.retain(|variable| variable.net != 0);
         }
         let groups = self.groups(&pair)?;
-        let mut stages = stages(&groups);
-        if self == Fault::AllRowsOnly {
-            for stage in stages.iter_mut().filter(|stage| stage.field < 1 << MOST_ROWS) {
-                let last = stage.choices.len() - 1;
-                stage.choices.drain(..last);
-            }
-        }
-        let list = List::of_stages(stages, pair.variables.len());
+        let list = match way {
+            Way::Identity => self.list_with_identity(&pair, &groups),
+            _ => self.list(&pair, &groups),
+        };
         Ok(Solved { pair, groups, list })
+    }
+
+    /// The list of a pair's rows with the fault.
+    fn list(self, pair: &Pair, groups: &Groups) -> List {
+        let mut stages = stages(groups);
+        if self == Fault::AllRowsOnly {
+            take_all_balanced(&mut stages);
+        }
+        List::of_stages(stages, pair.variables.len())
+    }
+
+    /// The list of a pair's rows with the fault, where sums have an identity.
+    fn list_with_identity(self, pair: &Pair, groups: &Groups) -> List {
+        let mut stages = stages(groups);
+        let covered =
+            stages.iter().flat_map(|stage| &stage.choices).fold(0, |all, choice| all | choice.cover);
+        let variables = pair.variables.len();
+        match self {
+            Fault::IdentityBitMissing => {
+                take_all_balanced(&mut stages);
+                stages.last_mut().into_iter().for_each(|first_row| first_row.choices[0].bits = 0);
+                List::of_stages(without_covers(stages), 0)
+            }
+            Fault::IdentityAnySet => List::of_stages(without_covers(stages), 0),
+            Fault::IdentityReach => {
+                take_all_balanced(&mut stages);
+                List::of_stages(stages, variables)
+            }
+            Fault::IdentityThirteen if covered.count_ones() as usize != variables => {
+                stages[0].choices.clear();
+                List::of_stages(stages, variables)
+            }
+            _ => List::with_identity(groups),
+        }
     }
 
     /// The rows of a pair with the fault.
@@ -308,7 +381,9 @@ impl Fault {
             (Fault::ValuesLongerBuffer, Ask::Values { .. }) if question.first_buffer < 1212 => {
                 refuse(question, answer, Refusal::Buffer.number())
             }
-            (Fault::ValuesSeventeen, Ask::Values { .. }) if longest_value(answer) > Some(127) => {
+            (Fault::ValuesSeventeen, Ask::Values { .. })
+                if value_lengths(answer).iter().any(|&n| n > 127) =>
+            {
                 refuse(question, answer, 17)
             }
             (Fault::RightNotLowered, Ask::Write { .. }) if answer.number == 0 => {
@@ -372,6 +447,7 @@ impl Fault {
                 let before = after.map_or(0, |key| rank_with_sizes_swapped(&solved.groups, key));
                 rank_with_sizes_swapped(&solved.groups, last).wrapping_sub(before)
             }
+            Fault::IdentityWeighed => List::of(&solved.pair, &solved.groups).candidates(after, last),
             _ => right,
         };
         answer.figures[2..4].copy_from_slice(&in_halves(weighed));

@@ -51,6 +51,14 @@ impl List {
         List::of_stages(stages(groups), pair.variables.len())
     }
 
+    /// The list of a pair's rows where sums have an identity (document 02, R-10): a row for each constant and all
+    /// balanced rows, and no variable has to be covered.
+    pub fn with_identity(groups: &Groups) -> List {
+        let mut stages = stages(groups);
+        take_all_balanced(&mut stages);
+        List::of_stages(without_covers(stages), 0)
+    }
+
     /// The list that a run of stages makes over a number of variables.
     pub fn of_stages(stages: Vec<Stage>, variables: usize) -> List {
         let every_variable = ((1u16 << variables) - 1) as u8;
@@ -186,6 +194,20 @@ pub fn stages(groups: &Groups) -> Vec<Stage> {
     let constants = (0..CONSTANT_FIELDS).map(|place| constant_stage(place, groups.constants.get(place)));
     let balanced = (0..MOST_ROWS).rev().map(|place| balanced_stage(place, groups.balanced.get(place)));
     constants.chain(balanced).collect()
+}
+
+/// Leaves only those runs of choices that take every balanced row.
+pub fn take_all_balanced(stages: &mut [Stage]) {
+    for stage in &mut stages[CONSTANT_FIELDS..] {
+        let last = stage.choices.len() - 1;
+        stage.choices.drain(..last);
+    }
+}
+
+/// The stages, with choices that cover nothing.
+pub fn without_covers(mut stages: Vec<Stage>) -> Vec<Stage> {
+    stages.iter_mut().flat_map(|stage| &mut stage.choices).for_each(|choice| choice.cover = 0);
+    stages
 }
 
 /// The choice of a row for the constant with this place.

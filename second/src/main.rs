@@ -40,7 +40,7 @@ use std::io::{self, BufWriter};
 use std::process::ExitCode;
 
 const DEFAULT_SEED: u64 = 1;
-const DEFAULT_QUESTIONS: u64 = 150_000;
+const DEFAULT_QUESTIONS: u64 = 170_000;
 const DEFAULT_BLOCKS: u64 = 2000;
 
 const USAGE: &str = "second probe [--fault NAME]
@@ -173,10 +173,12 @@ fn compare_with(options: &Options) -> Result<(), String> {
 
 /// Checks the listed substitutions of small pairs, the own ones or a command's.
 fn check_semantic(options: &Options) -> Result<(), String> {
-    let checked = semantic::check(|questions| probe::answers(&options.probe, questions))?;
-    println!(
-        "{} pairs, {} listed substitutions, {} replacements of which {} unify: no objection",
-        checked.pairs, checked.listed, checked.replacements, checked.unifiers
-    );
+    for way in [Way::Unifying, Way::Identity] {
+        let checked = semantic::check(way, |questions| probe::answers(&options.probe, questions))?;
+        println!(
+            "{way:?}: {} pairs, {} listed substitutions, {} replacements of which {} unify: no objection",
+            checked.pairs, checked.listed, checked.replacements, checked.unifiers
+        );
+    }
     Ok(())
 }

@@ -1,4 +1,4 @@
-//! A pair as net counts (document 01, From sides to equations; document 02, R-4).
+//! A pair as net counts (document 01, From sides to equations; document 02, R-4 and R-10).
 
 use crate::block::Sides;
 use crate::refusal::Refusal;
@@ -16,11 +16,12 @@ pub const FURTHEST_NET_COUNT: i32 = 8;
 const MOST_CONSTANTS: usize = 4;
 
 /// Which atoms may move: the variables of both sides, or those of the left one only, which is then a pattern
-/// and the right one its subject.
+/// and the right one its subject; and whether sums have an identity, so that a variable and a side may be empty.
 #[derive(Clone, Copy, Debug, PartialEq, Eq)]
 pub enum Way {
     Unifying,
     Matching,
+    Identity,
 }
 
 /// An atom with its occurrences on the left minus those on the right.
@@ -40,11 +41,11 @@ pub struct Pair {
 impl Pair {
     /// The net counts of two sides, or the first of the refusals 7, 8, 19 in matching, and 9 to 11 that holds.
     pub fn of(way: Way, sides: &Sides) -> Result<Pair, Refusal> {
-        must_be_sides(sides)?;
+        must_be_sides(sides, usize::from(way != Way::Identity))?;
         if way == Way::Matching && !shared_variables(sides).is_empty() {
             return Err(Refusal::Shared);
         }
-        let may_move = |atom| atom < FIRST_CONSTANT && (way == Way::Unifying || sides.left.contains(&atom));
+        let may_move = |atom| atom < FIRST_CONSTANT && (way != Way::Matching || sides.left.contains(&atom));
         let (variables, mut constants): (Vec<_>, Vec<_>) =
             net_counts(sides).into_iter().partition(|count| may_move(count.atom));
         if variables.len() > MOST_VARIABLES {
@@ -63,9 +64,10 @@ impl Pair {
     }
 }
 
-/// Refusal 7 or 8 for what are no two sides.
-pub fn must_be_sides(sides: &Sides) -> Result<(), Refusal> {
-    if [&sides.left, &sides.right].iter().any(|side| side.is_empty() || side.len() > MOST_ATOMS) {
+/// Refusal 7 or 8 for what are no two sides of at least so many atoms.
+pub fn must_be_sides(sides: &Sides, fewest_atoms: usize) -> Result<(), Refusal> {
+    let lengths = fewest_atoms..=MOST_ATOMS;
+    if [&sides.left, &sides.right].iter().any(|side| !lengths.contains(&side.len())) {
         return Err(Refusal::SideLength);
     }
     if sides.left.iter().chain(&sides.right).any(|&byte| byte > LAST_ATOM) {

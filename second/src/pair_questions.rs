@@ -2,8 +2,8 @@
 
 use crate::block::Sides;
 use crate::examples::{
-    AROUND_A_PAGE, AT_LIMITS, BY_HAND, HIGHEST, LATEST_FIRST_KEY, LONGEST_LIST, LONGEST_MATCHES,
-    LONGEST_VALUE, MATCHED, MATCHES_OF_PAGES, MOST_ROW_BYTES, PUBLISHED,
+    AROUND_A_PAGE, AT_LIMITS, BY_HAND, HIGHEST, IDENTITY_OF_PAGES, LATEST_FIRST_KEY, LONGEST_LIST,
+    LONGEST_MATCHES, LONGEST_VALUE, MATCHED, MATCHES_OF_PAGES, MOST_ROW_BYTES, PUBLISHED, WITH_IDENTITY,
 };
 use crate::names::{sides, told};
 use crate::pair::{Way, FIRST_CONSTANT};
@@ -87,6 +87,30 @@ impl Questions {
         Ok(())
     }
 
+    /// Asks with an identity about small pairs and about all pairs that have a name.
+    pub fn ask_fixed_identities(&mut self) -> Result<(), String> {
+        for small in all_pairs(&SMALL_ATOMS, SMALL_SIDE - 1, SMALL_SIDE) {
+            self.ask_in_full(Way::Identity, &small);
+        }
+        for (left, right, _) in WITH_IDENTITY {
+            self.ask_named(Way::Identity, &sides(left, right));
+        }
+        let published = PUBLISHED.map(|(left, right, _)| (left, right));
+        for (left, right) in BY_HAND.iter().chain(&AT_LIMITS).chain(&AROUND_A_PAGE).chain(&published) {
+            self.ask_in_full(Way::Identity, &sides(left, right));
+        }
+        for (left, right) in [HIGHEST, LONGEST_LIST, MOST_ROW_BYTES, LONGEST_VALUE] {
+            self.ask_in_full(Way::Identity, &sides(left, right));
+            self.walk_top(Way::Identity, &sides(left, right));
+        }
+        let of_pages = sides(IDENTITY_OF_PAGES.0, IDENTITY_OF_PAGES.1);
+        self.ask_named(Way::Identity, &of_pages);
+        for counts in [&ODD_COUNTS[..], &[ODD_COUNTS[3]], &[0]] {
+            self.walk(Way::Identity, &of_pages, None, counts)?;
+        }
+        Ok(())
+    }
+
     /// Asks all that is asked about a small pair, and each question with each length of its buffer.
     fn ask_named(&mut self, way: Way, sides: &Sides) {
         self.ask_in_full(way, sides);
@@ -132,7 +156,7 @@ impl Questions {
         }
     }
 
-    /// Asks how many unifiers a pair has; of matches that is not asked.
+    /// Asks how many unifiers a pair has; in other ways of listing that is not asked.
     fn ask_count(&mut self, way: Way, sides: &Sides) {
         if way == Way::Unifying {
             self.ask(Ask::Count, sides);
@@ -167,12 +191,15 @@ impl Questions {
         }
     }
 
-    /// Asks about a random pair, in matching most often with its variables made apart; a short list is also
-    /// walked to its end.
+    /// Asks about a random pair, in matching most often with its variables made apart, with an identity now and then
+    /// with an empty side; a short list is also walked to its end.
     pub fn ask_random_pair(&mut self, way: Way) -> Result<(), String> {
         let mut sides = random_sides(&mut self.chance);
         if way == Way::Matching && !self.chance.one_in(8) {
             sides = apart(&sides);
+        }
+        if way == Way::Identity && self.chance.one_in(8) {
+            sides.left.clear();
         }
         let from = self.number();
         self.ask_sampled(way, &sides);

@@ -10,8 +10,9 @@ const HEADER: usize = 20;
 /// The numbers of an answer after its first byte.
 pub const FIGURES: usize = 6;
 const KEY_BYTES: usize = 4;
-/// How much higher the numbers of Rows, Page and Values are in matching.
+/// How much higher the numbers of Rows, Page and Values are in matching, and with an identity.
 const MATCHING: u8 = 4;
+const IDENTITY: u8 = 8;
 
 /// What is asked.
 #[derive(Clone, Copy, Debug, PartialEq, Eq)]
@@ -34,7 +35,7 @@ impl Ask {
         }
     }
 
-    /// The number of the question in the protocol: in matching it is higher.
+    /// The number of the question in the protocol: in matching and with an identity it is higher.
     fn kind(self) -> u8 {
         match self {
             Ask::Read { .. } => 1,
@@ -124,29 +125,34 @@ impl Question {
     }
 }
 
-/// The number of a question that may be asked in either way.
+/// The number of a question that may be asked in every way.
 fn in_the_way(kind: u8, way: Way) -> u8 {
     match way {
         Way::Unifying => kind,
         Way::Matching => kind + MATCHING,
+        Way::Identity => kind + IDENTITY,
     }
 }
 
 /// What a header asks.
 fn ask(header: &[u8]) -> io::Result<Ask> {
     let number = long(header, 6);
-    let way = if matches!(header[0], 6..=8) { Way::Matching } else { Way::Unifying };
+    let way = match header[0] {
+        6..=8 => Way::Matching,
+        10..=12 => Way::Identity,
+        _ => Way::Unifying,
+    };
     match header[0] {
         1 => Ok(Ask::Read { expected: short(header, 8) }),
-        2 | 6 => Ok(Ask::Rows { way }),
-        3 | 7 => {
+        2 | 6 | 10 => Ok(Ask::Rows { way }),
+        3 | 7 | 11 => {
             let after = if header[10] == 0 { None } else { Some(number) };
             Ok(Ask::Page { way, after, wanted: long(header, 11) })
         }
-        4 | 8 => Ok(Ask::Values { way, key: number }),
+        4 | 8 | 12 => Ok(Ask::Values { way, key: number }),
         5 => Ok(Ask::Write { number: short(header, 8) }),
         9 => Ok(Ask::Count),
-        _ => Err(io::Error::new(io::ErrorKind::InvalidData, "there are nine questions, 1 to 9")),
+        _ => Err(io::Error::new(io::ErrorKind::InvalidData, "there are twelve questions, 1 to 12")),
     }
 }
 

@@ -30,16 +30,18 @@ pub fn questions(seed: u64, total: usize) -> Result<Vec<Question>, String> {
     questions.ask_fixed_reads();
     questions.ask_fixed_pairs()?;
     questions.ask_fixed_matches()?;
+    questions.ask_fixed_identities()?;
     questions.ask_fixed_writes();
     let fixed = questions.asked.len();
     if fixed > total {
         return Err(format!("{total} questions are too few: the fixed ones alone are {fixed}"));
     }
     while questions.asked.len() < total {
-        match questions.chance.below(16) {
+        match questions.chance.below(20) {
             0 | 1 => questions.ask_random_read(),
             2 => questions.ask_random_write(),
             3..=7 => questions.ask_random_pair(Way::Matching)?,
+            8..=11 => questions.ask_random_pair(Way::Identity)?,
             _ => questions.ask_random_pair(Way::Unifying)?,
         }
     }
@@ -75,12 +77,13 @@ impl Questions {
     /// The other ways in which a pair may be written.
     fn rewritten(&mut self, way: Way, sides: &Sides) -> Vec<Sides> {
         let mut rewritten = vec![shuffled(&mut self.chance, sides)];
-        if way == Way::Unifying {
+        if way != Way::Matching {
             rewritten.push(Sides { left: sides.right.clone(), right: sides.left.clone() });
         }
         let (left, right) = (&sides.left, &sides.right);
         let constant = self.chance.byte(FIRST_CONSTANT, LAST_ATOM);
-        if [left, right].iter().all(|side| (1..MOST_ATOMS).contains(&side.len())) {
+        let lengths = usize::from(way != Way::Identity)..MOST_ATOMS;
+        if [left, right].iter().all(|side| lengths.contains(&side.len())) {
             rewritten.push(Sides {
                 left: [&[constant], &left[..]].concat(),
                 right: [&right[..], &[constant]].concat(),

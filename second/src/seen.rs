@@ -1,6 +1,7 @@
 //! What a comparison has met, so that it fails if it never came to what it is meant to compare.
 
-use crate::answer::longest_value;
+use crate::answer::value_lengths;
+use crate::block::Sides;
 use crate::pair::{net_counts, Way, FIRST_CONSTANT};
 use crate::question::{Answer, Ask, Question};
 use crate::rows::MOST_ROWS;
@@ -13,6 +14,8 @@ const TOO_FREQUENT: u8 = 10;
 const NUMBERS: usize = 20;
 /// The refusals of matching.
 const OF_MATCHING: [usize; 11] = [7, 8, 9, 10, 11, 12, 13, 14, 15, 16, 19];
+/// The refusals with an identity.
+const OF_IDENTITY: [usize; 10] = [7, 8, 9, 10, 11, 12, 13, 14, 15, 16];
 /// The refusals of Count.
 const OF_COUNT: [usize; 6] = [7, 8, 9, 10, 11, 12];
 /// A list is long if it has more keys than this.
@@ -41,6 +44,7 @@ pub struct Seen {
     balanced_sizes: [usize; MOST_ROWS + 1],
     constant_sizes: [usize; MOST_ROWS + 1],
     matching: Matching,
+    identity: Identity,
     counting: Counting,
 }
 
@@ -53,6 +57,17 @@ struct Matching {
     values: usize,
     without_variables: usize,
     largest_group: usize,
+}
+
+/// How often each thing was met with an identity; rows, pages and values where they were given.
+#[derive(Default)]
+struct Identity {
+    numbers: [usize; NUMBERS],
+    rows: usize,
+    empty_sides: usize,
+    pages: Pages,
+    values: usize,
+    empty_values: usize,
 }
 
 /// How often each thing was met in pages that were given.
@@ -77,8 +92,10 @@ impl Seen {
     pub fn note(&mut self, question: &Question, answer: &Answer) {
         self.numbers[usize::from(answer.number)] += 1;
         if let Ask::Rows { way } | Ask::Page { way, .. } | Ask::Values { way, .. } = question.ask {
-            if way == Way::Matching {
-                return self.matching.note(question, answer);
+            match way {
+                Way::Unifying => (),
+                Way::Matching => return self.matching.note(question, answer),
+                Way::Identity => return self.identity.note(question, answer),
             }
         }
         match question.ask {
@@ -92,8 +109,8 @@ impl Seen {
         match (answer.number, question.ask) {
             (0, Ask::Rows { .. }) => self.note_rows(question, answer),
             (0, Ask::Page { .. }) => self.pages_given.note(answer),
-            (_, Ask::Values { .. }) if longest_value(answer) == Some(LONGEST_VALUE) => {
-                self.longest_values += 1
+            (0, Ask::Values { .. }) => {
+                self.longest_values += usize::from(value_lengths(answer).contains(&LONGEST_VALUE))
             }
             (TOO_FREQUENT, _) if answer.figures[0] < u32::from(FIRST_CONSTANT) => self.named_variable += 1,
             (TOO_FREQUENT, _) => self.named_constant += 1,
@@ -136,7 +153,9 @@ impl Seen {
         ];
         wanted.extend(others.map(|(what, times)| (what.to_string(), times)));
         wanted.extend(self.pages_given.wanted(""));
+        wanted.extend(self.pages_given.wanted_of_weighing(""));
         wanted.extend(self.matching.wanted());
+        wanted.extend(self.identity.wanted());
         wanted.extend(self.counting.wanted());
         wanted
     }
@@ -151,7 +170,7 @@ impl Seen {
         let parts: Vec<String> =
             self.wanted().iter().map(|(what, times)| format!("{what}: {times}")).collect();
         format!(
-            "Read {}, Rows {}, Page {}, Values {}, Write {}, Count {}, of matching {}; met: {}",
+            "Read {}, Rows {}, Page {}, Values {}, Write {}, Count {}, of matching {}, with an identity {}; met: {}",
             self.read,
             self.rows,
             self.pages,
@@ -159,6 +178,7 @@ impl Seen {
             self.written,
             self.counting.numbers.iter().sum::<usize>(),
             self.matching.numbers.iter().sum::<usize>(),
+            self.identity.numbers.iter().sum::<usize>(),
             parts.join(", ")
         )
     }
@@ -190,8 +210,46 @@ impl Matching {
             ("matching, pattern without variables", self.without_variables),
             ("matching, 16 rows of a constant", self.largest_group),
         ];
-        let others = others.map(|(what, times)| (what.to_string(), times));
-        numbers.into_iter().chain(others).chain(self.pages.wanted("matching, ")).collect()
+        let mut wanted = numbers.to_vec();
+        wanted.extend(others.map(|(what, times)| (what.to_string(), times)));
+        wanted.extend(self.pages.wanted("matching, "));
+        wanted.extend(self.pages.wanted_of_weighing("matching, "));
+        wanted
+    }
+}
+
+impl Identity {
+    /// Counts what a question with an identity and its right answer show.
+    fn note(&mut self, question: &Question, answer: &Answer) {
+        self.numbers[usize::from(answer.number)] += 1;
+        match (answer.number, question.ask) {
+            (0, Ask::Rows { .. }) => {
+                self.rows += 1;
+                let Sides { left, right } = &question.sides;
+                self.empty_sides += usize::from(left.is_empty() || right.is_empty());
+            }
+            (0, Ask::Page { .. }) => self.pages.note(answer),
+            (0, Ask::Values { .. }) => {
+                self.values += 1;
+                self.empty_values += usize::from(value_lengths(answer).contains(&0));
+            }
+            _ => (),
+        }
+    }
+
+    /// What should have been met with an identity, with how often it was. There no page weighs more than it writes.
+    fn wanted(&self) -> Vec<(String, usize)> {
+        let numbers = OF_IDENTITY.map(|number| (format!("identity, number {number}"), self.numbers[number]));
+        let others = [
+            ("identity, rows", self.rows),
+            ("identity, empty side", self.empty_sides),
+            ("identity, values", self.values),
+            ("identity, empty value", self.empty_values),
+        ];
+        let mut wanted = numbers.to_vec();
+        wanted.extend(others.map(|(what, times)| (what.to_string(), times)));
+        wanted.extend(self.pages.wanted("identity, "));
+        wanted
     }
 }
 
@@ -206,14 +264,14 @@ impl Pages {
     }
 
     /// What should have been met in pages of one way of listing, with how often it was.
-    fn wanted(&self, way: &str) -> [(String, usize); 4] {
-        [
-            ("more", self.more),
-            ("no more", self.no_more),
-            ("more weighed than written", self.more_weighed_than_written),
-            ("many weighed", self.many_weighed),
-        ]
-        .map(|(what, times)| (format!("{way}{what}"), times))
+    fn wanted(&self, way: &str) -> [(String, usize); 2] {
+        [("more", self.more), ("no more", self.no_more)].map(|(what, times)| (format!("{way}{what}"), times))
+    }
+
+    /// The same of the number of candidates weighed.
+    fn wanted_of_weighing(&self, way: &str) -> [(String, usize); 2] {
+        [("more weighed than written", self.more_weighed_than_written), ("many weighed", self.many_weighed)]
+            .map(|(what, times)| (format!("{way}{what}"), times))
     }
 }
 

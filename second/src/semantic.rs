@@ -1,7 +1,8 @@
 //! A check that uses no algorithm of the solver, only what a unifier is (source 000): for small pairs, every
 //! replacement of the variables by small non-empty sums that makes the sides equal must come from a listed
 //! substitution, every listed one must make the sides equal, none may come from another, and as many must be
-//! counted as are listed.
+//! counted as are listed. With an identity (document 02, R-10) the sums and the sides may be empty, and nothing is
+//! counted.
 
 use crate::block::Sides;
 use crate::names::{name, sum, told};
@@ -31,20 +32,23 @@ pub struct Checked {
 /// A small pair with the substitutions that are listed for it, a value for each variable ascending, and with the
 /// number that is given without listing them.
 struct Listed {
+    way: Way,
     sides: Sides,
     variables: Vec<u8>,
     substitutions: Vec<Vec<Sum>>,
-    counted: u64,
+    counted: Option<u64>,
 }
 
-/// Checks all small pairs with the answers that the given means gives; the first objection ends it.
-pub fn check(ask: impl Fn(&[Question]) -> Result<Vec<Answer>, String>) -> Result<Checked, String> {
+/// Checks all small pairs, unified or with an identity, with the answers that the given means gives; the first objection
+/// ends it.
+pub fn check(way: Way, ask: impl Fn(&[Question]) -> Result<Vec<Answer>, String>) -> Result<Checked, String> {
     let mut checked = Checked::default();
-    for listed in listed_substitutions(small_pairs(), ask)? {
+    let pairs = if may_be_empty(way) { small_pairs_with_identity() } else { small_pairs() };
+    for listed in listed_substitutions(way, pairs, ask)? {
         checked.pairs += 1;
         checked.listed += listed.substitutions.len();
         let outcome = listed.check_listed().and_then(|()| listed.check_complete(&mut checked));
-        outcome.map_err(|objection| format!("{}: {objection}", told(&listed.sides)))?;
+        outcome.map_err(|objection| format!("{way:?}, {}: {objection}", told(&listed.sides)))?;
     }
     Ok(checked)
 }
@@ -60,31 +64,54 @@ fn small_pairs() -> Vec<Sides> {
     all.into_iter().filter(|sides| !sides.left.is_empty() && !sides.right.is_empty()).collect()
 }
 
-/// Asks for the whole list of each pair, for the values of each key and for their number.
+/// All pairs of sides of up to 2 and 3 atoms over three variables and two constants, of up to 2 and 2 over four
+/// variables and one constant, and of up to 4 and 4 over two variables and one constant, empty ones among them.
+fn small_pairs_with_identity() -> Vec<Sides> {
+    let three_variables = all_pairs(&[0, 1, 2, FIRST_CONSTANT, FIRST_CONSTANT + 1], 2, 3);
+    let four_variables = all_pairs(&[0, 1, 2, 3, FIRST_CONSTANT], 2, 2);
+    let two_variables = all_pairs(&[0, 1, FIRST_CONSTANT], 4, 4);
+    let all: BTreeSet<Sides> =
+        [three_variables, four_variables, two_variables].into_iter().flatten().collect();
+    all.into_iter().collect()
+}
+
+/// Asks for the whole list of each pair, for the values of each key and, in unifying, for their number.
 fn listed_substitutions(
+    way: Way,
     pairs: Vec<Sides>,
     ask: impl Fn(&[Question]) -> Result<Vec<Answer>, String>,
 ) -> Result<Vec<Listed>, String> {
-    let page = Ask::Page { way: Way::Unifying, after: None, wanted: u32::from(PAGE) };
+    let page = Ask::Page { way, after: None, wanted: u32::from(PAGE) };
     let page_questions: Vec<Question> = pairs.iter().map(|sides| question(page, sides, PAGE)).collect();
     let pages = ask(&page_questions)?.iter().map(keys).collect::<Result<Vec<_>, _>>()?;
     let value_questions: Vec<Question> = pairs
         .iter()
         .zip(&pages)
         .flat_map(|(sides, keys)| {
-            let values = |key| Ask::Values { way: Way::Unifying, key };
+            let values = move |key| Ask::Values { way, key };
             keys.iter().map(move |&key| question(values(key), sides, VALUES))
         })
         .collect();
     let mut values = ask(&value_questions)?.into_iter();
-    let count_questions: Vec<Question> = pairs.iter().map(|sides| question(Ask::Count, sides, 0)).collect();
-    let counts = ask(&count_questions)?;
+    let counted = match way {
+        Way::Unifying => numbers(&pairs, ask)?,
+        _ => vec![None; pairs.len()],
+    };
     pairs
         .into_iter()
         .zip(pages)
-        .zip(&counts)
-        .map(|((sides, keys), count)| listed(sides, values.by_ref().take(keys.len()), number(count)?))
+        .zip(counted)
+        .map(|((sides, keys), counted)| listed(way, sides, values.by_ref().take(keys.len()), counted))
         .collect()
+}
+
+/// Asks how many unifiers each pair has.
+fn numbers(
+    pairs: &[Sides],
+    ask: impl Fn(&[Question]) -> Result<Vec<Answer>, String>,
+) -> Result<Vec<Option<u64>>, String> {
+    let questions: Vec<Question> = pairs.iter().map(|sides| question(Ask::Count, sides, 0)).collect();
+    ask(&questions)?.iter().map(|count| number(count).map(Some)).collect()
 }
 
 /// A question with a buffer of this length.
@@ -112,26 +139,32 @@ fn number(count: &Answer) -> Result<u64, String> {
     }
 }
 
-/// A pair with the substitutions that answers to Values hold, and their number.
-fn listed(sides: Sides, answers: impl Iterator<Item = Answer>, counted: u64) -> Result<Listed, String> {
+/// A pair with the substitutions that answers to Values hold, and their number where it was asked for.
+fn listed(
+    way: Way,
+    sides: Sides,
+    answers: impl Iterator<Item = Answer>,
+    counted: Option<u64>,
+) -> Result<Listed, String> {
     let atoms: BTreeSet<u8> = sides.left.iter().chain(&sides.right).copied().collect();
     let variables: Vec<u8> = atoms.into_iter().filter(|&atom| atom < FIRST_CONSTANT).collect();
     let substitutions = answers
         .map(|answer| {
-            substitution(&answer, &variables).ok_or(format!("{}: values that cannot be read", told(&sides)))
+            substitution(way, &answer, &variables)
+                .ok_or(format!("{way:?}, {}: values that cannot be read", told(&sides)))
         })
         .collect::<Result<_, _>>()?;
-    Ok(Listed { sides, variables, substitutions, counted })
+    Ok(Listed { way, sides, variables, substitutions, counted })
 }
 
-/// The values of all variables ascending from an answer, if it holds just those and none is empty.
-fn substitution(answer: &Answer, variables: &[u8]) -> Option<Vec<Sum>> {
+/// The values of all variables ascending from an answer, if it holds just those and none is empty that may not be.
+fn substitution(way: Way, answer: &Answer, variables: &[u8]) -> Option<Vec<Sum>> {
     let mut rest = answer.first.get(..answer.figures[0] as usize)?;
     let mut values = Vec::new();
     for &variable in variables {
         let (head, after) = rest.split_at_checked(2)?;
         let (atoms, after) = after.split_at_checked(usize::from(head[1]))?;
-        if head[0] != variable || atoms.is_empty() {
+        if head[0] != variable || (atoms.is_empty() && !may_be_empty(way)) {
             return None;
         }
         values.push(sum_of(atoms)?);
@@ -140,18 +173,24 @@ fn substitution(answer: &Answer, variables: &[u8]) -> Option<Vec<Sum>> {
     (answer.number == 0 && rest.is_empty()).then_some(values)
 }
 
+/// Whether a variable may be replaced by the empty sum.
+fn may_be_empty(way: Way) -> bool {
+    way == Way::Identity
+}
+
 impl Listed {
     /// As many substitutions are counted as are listed, each makes the sides equal, and none comes from another.
     fn check_listed(&self) -> Result<(), String> {
-        if self.counted != self.substitutions.len() as u64 {
-            return Err(format!("{} are counted and {} listed", self.counted, self.substitutions.len()));
+        let listed = self.substitutions.len() as u64;
+        if let Some(counted) = self.counted.filter(|&counted| counted != listed) {
+            return Err(format!("{counted} are counted and {listed} listed"));
         }
         for (place, values) in self.substitutions.iter().enumerate() {
             if !self.makes_equal(values) {
                 return Err(format!("{} does not make the sides equal", self.told_values(values)));
             }
             for (other_place, other) in self.substitutions.iter().enumerate() {
-                if place != other_place && comes_from(values, other) {
+                if place != other_place && comes_from(values, other, may_be_empty(self.way)) {
                     return Err(format!(
                         "{} comes from {}",
                         self.told_values(values),
@@ -168,7 +207,7 @@ impl Listed {
         let constants: Vec<u8> = (FIRST_CONSTANT..).take(CONSTANTS).collect();
         let sums: Vec<Sum> = multisets(&constants, LARGEST_SUM[self.variables.len()])
             .iter()
-            .filter(|atoms| !atoms.is_empty())
+            .filter(|atoms| may_be_empty(self.way) || !atoms.is_empty())
             .filter_map(|atoms| sum_of(atoms))
             .collect();
         self.check_replacements(&sums, &mut Vec::new(), checked)
@@ -192,7 +231,8 @@ impl Listed {
         checked.replacements += 1;
         if self.makes_equal(values) {
             checked.unifiers += 1;
-            if !self.substitutions.iter().any(|listed| comes_from(values, listed)) {
+            let comes = |listed: &Vec<Sum>| comes_from(values, listed, may_be_empty(self.way));
+            if !self.substitutions.iter().any(comes) {
                 return Err(format!(
                     "{} makes the sides equal and comes from no key",
                     self.told_values(values)

@@ -49,7 +49,7 @@ fn found_in_answers(command: &[String], questions: &[Question], fault: Fault) ->
     if !fault.changes_unifiers() {
         return Ok(format!("at {first_line}"));
     }
-    match semantic::check(|questions| answers(command, questions)) {
+    match semantic::check(fault.way(), |questions| answers(command, questions)) {
         Ok(_) => Err("the semantic check".to_string()),
         Err(objection) => Ok(format!("at {first_line} and because of {objection}")),
     }

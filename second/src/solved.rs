@@ -26,14 +26,17 @@ pub struct Page {
 }
 
 impl Solved {
-    /// The pair of two sides unified or matched, or the first of the refusals up to 12 that holds.
+    /// The pair of two sides in one way of listing, or the first of the refusals up to 12 that holds.
     pub fn of(way: Way, sides: &Sides) -> Result<Solved, Refusal> {
         let pair = Pair::of(way, sides)?;
         let groups = match way {
-            Way::Unifying => Groups::of(&pair)?,
+            Way::Unifying | Way::Identity => Groups::of(&pair)?,
             Way::Matching => handed_out(&pair)?,
         };
-        let list = List::of(&pair, &groups);
+        let list = match way {
+            Way::Unifying | Way::Matching => List::of(&pair, &groups),
+            Way::Identity => List::with_identity(&groups),
+        };
         Ok(Solved { pair, groups, list })
     }
 

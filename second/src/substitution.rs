@@ -12,7 +12,7 @@ const PLACES: usize = CONSTANTS + NEW_VARIABLES;
 /// How often each atom stands in a sum: first the constants, then the new variables.
 pub type Sum = [u16; PLACES];
 
-/// The empty sum, which replaces no variable.
+/// The empty sum, which replaces a variable only where sums have an identity.
 pub const NOTHING: Sum = [0; PLACES];
 
 /// The sum of some atoms, or none if one of them is neither such a constant nor a new variable.
@@ -47,16 +47,16 @@ pub fn total(side: &[u8], variables: &[u8], values: &[Sum]) -> Sum {
     total
 }
 
-/// Whether non-empty sums can be filled in for the new variables of the general substitution so that it
-/// becomes the special one, whose new variables stand for themselves.
-pub fn comes_from(special: &[Sum], general: &[Sum]) -> bool {
+/// Whether sums can be filled in for the new variables of the general substitution so that it becomes the special
+/// one, whose new variables stand for themselves. The sums are not empty, or may be.
+pub fn comes_from(special: &[Sum], general: &[Sum], may_be_empty: bool) -> bool {
     let without_constants: Option<Vec<Sum>> =
         special.iter().zip(general).map(|(special, general)| less_constants(special, general)).collect();
     let new_variables: Vec<Vec<u16>> = (CONSTANTS..PLACES)
         .map(|place| general.iter().map(|value| value[place]).collect())
         .filter(|times: &Vec<u16>| times.iter().any(|&times| times > 0))
         .collect();
-    without_constants.is_some_and(|rest| can_fill(&rest, &new_variables))
+    without_constants.is_some_and(|rest| can_fill(&rest, &new_variables, may_be_empty))
 }
 
 /// A value without the constants of another, or none if it has fewer of them.
@@ -68,9 +68,9 @@ fn less_constants(value: &Sum, other: &Sum) -> Option<Sum> {
     Some(rest)
 }
 
-/// Whether non-empty sums for the new variables, of which it is known how often each stands in each value,
-/// use up what remains of the values. Every sum is tried.
-fn can_fill(rest: &[Sum], new_variables: &[Vec<u16>]) -> bool {
+/// Whether sums for the new variables, of which it is known how often each stands in each value, use up what
+/// remains of the values. Every sum is tried.
+fn can_fill(rest: &[Sum], new_variables: &[Vec<u16>], may_be_empty: bool) -> bool {
     let Some((times, others)) = new_variables.split_first() else {
         return rest.iter().all(|value| *value == NOTHING);
     };
@@ -79,16 +79,16 @@ fn can_fill(rest: &[Sum], new_variables: &[Vec<u16>]) -> bool {
         let in_values = rest.iter().zip(times).filter(|(_, &times)| times > 0);
         *most = in_values.map(|(value, &times)| value[place] / times).min().unwrap_or(0);
     }
-    non_empty_parts(&largest).iter().any(|part| {
+    parts(&largest).iter().skip(usize::from(!may_be_empty)).any(|part| {
         let less =
             |(value, &times): (&Sum, &u16)| std::array::from_fn(|place| value[place] - times * part[place]);
         let still: Vec<Sum> = rest.iter().zip(times).map(less).collect();
-        can_fill(&still, others)
+        can_fill(&still, others, may_be_empty)
     })
 }
 
-/// All non-empty sums within a sum.
-fn non_empty_parts(whole: &Sum) -> Vec<Sum> {
+/// All sums within a sum, the empty one first.
+fn parts(whole: &Sum) -> Vec<Sum> {
     let mut parts = vec![NOTHING];
     for (place, &most) in whole.iter().enumerate().filter(|(_, &most)| most > 0) {
         let fewer = parts.clone();
@@ -100,6 +100,5 @@ fn non_empty_parts(whole: &Sum) -> Vec<Sum> {
             }));
         }
     }
-    parts.remove(0);
     parts
 }

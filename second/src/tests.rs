@@ -2,6 +2,7 @@
 //! against itself; matches worked by hand and found by trying all replacements.
 
 mod counting;
+mod identity;
 mod values;
 mod weighing;
 

@@ -1,7 +1,7 @@
 //! The longest value (document 02, R-9): the buffer that Values asks for, the longest value there is, and the longest that
 //! random pairs could have.
 
-use crate::answer::{answer, longest_value};
+use crate::answer::{answer, value_lengths};
 use crate::chance::Chance;
 use crate::examples::LONGEST_VALUE as LONGEST;
 use crate::names::sides;
@@ -45,7 +45,7 @@ fn longest_value_has_135_atoms() {
     let given = values(Way::Unifying, LONGEST, 65_535, 972);
     assert_eq!((given.number, given.figures), (0, [218, 0, 0, 0, 0, 0]));
     assert_eq!(given.first[218 - 137..218 - 135], [4, 135]);
-    assert_eq!(longest_value(&given), Some(135));
+    assert_eq!(value_lengths(&given).iter().max(), Some(&135));
 }
 
 /// The most atoms that a selection could give to the variable with this place: all balanced rows, and for each

@@ -1,10 +1,12 @@
-"""Cases of Page for the program probe, worked by hand: how many candidates are weighed (document 02, R-8).
+"""Cases of Page for the program probe, worked by hand: how many candidates are weighed (document 02, R-8), and sums with an
+identity (R-10).
 
-Pair 2 has the candidates 0 to 15. Pair 12 has four, for row 0 or 1 of each constant, and no mask but 0.
+Pair 2 has the candidates 0 to 15. Pair 12 has four, for row 0 or 1 of each constant, and no mask but 0. With an identity each
+candidate is listed.
 """
 import struct
 
-from protocol import MATCH_PAGE, PAGE, Case, buffer, given, question, refused
+from protocol import IDENTITY_PAGE, MATCH_PAGE, PAGE, Case, buffer, given, question, refused
 from rows_cases import side
 
 PAIR_2, PAIR_12 = "v0+v1 = v2+v3", "v0+v1 = c0+c1"
@@ -34,11 +36,32 @@ MATCHES = [
     ("v0+v1 = 2v32+v33", 268435456, 2, [285212672, 536870912], False, 2),
 ]
 
-# a refusal returns no count: 13, 14 and 15
+# In sums with an identity: every balanced row is taken, and a variable and a side may be empty.
+TWO, FOUR = "v0+v1 = c0", "2v0+c0 = v1+v2+c1"
+WITH_IDENTITY = [
+    (PAIR_2, None, 5, [15], False, 1),
+    ("v0 = nothing", None, 1, [0], False, 1),
+    ("nothing = nothing", None, 1, [0], False, 1),
+    ("v0 = v0+v1", None, 1, [1], False, 1),
+    (TWO, None, 1, [0], True, 1),
+    (TWO, 0, 5, [268435456], False, 1),
+    (FOUR, None, 9, [7, 16777223, 268435463, 285212679], False, 4),
+    (FOUR, 16777223, 1, [268435463], True, 1),
+]
+
+# a refusal returns no count
 REFUSED = [
-    ("2v0 = c0", None, 13),
-    (PAIR_2, 8, 14),
-    (PAIR_2, 15, 15),
+    (PAGE, "2v0 = c0", None, 13),
+    (PAGE, PAIR_2, 8, 14),
+    (PAGE, PAIR_2, 15, 15),
+    (PAGE, "v0 = nothing", None, 7),
+    (IDENTITY_PAGE, "c0 = nothing", None, 13),
+    (IDENTITY_PAGE, "2v0 = c0", None, 13),
+    (IDENTITY_PAGE, PAIR_2, 7, 14),
+    (IDENTITY_PAGE, FOUR, 6, 14),
+    (IDENTITY_PAGE, FOUR, 285212679, 15),
+    (IDENTITY_PAGE, "65v0 = nothing", None, 7),
+    (IDENTITY_PAGE, "nothing = 128", None, 8),
 ]
 
 
@@ -59,5 +82,6 @@ def cases():
     """Every case, in order."""
     yield from (page(PAGE, *worked) for worked in PAGES)
     yield from (page(MATCH_PAGE, *worked) for worked in MATCHES)
-    for text, after, number in REFUSED:
-        yield Case(f"Page of {text}, after {after}, refused", asked(PAGE, text, after, 1), refused(number, 8))
+    yield from (page(IDENTITY_PAGE, *worked) for worked in WITH_IDENTITY)
+    for kind, text, after, number in REFUSED:
+        yield Case(f"Page of {text}, after {after}, refused", asked(kind, text, after, 1), refused(number, 8))

@@ -5,6 +5,7 @@ from typing import NamedTuple
 READ, ROWS, PAGE, VALUES, WRITE = 1, 2, 3, 4, 5
 MATCH_ROWS, MATCH_PAGE, MATCH_VALUES = 6, 7, 8
 COUNT = 9
+IDENTITY_ROWS, IDENTITY_PAGE, IDENTITY_VALUES = 10, 11, 12
 
 # Every byte of a lent buffer before a question: no atom, no new variable and no number of a row.
 FILL = b"\xa5"

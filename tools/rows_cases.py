@@ -1,6 +1,7 @@
 """Cases of Rows for the program probe, from tests/rows.txt: worked by hand from document 01's definitions.
 
-A case is a line `name: left = right`, or `match name: left = right` for Rows in matching (document 02, R-4), and below it, further in, the groups of rows, each behind its name (`balanced` or
+A case is a line `name: left = right`, or `match name: left = right` for Rows in matching (document 02, R-4), or `identity name: left
+= right` for Rows with an identity (R-10), and below it, further in, the groups of rows, each behind its name (`balanced` or
 the atom's), or `refused`, the number and the atom that it names. A row is a digit for each variable; a group without rows is `none`. The lent
 buffer has 512 bytes, or as many as a line says that ends `in 480 bytes`. A side without atoms is `nothing`; a number in a
 side stands for that byte.
@@ -9,10 +10,13 @@ import re
 from pathlib import Path
 
 from library import atoms
-from protocol import MATCH_ROWS, ROWS, Case, buffer, given, question, refused
+from protocol import IDENTITY_ROWS, MATCH_ROWS, ROWS, Case, buffer, given, question, refused
 
 TABLE = Path(__file__).resolve().parent.parent / "tests" / "rows.txt"
 LENT = 512
+
+# the question that a name's first word asks; any other word asks Rows
+KINDS = {"match": MATCH_ROWS, "identity": IDENTITY_ROWS}
 
 
 def worked(lines):
@@ -51,5 +55,5 @@ def cases():
     """Every case of the table, in order."""
     for line, words in worked(TABLE.open()):
         name, left, right, lent = re.fullmatch(r"(.+): (\S+) = (\S+)(?: in (\d+) bytes)?", line).groups(LENT)
-        kind = MATCH_ROWS if name.startswith("match ") else ROWS
+        kind = KINDS.get(name.split()[0], ROWS)
         yield Case(f"Rows, {name}", question(kind, side(left), side(right), int(lent)), answer(words, int(lent)))

@@ -15,6 +15,7 @@ pub mod WrongTallies
 pub mod TooFrequent
 pub mod WrongAtoms
 pub mod WrongMatches
+pub mod WrongIdentity
 pub mod Writing
 pub mod WrongWrites
 pub mod Counted

@@ -64,7 +64,7 @@ module _ (L R : List ℕ) where
       → ltb (limits .variables) (length (variables unifying L R)) ≡ true
       → First (PairGiven limits unifying L R) sidesNumbers 9
   nine-first left-passes right-passes many =
-      later (not-7 left-passes right-passes) (later (not-8 left-passes right-passes) (later never-separate
+      later (not-7 left-passes right-passes) (later (not-8 left-passes right-passes) (later (never-separate {M = unifying} refl)
       (here (many-variables (ltb-true (limits .variables) (length (variables unifying L R)) many)))))
 
   module _ (atom : ℕ) (far : all (farTests L R atom) ≡ true) where
@@ -89,7 +89,7 @@ module _ (L R : List ℕ) where
 
     ten-first : First (PairGiven limits unifying L R) sidesNumbers 10
     ten-first =
-        later (not-7 (passed 0) (passed 1)) (later (not-8 (passed 0) (passed 1)) (later never-separate (later not-9
+        later (not-7 (passed 0) (passed 1)) (later (not-8 (passed 0) (passed 1)) (later (never-separate {M = unifying} refl) (later not-9
         (here (far-net-count atom (its-lowest .far))))))
 
     -- each question answers 10 with the atom, and changes nothing

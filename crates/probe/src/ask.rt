@@ -25,6 +25,7 @@ use crate::room::put;
 use buffer::least;
 use buffer::wide;
 use solver::page::Begin;
+use solver::page::PageAnswer;
 use solver::page::PageRequest;
 ghost use mathlib.Core.Path.{_≡_};
 ghost use Prim.Native.Nat.{_≤_};
@@ -88,13 +89,11 @@ fn returned_by(
 fn listed_by(asked: Header, left: &[u8], right: &[u8], lent: &mut [u8]) -> Returned {
     let kind = asked.kind;
     match kind {
+        PAGE | MATCH_PAGE | IDENTITY_PAGE => page(asked, left, right, lent),
         ROWS => of_rows(solver::rows::rows(left, right, lent)),
-        PAGE => page(asked, left, right, lent),
         MATCH_ROWS => of_rows(solver::rows::match_rows(left, right, lent)),
-        MATCH_PAGE => match_page(asked, left, right, lent),
         MATCH_VALUES => of_values(solver::values::match_values(left, right, asked.number, lent)),
         IDENTITY_ROWS => of_rows(solver::rows::identity_rows(left, right, lent)),
-        IDENTITY_PAGE => identity_page(asked, left, right, lent),
         IDENTITY_VALUES => of_values(solver::values::identity_values(
             left,
             right,
@@ -109,27 +108,20 @@ fn listed_by(asked: Header, left: &[u8], right: &[u8], lent: &mut [u8]) -> Retur
 fn page(asked: Header, left: &[u8], right: &[u8], shown: &mut [u8]) -> Returned {
     let mut keys = filled_numbers(asked.fill);
     let room = least(shown.len() / 4, MOST_NUMBERS);
-    let page = solver::page::page(left, right, request_of(asked), &mut keys[..room]);
+    let page = keys_of(asked, left, right, &mut keys[..room]);
     put_numbers(shown, 0, &keys[..room]);
     of_page(page)
 }
 
-// So is Page for matching.
-fn match_page(asked: Header, left: &[u8], right: &[u8], shown: &mut [u8]) -> Returned {
-    let mut keys = filled_numbers(asked.fill);
-    let room = least(shown.len() / 4, MOST_NUMBERS);
-    let page = solver::page::match_page(left, right, request_of(asked), &mut keys[..room]);
-    put_numbers(shown, 0, &keys[..room]);
-    of_page(page)
-}
-
-// So is Page with an identity.
-fn identity_page(asked: Header, left: &[u8], right: &[u8], shown: &mut [u8]) -> Returned {
-    let mut keys = filled_numbers(asked.fill);
-    let room = least(shown.len() / 4, MOST_NUMBERS);
-    let page = solver::page::identity_page(left, right, request_of(asked), &mut keys[..room]);
-    put_numbers(shown, 0, &keys[..room]);
-    of_page(page)
+// The keys of a page, unifying, for matching or with an identity.
+fn keys_of(asked: Header, left: &[u8], right: &[u8], keys: &mut [u32]) -> PageAnswer {
+    let kind = asked.kind;
+    let request = request_of(asked);
+    match kind {
+        MATCH_PAGE => solver::page::match_page(left, right, request, keys),
+        IDENTITY_PAGE => solver::page::identity_page(left, right, request, keys),
+        _ => solver::page::page(left, right, request, keys),
+    }
 }
 
 // What is asked of a page.

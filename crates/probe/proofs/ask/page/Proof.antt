@@ -14,28 +14,25 @@ filled-numbers-requires c κs = search needs
 least-requires : tie.Need-least-requires
 least-requires c κs = search needs
 
-request-of-requires : tie.Need-request-of-requires
-request-of-requires c κs = search needs
-
 array-borrow-prefix-keys : tie.Need-array-borrow-prefix-keys
 array-borrow-prefix-keys c = search needs
 
-slice-aggregate-page : tie.Need-slice-aggregate-page
-slice-aggregate-page c = simp length-take (omega arith)
+slice-aggregate-keys-of : tie.Need-slice-aggregate-keys-of
+slice-aggregate-keys-of c = simp length-take (omega arith)
 
-page-requires : tie.Need-page-requires
-page-requires c κs = search needs
+keys-of-requires : tie.Need-keys-of-requires
+keys-of-requires c κs = search needs
 
 array-share-prefix-keys : tie.Need-array-share-prefix-keys
 array-share-prefix-keys c =
     let at-call = c .before .before in
-    let at-filled = at-call .before .before .before .before in
+    let at-filled = at-call .before .before .before in
     omega (
       arith,
       at-filled .filled-numbers .ensures,
-      at-call .before .before .before .least .ensures,
-      length-front (at-filled .filled-numbers .result) (at-call .page .last .1 .1 .1 .0)
-          (at-call .before .before .before .least .result) (at-call .page .kept .1 .1 .1 .0),
+      at-call .before .before .least .ensures,
+      length-front (at-filled .filled-numbers .result) (at-call .keys-of .last .1 .1 .1 .0)
+          (at-call .before .before .least .result) (at-call .keys-of .kept .1 .1 .1 .0),
     )
 
 slice-aggregate-put-numbers : tie.Need-slice-aggregate-put-numbers
@@ -59,10 +56,9 @@ page-spec =
     (tie.spec
     filled-numbers-requires
     least-requires
-    request-of-requires
     array-borrow-prefix-keys
-    slice-aggregate-page
-    page-requires
+    slice-aggregate-keys-of
+    keys-of-requires
     array-share-prefix-keys
     slice-aggregate-put-numbers
     put-numbers-requires

@@ -315,6 +315,7 @@ pub fn least_listed(masks: Masks, from: u64) -> NextKey
         return NextKey::None;
     }
     let places = masks.places;
+    let must = masks.must;
     let unbalanced = masks.unbalanced;
     let balanced = masks.sizes[0];
     let mut at = from;
@@ -326,15 +327,8 @@ pub fn least_listed(masks: Masks, from: u64) -> NextKey
                 at = later;
             }
             KeyStanding::Candidate => {
-                let least = least_of_tuple(
-                    &masks.reaching,
-                    unbalanced,
-                    places,
-                    masks.must,
-                    balanced,
-                    key,
-                );
-                if let NextKey::Key(found) = least {
+                let next = least_of_tuple(&masks.reaching, unbalanced, places, must, balanced, key);
+                if let NextKey::Key(found) = next {
                     return NextKey::Key(found);
                 }
                 let bits = left_bits(

@@ -12,10 +12,10 @@ use Rattle.list.proofs.least_listed.Statement.{statement}
 use Rattle.list.proofs.least_listed.Tie as tie
 
 abbrev Inv-loop : tie.InvT-loop
-Inv-loop from masks sets unreached places unbalanced balanced at₀ at = Walked masks from at
+Inv-loop from masks sets unreached places must unbalanced balanced at₀ at = Walked masks from at
 
 abbrev μ-loop : tie.MeasureT-loop
-μ-loop from masks sets unreached places unbalanced balanced at₀ at = 2 ^ 32 - at
+μ-loop from masks sets unreached places must unbalanced balanced at₀ at = 2 ^ 32 - at
 
 element-copy-out-sets : tie.Need-element-copy-out-sets Inv-loop μ-loop
 element-copy-out-sets c = search needs
@@ -69,8 +69,8 @@ least-of-tuple-requires c κs =
     let fit = turn .before .before .before .before .before .before .pre in
     (fit .constants-fit, fit .places-fit, fit .must-fits, fit .sizes-fit 0)
 
-enum-known-least : tie.Need-enum-known-least Inv-loop μ-loop
-enum-known-least c = search needs
+enum-known-next : tie.Need-enum-known-next Inv-loop μ-loop
+enum-known-next c = search needs
 
 returns-2 : tie.Need-returns-2 Inv-loop μ-loop
 returns-2 c =
@@ -79,7 +79,7 @@ returns-2 c =
     let turn = stood .before .before .before in
     step-found (turn .before .loop .inv) (stood .stands .ensures) (candidate .enum-told .given .1)
     (c .before .before .before .least-of-tuple .ensures)
-    (c .before .least .given .1)
+    (c .before .next .given .1)
 
 enum-told-2 : tie.Need-enum-told-2 Inv-loop μ-loop
 enum-told-2 c = search needs
@@ -136,7 +136,7 @@ least-listed-spec =
     loop-again
     enum-told
     least-of-tuple-requires
-    enum-known-least
+    enum-known-next
     returns-2
     enum-told-2
     left-bits-requires

@@ -8,7 +8,7 @@ use lib.ListN.{get_or}
 use Rattle.ac.specs.Lists.{Ascending}
 use Rattle.ac.specs.Pair.{Mode, same, unbalanced}
 use Rattle.ac.specs.Rows.{Group, Groups, GroupsOf}
-use Rattle.ac.specs.Selection.{Within, index, Taken, taken_rows}
+use Rattle.ac.specs.Selection.{Within, none, index, Taken, taken_rows}
 use Rattle.ac.specs.Replacement.{Replacement}
 use Rattle.ac.proofs.Counts.{same_self, same_other}
 use Rattle.ac.proofs.Taken.{total, total_agrees, total_zero, filled_count, filled_count_other}
@@ -27,6 +27,7 @@ constant_member (Memᴰ.tail m) = Memᴰ.tail (constant_member m)
 pub taken_rows-atoms : {gs : List Group} {is : List ℕ} → Within gs is → (t : Taken) → Memᴰ t (taken_rows gs is)
     → Memᴰ t.atom (constants_of gs)
 taken_rows-atoms (index h within) t (Memᴰ.head e) = Memᴰ.head (ap (λ (u : Taken). u.atom) e)
+taken_rows-atoms none t x4 = elim x4 [ ]
 taken_rows-atoms (index h within) t (Memᴰ.tail m) = Memᴰ.tail (taken_rows-atoms within t m)
 
 -- an atom that is none of the constants has nothing from their rows

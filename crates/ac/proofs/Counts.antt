@@ -7,7 +7,7 @@ use native.Mathlib.Omega.{arith}
 use native.Mathlib.Decide.{ℕ_discrete}
 use lib.ListN.{replicate}
 use borrow.Author.Tests.{eq-eqb, ne_eqb}
-use Rattle.ac.specs.Lists.{Ascending, next}
+use Rattle.ac.specs.Lists.{Ascending, none, next}
 use Rattle.ac.specs.Pair.{same, count}
 use Rattle.ac.specs.Equation.{dot}
 use Rattle.ac.specs.Replacement.{Replacement, put, occurrences}
@@ -58,6 +58,7 @@ count_none b (a ∷ s) n =
 
 -- a member occurs
 pub count_some : (b : ℕ) (s : List ℕ) → Memᴰ b s → 0 < count b s
+count_some b [] x' = elim x' [ ]
 count_some b (a ∷ s) (Memᴰ.head e) = omega (arith, same_self b a e)
 count_some b (a ∷ s) (Memᴰ.tail m) = omega (arith, count_some b s m)
 
@@ -72,6 +73,7 @@ count_member b (a ∷ s) h = by_first (ℕ_discrete b a) (count_member b s)
 
 -- a member of an ascending list occurs once
 pub count_once : (b : ℕ) {s : List ℕ} → Ascending ◌<◌ s → Memᴰ b s → count b s ≡ 1
+count_once b none x3 = elim x3 [ ]
 count_once b (next {a} {rest} before ascending) (Memᴰ.head e) =
     omega (arith, same_self b a e, count_none b rest (λ (m : Memᴰ b rest). omega (arith, before b m)))
 count_once b (next {a} {rest} before ascending) (Memᴰ.tail m) =
@@ -100,6 +102,7 @@ dot_none a (x ∷ xs) (m ∷ v) n =
 -- and where a stands: the number at its place
 dot_one : (a : ℕ) {xs : List ℕ} → Ascending ◌<◌ xs → (f : ℕ → ℕ) → Memᴰ a xs
     → dot (map (λ x. same x a) xs) (map f xs) ≡ f a
+dot_one a none f x3 = elim x3 [ ]
 dot_one a (next {a = x} {rest} before ascending) f (Memᴰ.head e) =
     rw (same_self x a (sym e))
     (omega (arith, ap f e, dot_none a rest (map f rest) (λ (m : Memᴰ a rest). omega (arith, before a m))))

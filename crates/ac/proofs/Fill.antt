@@ -37,6 +37,7 @@ module _ (f : ℕ → ℕ) (b : ℕ) where
 
   -- one that is among them occurs as often as f says
   pub count_spread : (k n : ℕ) → Memᴰ b (from k n) → count b (spread f k n) ≡ f b
+  count_spread k zero x' = elim x' [ ]
   count_spread k (suc n) (Memᴰ.head e) =
       count_spread_cons k n
       ∙ rw (same_self b k e)
@@ -53,6 +54,7 @@ module _ (f : ℕ → ℕ) (b : ℕ) where
 
 -- no member of a list of numbers is above their sum
 pub member_le_sum : (a : ℕ) (s : List ℕ) → Memᴰ a s → a ≤ sum s
+member_le_sum a [] x' = elim x' [ ]
 member_le_sum a (x ∷ s) (Memᴰ.head e) = omega arith
 member_le_sum a (x ∷ s) (Memᴰ.tail m) = omega (arith, member_le_sum a s m)
 

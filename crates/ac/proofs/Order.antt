@@ -10,11 +10,26 @@ use Rattle.ac.specs.Lists.{keep, filter, Ascending, Ascending.none, Ascending.ne
 use Rattle.ac.specs.Rows.{Exactly, ◌≺◌, ◌≺◌.here, ◌≺◌.later}
 
 -- no vector is before another and that one before it
+not_before : {u v u' v' : List ℕ} → u ≡ u' → v ≡ v' → u ≺ v → v' ≺ u' → ⊥
+not_before e f (here {m = m} {n = n} h) (here {m = n'} {n = m'} h') =
+    let p : m ≡ m' = cc in
+    let q : n ≡ n' = cc in
+    omega arith
+not_before e f (here {m = m} {n = n} h) (later {n = k} l) =
+    let p : m ≡ k = cc in
+    let q : n ≡ k = cc in
+    omega arith
+not_before e f (later {n = k} l) (here {m = n'} {n = m'} h) =
+    let p : k ≡ m' = cc in
+    let q : k ≡ n' = cc in
+    omega arith
+not_before e f (later {u = u} {v = v} l) (later {u = v'} {v = u'} l') =
+    let p : u ≡ u' = cc in
+    let q : v ≡ v' = cc in
+    not_before p q l l'
+
 pub ≺_asymmetric : {u v : List ℕ} → u ≺ v → v ≺ u → ⊥
-≺_asymmetric (here h) (here h') = omega arith
-≺_asymmetric (here h) (later l) = omega arith
-≺_asymmetric (later l) (here h) = omega arith
-≺_asymmetric (later l) (later l') = ≺_asymmetric l l'
+≺_asymmetric u_v v_u = not_before refl refl u_v v_u
 
 module _ {A : Type 0} {◌before◌ : A → A → Type 0} (asymmetric : (a b : A) → ◌before◌ a b → ◌before◌ b a → ⊥) where
   -- the first members of two ascending lists with the same members are equal
@@ -97,7 +112,7 @@ module _ {A : Type 0} (test : A → Bool) where
   keep_tail false x m = m
 
   -- and a member that passes is kept
-  pub member_filter : {xs : List A} {a : A} → Memᴰ a xs → test a ≡ true → Memᴰ a (filter test xs)
+  pub member_filter : {a : A} {xs : List A} → Memᴰ a xs → test a ≡ true → Memᴰ a (filter test xs)
   member_filter {a = a} (Memᴰ.head {x = x} {xs = xs} e) t =
       subst (λ b. Memᴰ a (keep b x (filter test xs))) (sym (ap test (sym e) ∙ t)) (Memᴰ.head e)
   member_filter (Memᴰ.tail {x = x} m) t = keep_tail (test x) x (member_filter m t)

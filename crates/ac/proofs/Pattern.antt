@@ -33,6 +33,7 @@ put_unmoved moves θ (a ∷ side) stays =
 -- what a variable of the side is replaced by stands in the side after it
 put_holds : (moves : ℕ → Bool) (θ : Replacement) (b : ℕ) {x : ℕ} → moves x ≡ true → (side : List ℕ)
     → Memᴰ x side → count b (θ x) ≤ count b (put moves θ side)
+put_holds moves θ b {x = x} moving [] x'' = elim x'' [ ]
 put_holds moves θ b {x} moving (a ∷ side) (Memᴰ.head e) =
     let here : cond (moves a) (θ a) (a ∷ []) ≡ θ x =
     ap (λ t. cond t (θ a) (a ∷ [])) (sym (ap moves e) ∙ moving) ∙ ap θ (sym e) in

@@ -26,6 +26,7 @@ get_d_map f (x ∷ xs) (suc i) d e h = get_d_map f xs i d e (omega arith)
 
 -- the numbers from k on are those from k up to, and not with, k + n
 pub from_bounds : (k n : ℕ) (a : ℕ) → Memᴰ a (from k n) → (k ≤ a) × (a < k + n)
+from_bounds k zero a x' = elim x' [ ]
 from_bounds k (suc n) a (Memᴰ.head e) = omega arith
 from_bounds k (suc n) a (Memᴰ.tail m) = omega (arith, from_bounds (suc k) n a m)
 
@@ -51,6 +52,7 @@ place_of_later x y ys n = rw (ne_eqb x y n, place_of)
 
 -- the place of a member is one of the list's
 pub place_of_lt : (xs : List ℕ) (x : ℕ) → Memᴰ x xs → place_of x xs < length xs
+place_of_lt [] x x3 = elim x3 [ ]
 place_of_lt (y ∷ ys) x (Memᴰ.head e) = rw (place_of_here x y ys e) (omega arith)
 place_of_lt (y ∷ ys) x (Memᴰ.tail m) = by_first (ℕ_discrete x y) (place_of_lt ys x m)
   where
@@ -60,6 +62,7 @@ place_of_lt (y ∷ ys) x (Memᴰ.tail m) = by_first (ℕ_discrete x y) (place_of
 
 -- what a list that is made member by member has at a member's place
 pub get_or-place_of : (f : ℕ → ℕ) (xs : List ℕ) (x : ℕ) → Memᴰ x xs → get_or (map f xs) (place_of x xs) 0 ≡ f x
+get_or-place_of f [] x x3 = elim x3 [ ]
 get_or-place_of f (y ∷ ys) x (Memᴰ.head e) = rw (place_of_here x y ys e) (ap f (sym e))
 get_or-place_of f (y ∷ ys) x (Memᴰ.tail m) = by_first (ℕ_discrete x y) (get_or-place_of f ys x m)
   where

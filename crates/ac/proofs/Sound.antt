@@ -117,6 +117,7 @@ module _ (Row : List ℕ → Type 0) where
   taken_rows_rows : {gs : List Group} {is : List ℕ} → Within gs is
       → ((g : Group) → Memᴰ g gs → (v : List ℕ) → Memᴰ v g.rows → Row v)
       → (t : Taken) → Memᴰ t (taken_rows gs is) → Row t.row
+  taken_rows_rows none rows t x7 = elim x7 [ ]
   taken_rows_rows (index {g} {gs} {i} {is} h within) rows t (Memᴰ.head e) =
       subst (λ (u : Taken). Row u.row) (sym e)
       (rows g (Memᴰ.head refl) (get_or g.rows i []) (get_or_member g.rows i [] h))
@@ -126,6 +127,8 @@ module _ (Row : List ℕ → Type 0) where
   -- and the balanced ones
   taken_balanced_rows : (n : ℕ) (vs : List (List ℕ)) (ts : List Bool) → ((v : List ℕ) → Memᴰ v vs → Row v)
       → (t : Taken) → Memᴰ t (taken_balanced n vs ts) → Row t.row
+  taken_balanced_rows n [] ts rows t m = elim m [ ]
+  taken_balanced_rows n (v ∷ vs) [] rows t m = elim m [ ]
   taken_balanced_rows n (v ∷ vs) (true ∷ ts) rows t (Memᴰ.head e) =
       subst (λ (u : Taken). Row u.row) (sym e) (rows v (Memᴰ.head refl))
   taken_balanced_rows n (v ∷ vs) (true ∷ ts) rows t (Memᴰ.tail m) =

@@ -11,6 +11,7 @@ both s t e = (and-eq-true_iff s t).0 e
 -- where every member passes, each one does, and the other way round
 pub every_member : {A : Type 0} (passes : A → Bool) {a : A} {xs : List A} → every passes xs ≡ true
     → Memᴰ a xs → passes a ≡ true
+every_member {A = A} passes {a = a} {xs = []} e x5 = elim x5 [ ]
 every_member passes {xs = x ∷ xs} e (Memᴰ.head q) = ap passes q ∙ (both (passes x) (every passes xs) e).0
 every_member passes {xs = x ∷ xs} e (Memᴰ.tail m) =
     every_member passes (both (passes x) (every passes xs) e).1 m

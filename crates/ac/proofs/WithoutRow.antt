@@ -38,6 +38,7 @@ first_rows (g ∷ gs) = by_rows g.rows refl (first_rows gs)
 -- a selection has a row of each group
 within_row : {gs : List Group} {is : List ℕ} → Within gs is → (g : Group) → Memᴰ g gs → 0 < length g.rows
 within_row (index h within) g (Memᴰ.head e) = omega (arith, ap (λ (k : Group). length k.rows) e)
+within_row none g x4 = elim x4 [ ]
 within_row (index h within) g (Memᴰ.tail m) = within_row within g m
 
 all_taken_lem : (n : ℕ) → all_taken (replicate n true) ≡ true

@@ -1,4 +1,7 @@
 // Library blocks: the question Read (document 01, "A library block" and "The questions"; document 02, R-1).
+
+#![tactic(auto)]
+
 pub mod header;
 pub mod term;
 

@@ -1,6 +1,9 @@
 // Bytes put into a lent buffer from a place on, and the lengths that go with it.
 //
 // Every function that puts answers the place after what it put, and leaves every other byte of the buffer as it was.
+
+#![tactic(auto)]
+
 ghost use Rattle.std.specs.Prelude.{◌≡◌, ◌+◌, ◌≤◌, ◌<◌, min, length, replicate};
 ghost use Rattle.buffer.specs.Put.{Put};
 

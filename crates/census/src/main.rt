@@ -1,5 +1,8 @@
 // The census of a library (document 02, R-7): reads a library from standard input, as the nightly program does, and prints
 // for each block how many unifiers it has, without listing them, and last their total.
+
+#![tactic(auto)]
+
 use output::ending::give_verdict;
 use tally::Report;
 

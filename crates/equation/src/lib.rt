@@ -1,4 +1,7 @@
 // The rows of one equation: its minimal solutions, in ascending order.
+
+#![tactic(auto)]
+
 mod kept;
 mod standing;
 mod walk;

@@ -4,6 +4,9 @@
 // No contract can say which bytes a call of read puts into the buffer. So everything but the call is a
 // function of values: what its answer says of the reader, where the bytes that wait are put before it, and
 // what comes next. What is proved of any number of calls, whatever they answer, stands in proofs/Handed.antt.
+
+#![tactic(auto)]
+
 ghost use Rattle.std.specs.Prelude.{◌≡◌, ◌+◌, ◌-◌, ◌≤◌, ◌<◌, length};
 ghost use Rattle.library.specs.Reading.{opened, wanted, handed, room_made, moved, told};
 ghost use Rattle.library.specs.Reading.{ReaderFits, Comes, Misses, Takes};

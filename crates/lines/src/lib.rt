@@ -3,6 +3,9 @@
 //
 // Every function answers the place after what it put, and leaves every other byte of the buffer as it was. The line
 // of a block takes at most 128 bytes, that of the counts 112: words, and numbers of at most 20 digits.
+
+#![tactic(auto)]
+
 ghost use Rattle.std.specs.Prelude.{◌+◌, ◌*◌, ◌≤◌, ◌≡◌, List, ◌++◌, length};
 ghost use Rattle.ac.specs.Values.{Binding, laid_out};
 ghost use Rattle.buffer.specs.Put.{Put};

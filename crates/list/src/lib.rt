@@ -1,5 +1,8 @@
 // Keys of a solved pair: packed and taken apart by shifts and masks, weighed, and found on the list (document
 // 01, "From sides to equations").
+
+#![tactic(auto)]
+
 pub mod rank;
 
 ghost use Rattle.std.specs.Prelude.{◌≡◌, List, ℕ, ◌+◌, ◌*◌, ◌/◌, ◌^◌, ◌<◌, ◌≤◌, get_or};

@@ -1,6 +1,9 @@
 // The matches of a library (document 02, R-4): reads a library from standard input, as the nightly program does, and
 // prints for each block the matches of its left pattern against its right one, a fixed subject, in the nightly
 // program's form.
+
+#![tactic(auto)]
+
 use output::ending::give_verdict;
 use pair::ways::Way;
 use tally::Report;

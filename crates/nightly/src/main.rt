@@ -1,5 +1,8 @@
 // The nightly program (document 01, "The nightly program"): reads a library from standard input and prints
 // what is found of each block. It only reads, calls and prints what the proved functions return.
+
+#![tactic(auto)]
+
 use output::ending::give_verdict;
 use pair::ways::Way;
 use tally::Report;

@@ -39,9 +39,12 @@ its_member {n} (m ∷ ms) e = go (eqb n m) refl (its_member ms)
     go false other rest = Memᴰ.tail (rest (rw other at e))
 
 -- a member of a list's front is one of the list
+front_member : {n : ℕ} {ms : List ℕ} (ns : List ℕ) → Memᴰ n ms → Memᴰ n (ms ++ ns)
+front_member ns (Memᴰ.head same) = Memᴰ.head same
+front_member ns (Memᴰ.tail mem) = Memᴰ.tail (front_member ns mem)
+
 pub within_front : {ms : List ℕ} (ns : List ℕ) (n : ℕ) → Memᴰ n ms → Memᴰ n (ms ++ ns)
-within_front ns n (Memᴰ.head same) = Memᴰ.head same
-within_front ns n (Memᴰ.tail mem) = Memᴰ.tail (within_front ns n mem)
+within_front ns n mem = front_member ns mem
 
 -- two lists share no number, by a test that computes
 abbrev pub disjoint : List ℕ → List ℕ → Bool
@@ -99,6 +102,7 @@ first_given (here given) = given
 first_given (later skip first) = first_given first
 
 pub none_given : {Given : ℕ → Type 0} {ns : List ℕ} {n : ℕ} → NoneOf Given ns → Memᴰ n ns → Given n → ⊥
+none_given {Given = Given} {n = n} end x5 given = elim x5 [ ]
 none_given {Given} (also skip none) (Memᴰ.head e) given = skip (subst Given e given)
 none_given (also skip none) (Memᴰ.tail mem) given = none_given none mem given
 

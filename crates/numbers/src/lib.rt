@@ -1,5 +1,8 @@
 // The numbers that are given in place of a result (document 01's table), as one enum for every question, and
 // the verdict that a step of a question comes to.
+
+#![tactic(auto)]
+
 pub mod limits;
 
 ghost use Rattle.std.specs.Prelude.{◌≡◌};

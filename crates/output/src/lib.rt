@@ -5,6 +5,9 @@
 // lines as long as there is room for one, and its contract is `Goes` and `Steps`: what was left before the step is
 // what was put and then what is left after it. What a call of `write` answers becomes a value here, so that only the
 // call itself stands outside the contracts.
+
+#![tactic(auto)]
+
 pub mod ending;
 
 ghost use Rattle.std.specs.Prelude.{◌≡◌, ◌+◌, ◌≤◌, leb, length};

@@ -3,6 +3,9 @@
 // sides have separate variables, v0 to v31 each. Empty lines and what follows # are passed over. A line that is no
 // pair is told on standard error, by its number and the column at which it is wrong; no block is made of it, and the
 // run counts as failed.
+
+#![tactic(auto)]
+
 mod cut;
 mod packing;
 mod tell;

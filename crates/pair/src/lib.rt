@@ -1,6 +1,9 @@
 // Two flattened sides taken apart (document 01, "From sides to equations"): the pair's variables, its
 // unbalanced constants and the two parts of each net count, or the first of the numbers 7 to 11 and 19 that is
 // given.
+
+#![tactic(auto)]
+
 mod counting;
 mod gathering;
 pub mod limits;

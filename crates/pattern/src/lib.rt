@@ -2,6 +2,9 @@
 //
 // A side is a sum of words, such as v0, c12 or 3c5, and of sums in brackets, which have no meaning. The two sides have
 // separate variables, v0 to v31 each: those of the right side get the number 32 higher. What follows # is a remark.
+
+#![tactic(auto)]
+
 mod side;
 mod word;
 

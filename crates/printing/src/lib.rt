@@ -1,6 +1,9 @@
 // Printing what is reported of a library, a listing (document 01, "The nightly program"; matching, document 02, R-4) or a
 // census (document 02, R-7): it is read from standard input, and what is found of each block is printed. A program only
 // lends the two buffers and says which report.
+
+#![tactic(auto)]
+
 mod ask;
 mod print;
 

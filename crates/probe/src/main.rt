@@ -1,6 +1,9 @@
 // Answers questions in bytes (second/PROTOCOL.md), for the stored cases and the comparison with a second
 // solver: reads questions from standard input until it ends and writes to standard output what each answered,
 // with every byte of the lent buffers.
+
+#![tactic(auto)]
+
 mod answer;
 mod ask;
 mod question;

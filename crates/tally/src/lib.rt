@@ -2,6 +2,9 @@
 // census (document 02, R-7).
 //
 // Every function here is for all inputs: none has a premise, and each contract determines what is given.
+
+#![tactic(auto)]
+
 ghost use Rattle.std.specs.Prelude.{◌≡◌, ◌+◌, ◌-◌, ◌%◌, ◌^◌, min};
 ghost use Rattle.numbers.specs.Numbers.{said_of};
 ghost use Rattle.tally.specs.Line.{told_list, told_number, told_block, line_of, line_of_said, constants_rows};

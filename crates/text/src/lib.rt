@@ -3,6 +3,9 @@
 // Every function answers the place after what it put, and leaves every other byte of the buffer as it was. Its
 // premise asks for the bytes that the text takes at most, 5 for an atom with its + and 6 for a byte of Values, and
 // for some more, since a number is put where there is room for 20 digits.
+
+#![tactic(auto)]
+
 ghost use Rattle.std.specs.Prelude.{◌≡◌, List, ◌∷◌, ◌++◌, ◌+◌, ◌*◌, ◌≤◌, ◌<◌, min, length, get_or};
 ghost use Rattle.text.specs.Ascii.{ascii};
 ghost use Rattle.text.specs.Decimal.{decimal};

@@ -1,4 +1,7 @@
 // Writing library blocks: the question Write (document 02, R-3).
+
+#![tactic(auto)]
+
 ghost use Rattle.std.specs.Prelude.{◌≡◌, ◌+◌, ◌-◌, ◌*◌, ◌≤◌, ◌<◌, map, length, take};
 ghost use Rattle.buffer.specs.Put.{Put};
 ghost use Rattle.numbers.specs.Tells.{Tells};

@@ -7,7 +7,7 @@ ghost use Rattle.block.specs.Inner.{TermLengths, SettlesHeader};
 use numbers::Refusal;
 
 // The lengths of the two terms, or why the block is refused.
-#[derive(Drop)]
+#[derive(Clone, Copy)]
 pub enum Header {
     Lengths { left: usize, right: usize },
     Refused(Refusal),

@@ -16,7 +16,7 @@ use numbers::Refusal;
 use term::TakenApart;
 
 // What Read answers: the lengths of the two flattened sides, or why the block is refused.
-#[derive(Drop)]
+#[derive(Clone, Copy)]
 pub enum ReadAnswer {
     Sides { left: usize, right: usize },
     Refused(Refusal),

@@ -5,7 +5,7 @@ ghost use Rattle.block.specs.Front.{MayBeWritten, on_the_right};
 ghost use Rattle.block.specs.Inner.{Classified, Flattens, TakesTermApart};
 
 // What a byte stands for where a term begins.
-#[derive(Drop)]
+#[derive(Clone, Copy)]
 pub enum ByteKind {
     Variable,
     Constant,
@@ -27,7 +27,7 @@ pub fn classify(byte: u8) -> ByteKind
 
 // What flattening finds: the term that some bytes begin with, by how many bytes it takes and how many atoms
 // it has, or nothing.
-#[derive(Drop)]
+#[derive(Clone, Copy)]
 pub enum Flattened {
     Found { bytes: usize, atoms: usize },
     Nothing,
@@ -83,7 +83,7 @@ fn flatten_atom(atom: u8, buffer: &mut [u8]) -> Flattened
 }
 
 // What a term's bytes are: a whole term, by how many atoms it has, or no term.
-#[derive(Drop)]
+#[derive(Clone, Copy)]
 pub enum TakenApart {
     Atoms(usize),
     NoTerm,

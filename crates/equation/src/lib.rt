@@ -14,7 +14,7 @@ use numbers::limits::{BALANCED_ROWS, VARIABLES};
 use walk::search;
 
 // What is added to the two sums, and whether all-zero vectors are left out.
-#[derive(Drop)]
+#[derive(Clone, Copy)]
 pub struct Offsets {
     pub left: u8,
     pub right: u8,
@@ -22,7 +22,7 @@ pub struct Offsets {
 }
 
 // An equation by its coefficients, in net parts, at the places in use, and its offsets.
-#[derive(Drop)]
+#[derive(Clone, Copy)]
 pub struct NetEquation {
     pub left: [u8; VARIABLES],
     pub right: [u8; VARIABLES],
@@ -35,7 +35,7 @@ pub const ROOM: usize = BALANCED_ROWS * VARIABLES;
 
 // The rows of an equation, one after the other from the first byte on, and their number, where the number
 // after the limit says that there are more.
-#[derive(Drop)]
+#[derive(Clone, Copy)]
 pub struct FoundRows {
     pub rows: [u8; ROOM],
     pub number: usize,

@@ -7,7 +7,7 @@ use buffer::wide;
 // Where the walk stands, of the numbers chosen so far: the two sums, the offsets included; what is left of
 // the budget of the places whose left coefficient is at least the right one, and of the others; and whether
 // an all-zero rest counts.
-#[derive(Drop)]
+#[derive(Clone, Copy)]
 pub struct Standing {
     pub left: usize,
     pub right: usize,
@@ -17,7 +17,7 @@ pub struct Standing {
 }
 
 // The numbers that a place may have: from the first to the most one, and none where the first is above the most.
-#[derive(Drop)]
+#[derive(Clone, Copy)]
 pub struct Range {
     pub first: u8,
     pub most: u8,

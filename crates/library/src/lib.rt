@@ -20,7 +20,7 @@ const RETRIES: u64 = 1_000_000;
 
 // What the calls of read have said of the input so far: more may come, it has ended, or a call failed, with
 // the system's number for the error.
-#[derive(Drop)]
+#[derive(Clone, Copy)]
 pub enum Input {
     More,
     Ended,
@@ -30,7 +30,7 @@ pub enum Input {
 // How far a library has been read. The bytes that came and were not handed on yet stand in the buffer from
 // `at` up to `filled`; `left` blocks may still be handed on; `retries` interrupted calls may still be tried
 // again.
-#[derive(Drop)]
+#[derive(Clone, Copy)]
 pub struct Reader {
     pub at: usize,
     pub filled: usize,
@@ -42,7 +42,7 @@ pub struct Reader {
 // What comes next: a block, by its place in the buffer, where only the last may have fewer than 512 bytes;
 // the end; input that remains after the last block that may be read; a failure, with its error; or a read is
 // wanted before it can be said.
-#[derive(Drop)]
+#[derive(Clone, Copy)]
 pub enum Next {
     Block { start: usize, length: usize },
     End,
@@ -52,7 +52,7 @@ pub enum Next {
 }
 
 // What comes next, and how far the library has been read then.
-#[derive(Drop)]
+#[derive(Clone, Copy)]
 pub struct Step {
     pub next: Next,
     pub reader: Reader,

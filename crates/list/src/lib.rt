@@ -62,7 +62,7 @@ fn pack(tuple: Key, mask: Key) -> Key
 }
 
 // A selection by its key, with what it takes rows of.
-#[derive(Drop)]
+#[derive(Clone, Copy)]
 pub struct KeyedSelection {
     pub key: Key,
     // the unbalanced constants, ascending, and how many there are
@@ -206,7 +206,7 @@ fn block_end(key: Key, bits: usize) -> u64
 }
 
 // Where a number stands: on a candidate, or where no candidate comes before a later number.
-#[derive(Drop)]
+#[derive(Clone, Copy)]
 enum KeyStanding {
     Candidate,
     NoneBefore(u64),
@@ -237,7 +237,7 @@ fn stands(sizes: &[usize; GROUPS], unbalanced: usize, key: Key) -> KeyStanding
 }
 
 // The next key of the list, if there is one.
-#[derive(Drop)]
+#[derive(Clone, Copy)]
 pub enum NextKey {
     Key(Key),
     None,
@@ -344,7 +344,7 @@ pub fn least_listed(masks: Masks, from: u64) -> NextKey
 }
 
 // Whether a key is on the list, or why not.
-#[derive(Drop)]
+#[derive(Clone, Copy)]
 pub enum Lookup {
     Listed,
     Refused(Refusal),

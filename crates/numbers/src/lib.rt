@@ -10,7 +10,7 @@ ghost use Rattle.numbers.specs.Numbers.{number_of};
 
 // Why a question was refused: a variant for each row of the table, in its order, but for 17 (document 02, R-9), and
 // then for those that document 02 adds. A net count has its atom beside it.
-#[derive(Drop)]
+#[derive(Clone, Copy)]
 pub enum Refusal {
     BlockLength,
     Check,
@@ -33,7 +33,7 @@ pub enum Refusal {
 }
 
 // Whether something is refused, and why.
-#[derive(Drop)]
+#[derive(Clone, Copy)]
 pub enum Verdict {
     Refused(Refusal),
     Accepted,

@@ -23,7 +23,7 @@ pub const ROOM: usize = 8192;
 pub const TRIES: usize = 1_000_000;
 
 // Where a step ends: the number of the next line, and the place in the buffer after what was put.
-#[derive(Drop)]
+#[derive(Clone, Copy)]
 pub struct Progress {
     pub line: usize,
     pub at: usize,
@@ -31,21 +31,21 @@ pub struct Progress {
 
 // What follows from a write's answer: to go on from a place in the buffer, where an interrupted write may be tried
 // so often again; or that writing failed, with the error's number.
-#[derive(Drop)]
+#[derive(Clone, Copy)]
 pub enum Onward {
     From { written: usize, tries: usize },
     Failed(i32),
 }
 
 // How writing out ended: all of the bytes were taken, or writing failed, with the error's number.
-#[derive(Drop)]
+#[derive(Clone, Copy)]
 pub enum Written {
     All,
     Failed(i32),
 }
 
 // Where the next line goes, or that writing out failed, with the error's number.
-#[derive(Drop)]
+#[derive(Clone, Copy)]
 pub enum Place {
     At(usize),
     Failed(i32),

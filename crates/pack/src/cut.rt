@@ -11,7 +11,7 @@ pub const MOST_BYTES: usize = 4096;
 
 // What was taken from the front of some bytes: so many, up to the end of the line or else all of them; how long the
 // line is then, where one more than the most stands for every longer one; and whether it has ended.
-#[derive(Drop)]
+#[derive(Clone, Copy)]
 pub struct Taken {
     pub used: usize,
     pub held: usize,

@@ -31,7 +31,7 @@ fn main() {
 
 // How packing ended: all lines were read, and the blocks that were not yet written out stand in the output buffer up
 // to a place; a read failed, after the blocks up to a place; or a write failed, with the error's number.
-#[derive(Drop)]
+#[derive(Clone, Copy)]
 enum Packed {
     All { at: usize, wrong: bool },
     Unread(usize),

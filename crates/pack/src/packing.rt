@@ -15,7 +15,7 @@ const BLOCK: usize = 512;
 
 // How far the lines have been packed: the number of the line that is read, counted from 1, and how many bytes of it
 // came; the number of the next block; the place behind the blocks in the output buffer; and whether a line was wrong.
-#[derive(Drop)]
+#[derive(Clone, Copy)]
 pub struct Packing {
     pub line: u64,
     pub held: usize,
@@ -25,7 +25,7 @@ pub struct Packing {
 }
 
 // How packing goes on, or that a write failed, with the error's number.
-#[derive(Drop)]
+#[derive(Clone, Copy)]
 pub enum Went {
     On(Packing),
     Unwritten(i32),

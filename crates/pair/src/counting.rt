@@ -14,7 +14,7 @@ pub const ATOMS: usize = 128;
 const VARIABLES: usize = 64;
 
 // For each atom whether it moves, and how often it stands on the left and on the right.
-#[derive(Drop)]
+#[derive(Clone, Copy)]
 pub struct AtomCounts {
     pub moving: [bool; ATOMS],
     pub left: [u8; ATOMS],

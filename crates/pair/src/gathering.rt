@@ -8,7 +8,7 @@ use crate::counting::{ATOMS, AtomCounts};
 use numbers::limits::VARIABLES;
 
 // Which atoms are gathered: the variables of a pair, or its unbalanced constants.
-#[derive(Drop)]
+#[derive(Clone, Copy)]
 pub enum AtomKind {
     Variable,
     Constant,

@@ -23,7 +23,7 @@ use ways::Way;
 // The distinct variables of a pair or its unbalanced constants, ascending, and how many they are; for each
 // the two parts of its net count: by how much its occurrences on the left exceed those on the right, and the
 // other way round. Unused places are 0.
-#[derive(Drop)]
+#[derive(Clone, Copy)]
 pub struct Gathered {
     pub atoms: [u8; VARIABLES],
     pub count: usize,
@@ -32,14 +32,14 @@ pub struct Gathered {
 }
 
 // A pair taken apart.
-#[derive(Drop)]
+#[derive(Clone, Copy)]
 pub struct Pair {
     pub variables: Gathered,
     pub constants: Gathered,
 }
 
 // What taking apart gives. The pair says something only where the sides are accepted.
-#[derive(Drop)]
+#[derive(Clone, Copy)]
 pub struct Parted {
     pub verdict: Verdict,
     pub pair: Pair,

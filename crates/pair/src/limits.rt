@@ -47,7 +47,7 @@ fn distance(a: u8, b: u8) -> u8
 }
 
 // The net counts: the lowest atom whose own is too far from 0, or that none is.
-#[derive(Drop)]
+#[derive(Clone, Copy)]
 pub enum NetCounts {
     Far(u8),
     Near,

@@ -5,7 +5,7 @@ ghost use Rattle.pair.specs.Ways.{mode_of};
 
 // Which atoms move and whether a variable may be empty is decided by the way, here and where a variable stands on both
 // sides; nothing else asks for it.
-#[derive(Drop)]
+#[derive(Clone, Copy)]
 pub enum Way {
     Unifying,
     Matching,

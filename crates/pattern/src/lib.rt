@@ -20,7 +20,7 @@ use bytes::scan::find;
 use side::{SideAnswer, is_blank, read_side};
 
 // What can be wrong with a line.
-#[derive(Drop)]
+#[derive(Clone, Copy)]
 pub enum Fault {
     NoAtom,
     NotWritten,
@@ -35,7 +35,7 @@ pub enum Fault {
 }
 
 // What a line says: a pair, by the lengths of its sides; nothing; or it is wrong, at a column, counted from 1.
-#[derive(Drop)]
+#[derive(Clone, Copy)]
 pub enum LineAnswer {
     Sides { left: usize, right: usize },
     Nothing,

@@ -12,7 +12,7 @@ use buffer::put_repeated;
 pub const MOST_ATOMS: usize = 64;
 
 // What a byte stands for in a side.
-#[derive(Drop)]
+#[derive(Clone, Copy)]
 pub enum Character {
     Blank,
     Opening,
@@ -22,7 +22,7 @@ pub enum Character {
 }
 
 // Where a byte leads: on, with so many brackets open and an item ended or not; to a word; or nowhere, and why.
-#[derive(Drop)]
+#[derive(Clone, Copy)]
 pub enum Turn {
     To { depth: usize, ended: bool },
     Word,
@@ -31,7 +31,7 @@ pub enum Turn {
 
 // How far a side has been read: the place of the next byte, how many brackets are open, whether an item has ended,
 // and how many atoms there are so far.
-#[derive(Drop)]
+#[derive(Clone, Copy)]
 pub struct Reading {
     pub at: usize,
     pub depth: usize,
@@ -40,14 +40,14 @@ pub struct Reading {
 }
 
 // How far a side has been read after one token more, or why there is none.
-#[derive(Drop)]
+#[derive(Clone, Copy)]
 pub enum Step {
     On(Reading),
     Wrong(Fault),
 }
 
 // What a side is: so many atoms, or what is wrong with it and at which place.
-#[derive(Drop)]
+#[derive(Clone, Copy)]
 pub enum SideAnswer {
     Atoms(usize),
     Wrong { place: usize, why: Fault },

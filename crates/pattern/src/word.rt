@@ -8,14 +8,14 @@ use crate::Fault;
 use buffer::wide;
 
 // What some digits say: a number, or nothing that can be taken.
-#[derive(Drop)]
+#[derive(Clone, Copy)]
 pub enum Said {
     Number(u8),
     Nothing,
 }
 
 // What a letter and a number name: an atom; a variable that cannot be written; or no atom.
-#[derive(Drop)]
+#[derive(Clone, Copy)]
 pub enum Named {
     Atom(u8),
     NotWritten,
@@ -24,7 +24,7 @@ pub enum Named {
 
 // What stands at the front of some bytes: a word, by how often its atom stands and how many bytes it takes, or
 // why it is none.
-#[derive(Drop)]
+#[derive(Clone, Copy)]
 pub enum Scanned {
     Word {
         times: usize,

@@ -19,7 +19,7 @@ pub const PAGE: usize = 200;
 
 // What Read and the other questions returned for a block, and the pair's table, which says something where none of them
 // refused.
-#[derive(Drop)]
+#[derive(Clone, Copy)]
 pub struct Asked {
     pub read: ReadAnswer,
     pub answers: Answers,

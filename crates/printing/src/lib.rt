@@ -77,7 +77,7 @@ fn no_counts() -> Totals
 
 // How printing a library ended: all of its text was put, up to a place in the output buffer; a read failed, with the
 // error's number, after the text up to a place; or a write failed, with the error's number.
-#[derive(Drop)]
+#[derive(Clone, Copy)]
 enum Printed {
     All(usize),
     Unread { at: usize, error: i32 },
@@ -115,7 +115,7 @@ fn print_library(report: Report, input: &mut [u8], output: &mut [u8]) -> Printed
 }
 
 // What is printed of a block, and the counts after it.
-#[derive(Drop)]
+#[derive(Clone, Copy)]
 struct Started {
     listing: Listing,
     counts: Totals,

@@ -18,7 +18,7 @@ use table::Table;
 use tally::Line;
 
 // What is printed of a block: its place in the file, its line, and the keys of its page with the pair's table.
-#[derive(Drop)]
+#[derive(Clone, Copy)]
 pub struct Listing {
     pub place: u64,
     pub line: Line,

@@ -12,7 +12,7 @@ use solver::values::ValuesAnswer;
 use writing::WriteAnswer;
 
 // A number of the table or 0, and the values that are returned beside it, unused ones 0.
-#[derive(Drop)]
+#[derive(Clone, Copy)]
 pub struct Returned {
     pub number: u8,
     pub values: [u32; 6],

@@ -17,7 +17,7 @@ use table::masks::{MASKS, masks_of};
 use table::{GROUPS, Table, solve};
 
 // The number of unifiers, or why it is not told.
-#[derive(Drop)]
+#[derive(Clone, Copy)]
 pub enum CountAnswer {
     Count { unifiers: u64 },
     Refused(Refusal),

@@ -21,21 +21,21 @@ use table::{Table, solve};
 pub const DEFAULT_COUNT: usize = 200;
 
 // Where a page begins: at the start of the list, or after a key.
-#[derive(Drop)]
+#[derive(Clone, Copy)]
 pub enum Begin {
     Start,
     After(Key),
 }
 
 // A request is made of where to begin and how many keys are wanted.
-#[derive(Drop)]
+#[derive(Clone, Copy)]
 pub struct PageRequest {
     pub begin: Begin,
     pub wanted: usize,
 }
 
 // The number of keys written, whether more follow and how many candidate keys were weighed, or why there are none.
-#[derive(Drop)]
+#[derive(Clone, Copy)]
 pub enum PageAnswer {
     Page {
         written: usize,
@@ -53,7 +53,7 @@ fn wanted_count(wanted: usize) -> usize
 }
 
 // The first key of a page, or why there is none.
-#[derive(Drop)]
+#[derive(Clone, Copy)]
 enum Settled {
     FirstKey(Key),
     Refused(Refusal),
@@ -95,7 +95,7 @@ fn settle(masks: Masks, begin: Begin) -> Settled
 }
 
 // The keys of a page: how many there are, whether more follow, and the last one.
-#[derive(Drop)]
+#[derive(Clone, Copy)]
 struct WrittenKeys {
     written: usize,
     more: bool,

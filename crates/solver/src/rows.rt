@@ -15,7 +15,7 @@ use table::{ROWS, Table, row_start, solve};
 
 // What Rows answers: how many balanced rows there are, how many unbalanced constants, and how many rows the
 // first to the fourth of them have, 0 where there is none; or why there are none.
-#[derive(Drop)]
+#[derive(Clone, Copy)]
 pub enum RowsAnswer {
     Groups {
         balanced: usize,

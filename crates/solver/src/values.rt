@@ -31,7 +31,7 @@ pub const NEW: u8 = 192;
 pub const ROOM: usize = VARIABLES * (2 + LONGEST);
 
 // The length written, or why there is nothing.
-#[derive(Drop)]
+#[derive(Clone, Copy)]
 pub enum ValuesAnswer {
     Values { length: usize },
     Refused(Refusal),

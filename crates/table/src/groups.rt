@@ -12,7 +12,7 @@ use pair::{Gathered, Pair};
 
 // The rows of all groups at their places, how many each group has, and whether none has too many. Where one
 // has, the rest says nothing.
-#[derive(Drop)]
+#[derive(Clone, Copy)]
 pub struct FoundGroups {
     pub rows: [u8; ROWS],
     pub sizes: [usize; GROUPS],

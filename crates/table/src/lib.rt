@@ -26,7 +26,7 @@ pub const GROUPS: usize = 1 + CONSTANTS;
 pub const ROWS: usize = VARIABLES * (BALANCED_ROWS + CONSTANTS * CONSTANT_ROWS);
 
 // A solved pair.
-#[derive(Drop)]
+#[derive(Clone, Copy)]
 pub struct Table {
     // the variables, ascending, and how many there are
     pub variables: [u8; VARIABLES],
@@ -67,7 +67,7 @@ pub fn row_start(group: usize, row: usize) -> usize
 }
 
 // What solving gives. The table says something only where the sides are accepted.
-#[derive(Drop)]
+#[derive(Clone, Copy)]
 pub struct Solved {
     pub verdict: Verdict,
     pub table: Table,

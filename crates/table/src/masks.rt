@@ -15,7 +15,7 @@ pub const MASKS: usize = VARIABLES * GROUPS;
 // All rows that a group may have.
 pub const ALL_ROWS: u64 = 65_535;
 
-#[derive(Drop)]
+#[derive(Clone, Copy)]
 pub struct Masks {
     // how many places a listed selection has to reach, and the balanced rows that it has to take
     pub places: usize,

@@ -19,14 +19,14 @@ use solver::rows::RowsAnswer;
 
 // What a program reports of a library: the list of each block by a way of listing, or a census, the number of unifiers
 // of each.
-#[derive(Drop)]
+#[derive(Clone, Copy)]
 pub enum Report {
     Listing(Way),
     Census,
 }
 
 // What the questions on a block's sides returned: Rows and Page for a listing, Count for a census.
-#[derive(Drop)]
+#[derive(Clone, Copy)]
 pub enum Answers {
     Listing { rows: RowsAnswer, page: PageAnswer },
     Census(CountAnswer),
@@ -35,7 +35,7 @@ pub enum Answers {
 // What a block's line says beside its place, and what stands after its page: `end` and the number of lines
 // printed, or `more`. In a census it says the number of unifiers. A refusal is its number, and where it names an atom,
 // the atom too.
-#[derive(Drop)]
+#[derive(Clone, Copy)]
 pub enum Line {
     Listed {
         balanced: u64,
@@ -53,7 +53,7 @@ pub enum Line {
 }
 
 // How many blocks were read, how many lines of each kind they have, and the unifiers of those that were counted.
-#[derive(Drop)]
+#[derive(Clone, Copy)]
 pub struct Totals {
     pub blocks: u64,
     pub listed: u64,
@@ -63,7 +63,7 @@ pub struct Totals {
 }
 
 // The block's place in the file, its line, and the counts after it.
-#[derive(Drop)]
+#[derive(Clone, Copy)]
 pub struct Tallied {
     pub place: u64,
     pub line: Line,
@@ -71,7 +71,7 @@ pub struct Tallied {
 }
 
 // The last line: `nothing read`, the counts, or in a census the total of all unifiers.
-#[derive(Drop)]
+#[derive(Clone, Copy)]
 pub enum LastLine {
     NothingRead,
     Counts(Totals),
@@ -79,7 +79,7 @@ pub enum LastLine {
 }
 
 // The lines that stand at the end: the last line, and before it `too long` where input remains.
-#[derive(Drop)]
+#[derive(Clone, Copy)]
 pub struct Closing {
     pub remains: bool,
     pub last: LastLine,

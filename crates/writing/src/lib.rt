@@ -16,7 +16,7 @@ use numbers::limits::{LEAST_ATOMS, MOST_ATOMS};
 use pair::limits::{wrong_byte, wrong_length};
 
 // What Write answers: that the block is written, or why the sides are refused.
-#[derive(Drop)]
+#[derive(Clone, Copy)]
 pub enum WriteAnswer {
     Written,
     Refused(Refusal),

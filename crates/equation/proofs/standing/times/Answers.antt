@@ -1,0 +1,16 @@
+-- `equation::standing::times` meets its contract: a product of two bytes fits. Assumes nothing.
+use native.Mathlib.Omega.{arith}
+use Prim.Native.Nat.{◌*◌}
+use mathlib.Core.Path.{ap₂}
+use Rattle.equation.proofs.Ranges.{bytes_product}
+use borrow.Author.Rules.{rules}
+use Rattle.equation.proofs.standing.times.Goals as goal
+
+pub overflow_mul-result : goal.overflow_mul-result
+overflow_mul-result c = omega (
+  arith,
+  bytes_product {a = c.wide.result} {b = c.wide-2.result} (omega arith) (omega arith),
+)
+
+pub returns : goal.returns
+returns c = ap₂ (λ a b. a * b) c.wide.ensures.0 c.wide-2.ensures.0

@@ -1,0 +1,7 @@
+-- `pair::gathering::put` meets its contract: where there is room, the byte is stored. Assumes nothing.
+use native.Mathlib.Omega.{arith}
+use borrow.Author.Rules.{rules}
+use Rattle.pair.proofs.gathering.put.Goals as goal
+
+pub returns-else-place-lt-VARIABLES : goal.returns-else-place-lt-VARIABLES
+returns-else-place-lt-VARIABLES c room = absurd (omega arith)

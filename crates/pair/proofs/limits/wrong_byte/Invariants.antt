@@ -1,0 +1,15 @@
+use Prim.Native.Nat.{ℕ, ◌≤◌, ◌<◌, ◌-◌}
+use native.Mathlib.Omega.{arith}
+use borrow.Author.Rules.{rules}
+use borrow.Author.Count.{below_more}
+use lib.ListN.{length, get_or}
+use Rattle.ac.proofs.Places.{get_or_member}
+use Rattle.pair.proofs.Lists.{member_at}
+use Rattle.pair.proofs.Telling.{tells_true, tells_false}
+use Rattle.pair.proofs.limits.wrong_byte.Given as goal
+
+abbrev pub invariant-loop-i : goal.invariant-loop-i
+invariant-loop-i l = (l.i ≤ length l.side) × ((k : ℕ) → k < l.i → get_or l.side k 0 ≤ 127)
+
+abbrev pub decreases-loop-i : goal.decreases-loop-i
+decreases-loop-i l = length l.side - l.i

@@ -11,10 +11,11 @@
 pub mod ending;
 
 ghost use Rattle.std.specs.Prelude.{◌≡◌, ◌+◌, ◌≤◌, leb, length};
-ghost use Rattle.output.specs.Writing.{after_write, after_error};
+ghost use Rattle.output.specs.Writing.{answer_of, error_of, after_write, after_error};
 ghost use Rattle.output.specs.Room.{MakesRoom};
 
 use buffer::least;
+use std::io::Write;
 
 // A line takes at most so many bytes.
 pub const ROOM: usize = 8192;
@@ -22,11 +23,25 @@ pub const ROOM: usize = 8192;
 // How often in a row a write that was interrupted is tried again.
 pub const TRIES: usize = 1_000_000;
 
+// The system's number for the error of a call that a signal interrupted (EINTR).
+const INTERRUPTED: i32 = 4;
+
+// The longest that an answer says.
+const LONGEST: usize = 9_223_372_036_854_775_807;
+
 // Where a step ends: the number of the next line, and the place in the buffer after what was put.
 #[derive(Clone, Copy)]
 pub struct Progress {
     pub line: usize,
     pub at: usize,
+}
+
+// What a call of write answered: how many bytes it took, or -1 and the error's number, which is 0 where the error is
+// none of the system's.
+#[derive(Clone, Copy)]
+struct Answer {
+    taken: isize,
+    error: i32,
 }
 
 // What follows from a write's answer: to go on from a place in the buffer, where an interrupted write may be tried
@@ -82,7 +97,7 @@ pub fn after_write(written: usize, filled: usize, tries: usize, answer: isize, e
 fn after_error(written: usize, tries: usize, error: i32) -> Onward
     ensures { result ≡ after_error written tries error }
 {
-    if error != libc::EINTR {
+    if error != INTERRUPTED {
         return Onward::Failed(error);
     }
     if tries == 0 {
@@ -94,15 +109,32 @@ fn after_error(written: usize, tries: usize, error: i32) -> Onward
     }
 }
 
+// What a call of write answered, in numbers.
+fn answer_of(answered: std::io::Result<usize>) -> Answer
+    ensures taken { result.taken ≡ answer_of answered }
+    ensures error { result.error ≡ error_of answered }
+{
+    match answered {
+        Ok(taken) => Answer {
+            taken: least(taken, LONGEST) as isize,
+            error: 0,
+        },
+        Err(error) => Answer {
+            taken: -1,
+            error: error.raw_os_error().unwrap_or(0),
+        },
+    }
+}
+
 // Writes out the first bytes of the buffer, up to the place where it is filled.
-pub fn write_out(fd: i32, out: &[u8], filled: usize) -> Written
+pub fn write_out<W: Write>(to: &mut W, out: &[u8], filled: usize) -> Written
     requires { filled ≤ length out.now }
 {
     let mut written = 0;
     let mut tries = TRIES;
     while written < filled {
-        let answer = libc::write(fd, &out[written..filled]);
-        let next = after_write(written, filled, tries, answer, os::errno());
+        let answer = answer_of(to.write(&out[written..filled]));
+        let next = after_write(written, filled, tries, answer.taken, answer.error);
         match next {
             Onward::From {
                 written: place,
@@ -118,7 +150,7 @@ pub fn write_out(fd: i32, out: &[u8], filled: usize) -> Written
 }
 
 // A place with room for a line: where the text ends or, once it is written out, the start.
-pub fn make_room(fd: i32, out: &[u8], at: usize) -> Place
+pub fn make_room<W: Write>(to: &mut W, out: &[u8], at: usize) -> Place
     requires at_in_bounds { at ≤ length out.now }
     requires in_bounds { 8192 ≤ length out.now }
     ensures { MakesRoom (length out.now) at result }
@@ -126,7 +158,7 @@ pub fn make_room(fd: i32, out: &[u8], at: usize) -> Place
     if has_room(out, at) {
         return Place::At(at);
     }
-    let written = write_out(fd, out, at);
+    let written = write_out(to, out, at);
     match written {
         Written::All => Place::At(0),
         Written::Failed(error) => Place::Failed(error),

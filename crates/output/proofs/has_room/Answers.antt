@@ -6,9 +6,7 @@ use native.Mathlib.Omega.{arith}
 use mathlib.Core.Path.{◌≡◌, sym, ◌∙◌}
 use lib.Dec.{leb}
 use borrow.Author.Tests.{le-leb, lt-leb}
-use borrow.Author.Rules.{rules}
-use Rattle.output.proofs.has_room.Statement.{statement}
-use Rattle.output.proofs.has_room.Tie as tie
+use Rattle.output.proofs.has_room.Goals as goal
 
 -- so many more fit exactly where the sum does
 leb-behind : (at more size : ℕ) → at ≤ size → leb more (size - at) ≡ leb (at + more) size
@@ -18,11 +16,5 @@ leb-behind at more size inside = go (dec_le (at + more) size)
     go (yes fits) = le-leb more (size - at) (omega arith) ∙ sym (le-leb (at + more) size fits)
     go (no over) = lt-leb more (size - at) (omega arith) ∙ sym (lt-leb (at + more) size (omega arith))
 
-sub-result : tie.Need-overflow-sub-result
-sub-result c = search rules
-
-returns : tie.Need-returns
+pub returns : goal.returns
 returns c = leb-behind _ _ _ c.requires
-
-pub has-room-spec : {M : Type 1} → statement M
-has-room-spec = tie.close (tie.spec sub-result returns)

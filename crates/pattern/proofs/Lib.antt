@@ -7,6 +7,7 @@ pub mod Readings
 pub mod Faults
 pub mod Reached
 pub mod Lines
+pub mod Places
 pub mod Sides
 pub mod Writable
 pub mod Example

@@ -1,12 +1,14 @@
 -- Two sides read one after the other, and what a line says that they are the sides of.
 use Prim.Native.Nat.{ℕ, zero, suc, ◌≤◌}
-use mathlib.Core.Path.{◌≡◌, refl, ap, ap₂, subst, ◌∙◌}
+use mathlib.Core.Path.{◌≡◌, refl, ap, ap₂, sym, subst, ◌∙◌}
 use mathlib.Core.List.{List, [], ◌∷◌, ◌++◌, map}
 use native.Mathlib.Omega.{arith}
 use lib.ListN.{length, take, drop, length-map}
 use lib.Seq.{length-take-le, take-length}
 use Rattle.ac.specs.Apart.{renamed_apart}
 use Rattle.ac.specs.Lists.{receives}
+use Rattle.buffer.specs.Put.{Put}
+use Rattle.buffer.proofs.Puts.{put_received}
 use Rattle.pattern.specs.Characters.{equals_sign, Inside, Each}
 use Rattle.pattern.specs.Side.{Side}
 use Rattle.pattern.specs.Line.{Remark, pair}
@@ -52,6 +54,11 @@ copied side lent = take (length side) side ++ drop (length side) lent
 
 copied_receives : (side lent : List ℕ) → copied side lent ≡ receives lent side
 copied_receives side lent = ap (λ (l : List ℕ). l ++ drop (length side) lent) (take-length side)
+
+-- put at the front of a buffer that has room for them they are copied
+pub put_copied : {side lent after : List ℕ} {next : ℕ} → Put lent 0 side next after → next ≤ length lent
+    → after ≡ copied side lent
+put_copied {side} {lent} put room = put_received put room ∙ sym (copied_receives side lent)
 
 -- there is room for the atoms in a buffer of 64
 pub read_room : {bytes atoms : List ℕ} {count : ℕ} → SideRead bytes count atoms → count ≤ 64

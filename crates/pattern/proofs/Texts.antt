@@ -11,7 +11,7 @@ use borrow.Author.Tests.{eqb-true, eqb-false}
 use lib.Dec.{eqb}
 use lib.ListN.{length, get_or, take, drop, length-drop, take-append-drop, drop_of_length-le}
 use lib.Seq.{length-take-le, take-length, drop-cons}
-use Rattle.bytes.specs.Bytes.{slice, index_of, index_after}
+use Rattle.pattern.specs.Scan.{slice, index_of, index_after}
 use Rattle.pattern.specs.Characters.{equals_sign, remark_sign, NoRemark, Blank, Inside, Each, none, one_more}
 use Rattle.pattern.specs.Line.{Remark, no_remark, remark}
 use Rattle.pattern.specs.Fault.{no_equals, second_equals}

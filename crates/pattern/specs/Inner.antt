@@ -3,7 +3,7 @@ use Rattle.std.specs.Prelude.{ℕ, ◌+◌, ◌≤◌, ◌<◌, ◌≡◌, Bool,
 use Rattle.ac.specs.Apart.{renamed_apart}
 use Rattle.ac.specs.Lists.{receives}
 use Rattle.pattern.specs.Characters.{variable_letter, constant_letter, plus_sign, opening_bracket, closing_bracket, Digit, Blank, Each, Stops}
-use Rattle.pattern.specs.Word.{Number, Word, Unwritable}
+use Rattle.pattern.specs.Word.{Word, Unwritable}
 use Rattle.pattern.specs.Side.{Place, before_item, after_item, Token, Reads, Side}
 use Rattle.pattern.specs.Fault.{OfWord, Front, NoWord, Stuck, SideFault}
 use Rattle.pattern.specs.declared.Fault.{Fault}

@@ -1,4 +1,5 @@
 pub mod Characters
+pub mod Scan
 pub mod Word
 pub mod Side
 pub mod Line

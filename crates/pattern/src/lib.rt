@@ -5,6 +5,7 @@
 
 #![tactic(auto)]
 
+pub mod scan;
 mod side;
 mod word;
 
@@ -15,8 +16,8 @@ ghost use Rattle.pattern.specs.Answer.{LineSays};
 ghost use Rattle.pattern.specs.Inner.{Decides, SidesSay};
 
 use block::term::rename;
-use bytes::copy;
-use bytes::scan::find;
+use buffer::put_bytes;
+use scan::find;
 use side::{SideAnswer, is_blank, read_side};
 
 // What can be wrong with a line.
@@ -113,8 +114,8 @@ fn read_sides(first: &[u8], second: &[u8], left: &mut [u8; 64], right: &mut [u8;
             },
             SideAnswer::Atoms(right_count) => {
                 rename(&mut right_atoms);
-                copy(&left_atoms[..left_count], left);
-                copy(&right_atoms[..right_count], right);
+                put_bytes(left, 0, &left_atoms[..left_count]);
+                put_bytes(right, 0, &right_atoms[..right_count]);
                 LineAnswer::Sides {
                     left: left_count,
                     right: right_count,

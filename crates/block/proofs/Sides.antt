@@ -160,8 +160,8 @@ module _ {block : List ℕ} {number l r : ℕ} (h : HeaderLengths block number l
   right_missing none = term_first h.good (inr (rw right_part_is at none))
 
   module _
-      {left_After right_after : List ℕ} {m n : ℕ}
-      (f : SideTerm (left_part block l r) m left_After)
+      {left_after right_after : List ℕ} {m n : ℕ}
+      (f : SideTerm (left_part block l r) m left_after)
       (g : SideTerm (right_part block l r) n right_after)
     where
       left_writes : Writes (left_term block) f.term

@@ -44,5 +44,6 @@ module _ (atoms : List ℕ) (i : ℕ) where
 
 -- n atoms are 2 n - 1 bytes
 pub length_front : (atoms : List ℕ) → 0 < length atoms → length (front atoms) + 1 ≡ 2 * length atoms
+length_front [] h = elim h [ ]
 length_front (a ∷ []) h = refl
 length_front (a ∷ b ∷ rest) h = omega (arith, length_front (b ∷ rest) (omega arith))

@@ -61,6 +61,7 @@ lower-renamed {a} (inr constant) = ap as_written (renamed.constant_stays constan
 -- so it is with all atoms of a side
 pub all_lower_writable : (side : List ℕ) → ((a : ℕ) → Memᴰ a side → (32 ≤ a) × (a < 128))
     → (a : ℕ) → Memᴰ a (map as_written side) → MayBeWritten a
+all_lower_writable [] all a m = elim m [ ]
 all_lower_writable (b ∷ side) all a (Memᴰ.head same) =
     let range = all b (Memᴰ.head refl) in
     subst MayBeWritten (sym same) (lower_writable range.0 range.1)

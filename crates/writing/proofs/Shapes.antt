@@ -46,6 +46,7 @@ chain_writable a (b ∷ rest) all =
 
 -- so is every atom of a term that may be written
 pub atoms_writable : {t : Term} → Writable t → AllWritable (flatten t)
+atoms_writable (one may) a (Memᴰ.tail m) = elim m [ ]
 atoms_writable (one may) a (Memᴰ.head same) = subst MayBeWritten (sym same) may
 atoms_writable (two {s = s} v w) a m =
     ⊎_elim (atoms_writable v a) (atoms_writable w a) (Memᴰ.append_cases (flatten s) m)

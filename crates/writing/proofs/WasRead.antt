@@ -5,7 +5,7 @@ use native.Mathlib.Decide.{ℕ_discrete}
 use mathlib.Core.Path.{◌≡◌, refl, ap}
 use mathlib.Core.Bool.{false}
 use mathlib.Core.Logic.{inl, inr}
-use mathlib.Core.List.{List, ◌∷◌, map, Memᴰ}
+use mathlib.Core.List.{List, [], ◌∷◌, map, Memᴰ}
 use lib.ListN.{length, take, length-map}
 use lib.Seq.{take-append_seam, length-slice}
 use Rattle.ac.specs.Term.{Term, flatten}
@@ -15,7 +15,7 @@ use Rattle.numbers.specs.Outcome.{given}
 use Rattle.numbers.proofs.Carried.{elsewhere, its_member, none_given}
 use Rattle.numbers.proofs.Promises.{given_none, given_gives}
 use Rattle.block.specs.Front.{MayBeWritten, on_the_right, Writes, left_side, right_side}
-use Rattle.block.specs.Block.{block_number, left_length, right_length, left_term, right_term, filler, check, check_of_bytes}
+use Rattle.block.specs.Block.{block_number as number_of_block, left_length, right_length, left_term as term_on_left, right_term as term_on_right, filler, check, check_of_bytes}
 use Rattle.block.specs.Inner.{IsLength, GoodHeader}
 use Rattle.block.specs.Table.{ReadGiven, NoLength, block_length, check_differs, block_number, term_length, filler_byte}
 use Rattle.block.specs.Read.{SideLengths, ReadGives, sides, ReadPromise}
@@ -35,18 +35,18 @@ not_different m n not_other = go (ℕ_discrete m n)
 
 -- a length that a term may have
 is_length : (n : ℕ) → (NoLength n → ⊥) → IsLength n
-is_length n not_None = go (ℕ_discrete n 0)
+is_length n not_none = go (ℕ_discrete n 0)
   where
     go : Dec (n ≡ 0) → IsLength n
-    go (yes zero) = absurd (not_None (inl zero))
-    go (no some) = (omega arith, at_most n 127 (λ above. not_None (inr above)))
+    go (yes zero) = absurd (not_none (inl zero))
+    go (no some) = (omega arith, at_most n 127 (λ above. not_none (inr above)))
 
 -- the two sides are those of the block's terms, and nothing is wrong with the block
 pub record WasRead (block : List ℕ) (number : ℕ) (L R : List ℕ) : Type 0 where
   pub left_term : Term
   pub right_term : Term
-  pub left_writes : Writes (left_term block) left_term
-  pub right_writes : Writes (right_term block) right_term
+  pub left_writes : Writes (term_on_left block) left_term
+  pub right_writes : Writes (term_on_right block) right_term
   pub left_is : L ≡ left_side left_term
   pub right_is : R ≡ right_side right_term
   pub good : GoodHeader block number
@@ -63,7 +63,7 @@ module _ {block : List ℕ} {number : ℕ} {left right : List ℕ}
       record {
         whole = not_different (length block) 512 (λ other. not_given 1 refl (block_length other));
         checked = not_different (check block) (check_of_bytes block) (λ other. not_given 2 refl (check_differs other));
-        numbered = not_different (block_number block) number (λ other. not_given 3 refl (block_number other));
+        numbered = not_different (number_of_block block) number (λ other. not_given 3 refl (block_number other));
         left_length = is_length (left_length block) (λ no_length. not_given 4 refl (term_length (inl no_length)));
         right_length = is_length (right_length block) (λ no_length. not_given 4 refl (term_length (inr no_length)));
       }
@@ -95,6 +95,7 @@ was_read {block} {number} {left} {right} promise = by_gives (given_none promise)
 -- the right side's atoms are v32 to v63 and constants
 renamed_range : (side : List ℕ) → ((a : ℕ) → Memᴰ a side → MayBeWritten a)
     → (a : ℕ) → Memᴰ a (map on_the_right side) → OnTheRight a
+renamed_range [] all a m = elim m [ ]
 renamed_range (b ∷ side) all a (Memᴰ.head same) = by_kind (all b (Memᴰ.head refl))
   where
     by_kind : MayBeWritten b → OnTheRight a
@@ -105,12 +106,12 @@ renamed_range (b ∷ side) all a (Memᴰ.tail m) = renamed_range side (λ c n. a
 -- So Write accepts them.
 module _ {block : List ℕ} {number : ℕ} {L R : List ℕ} (read : WasRead block number L R) where
   -- a term has as many bytes as its length says
-  pub left_length_is : length (left_term block) ≡ left_length block
+  pub left_length_is : length (term_on_left block) ≡ left_length block
   left_length_is =
       let fits : 4 + left_length block ≤ length block = omega (arith, read.good.whole, read.good.left_length) in
       omega (arith, length-slice 4 (4 + left_length block) block fits)
 
-  pub right_length_is : length (right_term block) ≡ right_length block
+  pub right_length_is : length (term_on_right block) ≡ right_length block
   right_length_is =
       let fits : 4 + left_length block + right_length block ≤ length block =
       omega (arith, read.good.whole, read.good.left_length, read.good.right_length) in

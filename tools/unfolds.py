@@ -28,7 +28,7 @@ PROMISES = {
 }
 TOKEN = re.compile(r'"[^"]*"|[(){}\[\];,]|[^\s(){}\[\];,]+')
 USE = re.compile(r"use (\S+?)(?:\.\{(.*)\}| as (\w+))")
-PROJECT_PATH = re.compile(r"Rattle·(\w+)(?:·specs)?\.specs\.(declared\.)?(.+)")
+PROJECT_PATH = re.compile(r"Rattle\.(\w+)\.specs\.(declared\.)?(.+)")
 BEFORE_NAMES = ("pub", "abbrev", "unfoldable")
 
 
@@ -40,8 +40,8 @@ class Source:
 
     def define(self, name, words):
         self.definitions.setdefault(name, []).extend(words)
-        if re.fullmatch(r"_[^_]+_", name):
-            self.owners[name.strip("_")] = name
+        if re.fullmatch(r"◌[^◌]+◌", name):
+            self.owners[name.strip("◌")] = name
 
 
 def items(lines):
@@ -63,12 +63,13 @@ def body_of(group):
 def take_use(source, line):
     """A use line: which file each name comes from, or which type, where it is declared in the code."""
     path, names, alias = USE.fullmatch(line.strip()).groups()
-    if not path.startswith("Rattle·"):
+    project = PROJECT_PATH.fullmatch(path)
+    if not project or not (CRATES / project[1]).is_dir():
         return
-    crate, declared, rest = PROJECT_PATH.fullmatch(path).groups()
+    crate, declared, rest = project.groups()
     home = f"{crate}/specs/{rest}.antt"
     if declared:
-        *modules, name = rest.removesuffix(".the-variants").split(".")
+        *modules, name = rest.removesuffix(".TheVariants").split(".")
         home = (crate, "/".join(modules), name)
     if alias:
         source.aliases[alias] = home
@@ -79,10 +80,10 @@ def take_use(source, line):
 
 
 def take_type(source, outer, words, group):
-    """A data type with its constructors, or a record with its fields, whose names mean themselves inside it."""
+    """A data type with its constructors, or a record with its fields; a definition called like one of them counts where it is named."""
     kind, name, *rest = words
     members = {next(word for word in member[0].split() if word != "pub") for member in body_of(group)}
-    source.define(name, outer + [word for word in rest if word not in members])
+    source.define(name, outer + [word for word, after in zip(rest, rest[1:] + [""]) if word not in members or after != ":"])
     if kind == "data":
         source.owners.update((member, name) for member in members)
 
@@ -119,10 +120,12 @@ def rattle(path):
     """A file of code: the types that it declares."""
     text = re.sub(r"//.*", "", (CRATES / path).read_text())
     source = Source()
-    for crate, rest in re.findall(r"^use (\w+)::([\w:]+);", text, re.M):
-        *modules, name = rest.split("::")
-        if (CRATES / crate).is_dir():
-            source.brought[name] = ((crate, "/".join(modules), name), name)
+    for crate, rest in re.findall(r"^use (\w+)::([^;]+);", text, re.M):
+        path, _, several = rest.partition("{")
+        *modules, name = path.split("::")
+        for name in re.findall(r"\w+", several) or [name]:
+            if (CRATES / crate).is_dir():
+                source.brought[name] = ((crate, "/".join(modules), name), name)
     for name, body in re.findall(r"^(?:pub )?(?:struct|enum) (\w+) \{\n(.*?)^\}", text, re.M | re.S):
         source.define(name, re.findall(r"\w+", body))
     return source
@@ -147,9 +150,10 @@ def named(file, definition):
         first, _, rest = word.partition(".")
         if rest and first in source.aliases:
             yield located(source.aliases[first], rest)
-        elif first in source.definitions or first in source.owners:
+            continue
+        if first in source.definitions or first in source.owners:
             yield file, source.owners.get(first, first)
-        elif first in source.brought:
+        if first in source.brought:
             yield located(*source.brought[first])
 
 

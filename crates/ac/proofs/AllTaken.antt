@@ -1,6 +1,6 @@
 -- Selections that take all balanced rows, the only ones where a variable may be empty (document 02, R-10): their masks are
 -- the largest, each tuple of row indexes has one of them, and of the others none is on the list.
-use Prim.Native.Nat.{ℕ, zero, suc, ◌+◌, ◌-◌, ◌*◌, ◌%◌, ◌^◌, ◌<◌, ◌≤◌}
+use Prim.Native.Nat.{ℕ, suc, ◌+◌, ◌-◌, ◌*◌, ◌%◌, ◌^◌, ◌≤◌}
 use native.Mathlib.Omega.{arith}
 use native.Mathlib.Nat.{pow-suc}
 use native.Mathlib.Decide.{dec_le}
@@ -14,7 +14,7 @@ use lib.ListN.{length}
 use Rattle.ac.specs.Lists.{filter}
 use Rattle.ac.specs.Pair.{Mode, variables}
 use Rattle.ac.specs.Rows.{Groups}
-use Rattle.ac.specs.Selection.{Selection, taken, all_reached, all_taken, admissible}
+use Rattle.ac.specs.Selection.{taken, all_reached, all_taken, admissible}
 use Rattle.ac.specs.Keys.{Layout, Fits, Candidate, mask, key_of, selection_at, selections, keys}
 use Rattle.ac.specs.Weighed.{is_candidate, candidates}
 use Rattle.ac.proofs.Order.{filter_member, member_filter}

@@ -1,6 +1,6 @@
 -- Matching moves the left variables alone (document 02, R-4): they are the pair's variables, and where no variable stands
 -- on both sides the right side stays as it stands. So the matches are the replacements that unify in that mode.
-use Prim.Native.Nat.{ℕ, ◌+◌, ◌≤◌}
+use Prim.Native.Nat.{ℕ, ◌≤◌}
 use native.Mathlib.Omega.{arith}
 use mathlib.Core.Path.{◌≡◌, refl, sym, ap, ap₂, ◌∙◌}
 use mathlib.Core.Logic.{◌↔◌}

@@ -26,6 +26,7 @@ pub data Fault (bytes : List ℕ) : Type 0 where
 -- every byte of a term is 128 or an atom that may be written
 no_stray : {t : Term} {b : ℕ} → Writable t → Memᴰ b (encode t) → Stray b → ⊥
 no_stray (one m) (Memᴰ.head e) s = s.no_atom (rw e m)
+no_stray {b = b} (one {a = a} m) (Memᴰ.tail x10) s = elim x10 [ ]
 no_stray (two v w) (Memᴰ.head e) s = s.no_plus e
 no_stray (two {s = t} v w) (Memᴰ.tail m) s =
     ⊎_elim (λ l. no_stray v l s) (λ r. no_stray w r s) (Memᴰ.append_cases (encode t) m)

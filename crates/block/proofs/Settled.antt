@@ -11,7 +11,7 @@ use Rattle.numbers.specs.First.{First, NoneOf, here, later, end, also}
 use Rattle.numbers.specs.declared.Refusal.TheVariants as refusal
 use Rattle.numbers.proofs.Carried.{and_true}
 use Rattle.block.specs.Front.{Writes}
-use Rattle.block.specs.Block.{block_number, left_length, right_length, left_term, right_term, filler, check, check_of_bytes}
+use Rattle.block.specs.Block.{block_number as number_of_block, left_length, right_length, left_term, right_term, filler, check, check_of_bytes}
 use Rattle.block.specs.Table.{ReadGiven, block_length, check_differs, block_number, term_length, no_term, filler_byte, short_buffer, NoLength, NoTerm}
 use Rattle.numbers.specs.Outcome.{refused, is_refused}
 use Rattle.numbers.proofs.Said.{refuses_alone}
@@ -36,6 +36,7 @@ tested_within (outside h) e = apart (cc e)
 
 -- where every byte is 0, so is each
 only_zeros : (bytes : List ℕ) → all_zero bytes ≡ true → {b : ℕ} → Memᴰ b bytes → b ≡ 0
+only_zeros [] e {b = b} x'' = elim x'' [ ]
 only_zeros (a ∷ bytes) e (Memᴰ.head same) = same ∙ eqb-true a 0 (and_true (eqb a 0) (all_zero bytes) e).0
 only_zeros (a ∷ bytes) e (Memᴰ.tail m) = only_zeros bytes (and_true (eqb a 0) (all_zero bytes) e).1 m
 
@@ -63,7 +64,7 @@ module _ {block : List ℕ} {number : ℕ} {left right : List ℕ} where
   not_2 : check block ≡ check_of_bytes block → ReadGiven block number left right 2 → ⊥
   not_2 e (check_differs h) = h e
 
-  not_3 : block_number block ≡ number → ReadGiven block number left right 3 → ⊥
+  not_3 : number_of_block block ≡ number → ReadGiven block number left right 3 → ⊥
   not_3 e (block_number h) = h e
 
   not_4 : IsLength (left_length block) → IsLength (right_length block) → ReadGiven block number left right 4 → ⊥
@@ -91,13 +92,13 @@ module _ {block : List ℕ} {number : ℕ} where
 
     module _ (checked : check block ≡ check_of_bytes block) where
       -- number 3, where the check agrees
-      pub block_number_first : (block_number block ≡ number → ⊥) → BlockRefuses block number refusal.BlockNumber
+      pub block_number_first : (number_of_block block ≡ number → ⊥) → BlockRefuses block number refusal.BlockNumber
       block_number_first h =
           record { first = λ left right. later (not_1 whole) (later (not_2 checked) (here (block_number h))) }
 
       -- number 4, where the check and the number agree
       pub term_length_first :
-          block_number block ≡ number →
+          number_of_block block ≡ number →
           NoLength (left_length block) ⊎ NoLength (right_length block) →
           BlockRefuses block number refusal.TermLength
       term_length_first numbered h =

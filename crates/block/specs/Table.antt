@@ -3,7 +3,7 @@ use Rattle.std.specs.Prelude.{◌≡◌, ℕ, ◌<◌, ◌⊎◌, List, length, 
 use mathlib.Core.List.{Memᴰ}
 use Rattle.ac.specs.Term.{Term}
 use Rattle.block.specs.Front.{Writes}
-use Rattle.block.specs.Block.{block_number, left_length, right_length, left_term, right_term, filler, check, check_of_bytes}
+use Rattle.block.specs.Block.{block_number as number_of_block, left_length, right_length, left_term, right_term, filler, check, check_of_bytes}
 
 -- a length that no term may have: "each is 1 to 127"
 abbrev pub NoLength : ℕ → Type 0
@@ -21,7 +21,7 @@ pub data ReadGiven (block : List ℕ) (number : ℕ) (left right : List ℕ) : �
   -- the check differs
   check_differs : (check block ≢ check_of_bytes block) → ReadGiven block number left right 2
   -- the block number differs from the expected one
-  block_number : (block_number block ≢ number) → ReadGiven block number left right 3
+  block_number : (number_of_block block ≢ number) → ReadGiven block number left right 3
   -- a term length is 0 or above 127
   term_length : NoLength (left_length block) ⊎ NoLength (right_length block) → ReadGiven block number left right 4
   -- a term ends early, has bytes left over or holds a byte above 128 or a byte 32 to 63

@@ -10,7 +10,7 @@ ghost use Rattle.block.specs.Read.{told_read, ReadPromise};
 ghost use Rattle.block.specs.Inner.{all_zero};
 ghost use Rattle.block.specs.Terms.{ReadsTerms};
 
-use buffer::least;
+use buffer::{least, put_bytes};
 use header::Header;
 use numbers::Refusal;
 use term::TakenApart;
@@ -73,9 +73,9 @@ fn read_terms(
     if !all_zero(&block[right_end..510]) {
         return ReadAnswer::Refused(Refusal::Filler);
     }
-    bytes::copy(&left_atoms[..left_count], left);
+    put_bytes(left, 0, &left_atoms[..left_count]);
     term::rename(&mut right_atoms);
-    bytes::copy(&right_atoms[..right_count], right);
+    put_bytes(right, 0, &right_atoms[..right_count]);
     ReadAnswer::Sides {
         left: left_count,
         right: right_count,

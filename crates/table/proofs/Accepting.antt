@@ -8,7 +8,7 @@ use mathlib.Core.List.{List, Memᴰ}
 use lib.ListN.{length, get_or, take, set, length-take}
 use lib.Seq.{take-take, get_or-set_same, get_or-set_other}
 use Rattle.ac.specs.Lists.{NoneAbove}
-use Rattle.ac.specs.Pair.{Mode, variables, unbalanced}
+use Rattle.ac.specs.Pair.{Mode, unbalanced}
 use Rattle.ac.specs.Rows.{Exactly, Group, RowOf}
 use Rattle.ac.specs.Limits.{limits}
 use Rattle.ac.proofs.Longest.{balanced_entry, constant_entry}

@@ -5,8 +5,8 @@ use native.Mathlib.Decide.{dec_lt}
 use native.Mathlib.Nat.{mul-le-mul_right, suc-mul}
 use mathlib.Core.Path.{◌≡◌, refl, sym, ap, ap₂, ◌∙◌}
 use mathlib.Core.Logic.{◌⊎◌, inl, inr}
-use mathlib.Core.List.{List, [], ◌∷◌, ◌++◌, map, append_assoc, Memᴰ}
-use lib.ListN.{length, get_or, take, drop, set, length-drop}
+use mathlib.Core.List.{List, [], ◌∷◌, ◌++◌, map, append_assoc}
+use lib.ListN.{length, take, drop, set, length-drop}
 use lib.Seq.{sets, sets-eq, length-sets, take_at, drop_at, take-set-le, drop-set-lt, drop-set-add, length-take-le}
 use Rattle.ac.specs.Lists.{below, NoneAbove}
 use Rattle.buffer.specs.Put.{Put}

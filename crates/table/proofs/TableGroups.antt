@@ -44,6 +44,7 @@ module _ (t : Table) where
   -- each of them stands somewhere
   pub groups_from_stands : (first : ℕ) (cs : List ℕ) {h : Group} → Memᴰ h (groups_from t first cs)
       → Stands first cs h
+  groups_from_stands first [] {h = h} x' = elim x' [ ]
   groups_from_stands first (c ∷ cs) (Memᴰ.head e) =
       record {
         place = 0;

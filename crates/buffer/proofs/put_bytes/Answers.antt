@@ -1,5 +1,5 @@
 -- `buffer::put_bytes` meets its contract: before each turn the bytes before i have been put. Assumes nothing.
-use Prim.Native.Nat.{ℕ, ◌+◌, ◌<◌, ◌≤◌, ◌-◌}
+use Prim.Native.Nat.{ℕ, ◌+◌, ◌<◌, ◌≤◌}
 use native.Mathlib.Omega.{arith}
 use mathlib.Core.Path.{◌≡◌, ap, refl, ◌∙◌}
 use lib.ListN.{length, take, set, get_or}

@@ -1,9 +1,8 @@
 -- `buffer::put_repeated` meets its contract: before each turn i bytes have been put. Assumes nothing.
-use Prim.Native.Nat.{ℕ, ◌+◌, ◌≤◌, ◌-◌}
+use Prim.Native.Nat.{ℕ, ◌+◌}
 use native.Mathlib.Omega.{arith}
 use mathlib.Core.Path.{◌≡◌, ap}
 use lib.ListN.{replicate, replicate-append-replicate}
-use Rattle.buffer.specs.Put.{Put}
 use Rattle.buffer.proofs.Puts.{put_nothing, put_byte, put_then, put-length, put_as, put_at}
 use Rattle.buffer.proofs.put_repeated.Goals as goal
 

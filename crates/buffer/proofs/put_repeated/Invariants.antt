@@ -1,9 +1,6 @@
-use Prim.Native.Nat.{ℕ, ◌+◌, ◌≤◌, ◌-◌}
-use native.Mathlib.Omega.{arith}
-use mathlib.Core.Path.{◌≡◌, ap}
-use lib.ListN.{replicate, replicate-append-replicate}
+use Prim.Native.Nat.{◌+◌, ◌≤◌, ◌-◌}
+use lib.ListN.{replicate}
 use Rattle.buffer.specs.Put.{Put}
-use Rattle.buffer.proofs.Puts.{put_nothing, put_byte, put_then, put-length, put_as, put_at}
 use Rattle.buffer.proofs.put_repeated.Given as goal
 
 abbrev pub invariant-loop-i : goal.invariant-loop-i

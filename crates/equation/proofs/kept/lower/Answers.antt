@@ -1,11 +1,10 @@
 -- `equation::kept::lower` meets its contract: the rows before the one that is tried are not below the vector, and
 -- the places before the one that is compared are fine. Assumes nothing.
-use Prim.Native.Nat.{◌-◌}
 use native.Mathlib.Omega.{arith}
-use mathlib.Core.Path.{◌≡◌, refl, sym, ◌∙◌}
-use mathlib.Core.Bool.{false, true≢false}
+use mathlib.Core.Path.{refl, sym, ◌∙◌}
+use mathlib.Core.Bool.{true≢false}
 use lib.ListN.{length}
-use Rattle.equation.proofs.Below.{Tried, Compared, tried_none, tried_all, tried_more, compared_none, compared_more, compared_all, row_within}
+use Rattle.equation.proofs.Below.{tried_none, tried_all, tried_more, compared_none, compared_more, compared_all, row_within}
 use Rattle.equation.proofs.kept.lower.Goals as goal
 
 pub rows-init : goal.rows-init

@@ -1,9 +1,8 @@
 use Prim.Native.Nat.{◌-◌}
-use native.Mathlib.Omega.{arith}
-use mathlib.Core.Path.{◌≡◌, refl, sym, ◌∙◌}
-use mathlib.Core.Bool.{false, true≢false}
+use mathlib.Core.Path.{◌≡◌}
+use mathlib.Core.Bool.{false}
 use lib.ListN.{length}
-use Rattle.equation.proofs.Below.{Tried, Compared, tried_none, tried_all, tried_more, compared_none, compared_more, compared_all, row_within}
+use Rattle.equation.proofs.Below.{Tried, Compared}
 use Rattle.equation.proofs.kept.lower.Given as goal
 
 abbrev pub invariant-places : goal.invariant-places

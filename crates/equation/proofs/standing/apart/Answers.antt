@@ -4,7 +4,6 @@ use native.Mathlib.Nat.{mul-le-mul_left}
 use Prim.Native.Nat.{◌≤◌}
 use mathlib.Core.Bool.{false≢true}
 use Rattle.equation.specs.Places.{Apart.left_short, Apart.right_short}
-use borrow.Author.Rules.{rules}
 use Rattle.equation.proofs.standing.apart.Goals as goal
 
 pub overflow_add-at : goal.overflow_add-at

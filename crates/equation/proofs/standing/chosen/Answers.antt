@@ -2,7 +2,6 @@
 use native.Mathlib.Omega.{arith}
 use borrow.Author.Tests.{le-leb, lt-leb}
 use Rattle.equation.proofs.Ranges.{room_after}
-use borrow.Author.Rules.{rules}
 use Rattle.equation.proofs.standing.chosen.Goals as goal
 
 pub overflow_add-a : goal.overflow_add-a

@@ -4,7 +4,6 @@ use native.Mathlib.Omega.{arith}
 use mathlib.Core.Path.{ap}
 use Prim.Native.Nat.{◌-◌, ◌/◌}
 use Rattle.equation.proofs.Ranges.{lifts_none_low, lifts_none_high, lifts_one}
-use borrow.Author.Rules.{rules}
 use Rattle.equation.proofs.standing.divided.Goals as goal
 
 pub returns-then-high-low : goal.returns-then-high-low
@@ -15,13 +14,13 @@ returns-then-wide-number c =
     lifts_none_high c.requires
     (omega (
       arith,
-      c.wide-2.ensures.0,
+      c.wide-2.ensures.value,
       c.if-wide-number.true,
-      ap (λ s. (c.args.high - c.args.low) / s) c.wide.ensures.0,
+      ap (λ s. (c.args.high - c.args.low) / s) c.wide.ensures.value,
     ))
     (omega arith)
 
 pub returns : goal.returns
 returns c =
-    let e = ap (λ s. (c.args.high - c.args.low) / s) c.wide.ensures.0 in lifts_one
+    let e = ap (λ s. (c.args.high - c.args.low) / s) c.wide.ensures.value in lifts_one
     c.requires e e (omega (arith, e))

@@ -3,9 +3,7 @@ use Prim.Native.Nat.{ℕ}
 use native.Mathlib.Omega.{arith}
 use mathlib.Core.Path.{ap}
 use mathlib.Core.Bool.{cond}
-use borrow.Author.Tests.{not-false}
 use Rattle.equation.proofs.Ranges.{ranges_up, ranges_down, ranges_even}
-use borrow.Author.Rules.{rules}
 use Rattle.equation.proofs.standing.possible.Goals as goal
 
 pub returns-then-at : goal.returns-then-at
@@ -28,9 +26,9 @@ returns-then-left-right c =
 
 pub returns-then-right-left : goal.returns-then-right-left
 returns-then-right-left c = ranges_up c.if-right-left.true
-    (not-false c.args.last c.if-not-last.false) c.divided.ensures
+    c.if-not-last.false c.divided.ensures
 
 pub returns-else-right-left : goal.returns-else-right-left
 returns-else-right-left c = ranges_down (omega arith)
-    (not-false c.args.last c.if-not-last.false)
+    c.if-not-last.false
     c.divided-else-right-left.ensures

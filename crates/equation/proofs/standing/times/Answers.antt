@@ -3,7 +3,6 @@ use native.Mathlib.Omega.{arith}
 use Prim.Native.Nat.{◌*◌}
 use mathlib.Core.Path.{ap₂}
 use Rattle.equation.proofs.Ranges.{bytes_product}
-use borrow.Author.Rules.{rules}
 use Rattle.equation.proofs.standing.times.Goals as goal
 
 pub overflow_mul-result : goal.overflow_mul-result
@@ -13,4 +12,4 @@ overflow_mul-result c = omega (
 )
 
 pub returns : goal.returns
-returns c = ap₂ (λ a b. a * b) c.wide.ensures.0 c.wide-2.ensures.0
+returns c = ap₂ (λ a b. a * b) c.wide.ensures.value c.wide-2.ensures.value

@@ -14,7 +14,6 @@ use Rattle.equation.specs.Kept.{Keeps}
 use Rattle.equation.specs.Walk.{Settles}
 use Rattle.equation.proofs.Held.{skip}
 use Rattle.equation.proofs.Places.{rest_places}
-use borrow.Author.Rules.{rules}
 use Rattle.equation.proofs.walk.settle.Goals as goal
 
 module _ {limit n : ℕ} {v bytes : List ℕ} {at : Standing} (fits : n ≤ limit) where

@@ -1,8 +1,7 @@
 -- `equation::walk::tops` meets its contract. Assumes nothing.
 use native.Mathlib.Omega.{arith}
 use mathlib.Core.Path.{refl}
-use borrow.Author.Rules.{rules}
-use Rattle.equation.proofs.Tops.{ToppedFrom, topped_none, topped_more, topped_all}
+use Rattle.equation.proofs.Tops.{topped_none, topped_more, topped_all}
 use Rattle.equation.proofs.walk.tops.Goals as goal
 
 pub loop-place-init : goal.loop-place-init

@@ -1,7 +1,4 @@
-use native.Mathlib.Omega.{arith}
-use mathlib.Core.Path.{refl}
-use borrow.Author.Rules.{rules}
-use Rattle.equation.proofs.Tops.{ToppedFrom, topped_none, topped_more, topped_all}
+use Rattle.equation.proofs.Tops.{ToppedFrom}
 use Rattle.equation.proofs.walk.tops.Given as goal
 
 abbrev pub invariant-loop-place : goal.invariant-loop-place

@@ -1,6 +1,5 @@
 -- `pair::counting::moves` meets its contract: each way has its own arm. Assumes nothing.
 use mathlib.Core.Path.{sym, ap}
-use borrow.Author.Rules.{rules}
 use Rattle.pair.specs.Counts.{variable_moves}
 use Rattle.pair.proofs.counting.moves.Goals as goal
 

@@ -1,11 +1,9 @@
 -- `pair::counting::moving_atoms` meets its contract. The loop's invariant: the table says of the atoms passed whether
 -- they move, and false of all others. Assumes nothing.
 use mathlib.Core.Path.{◌≡◌, refl}
-use Prim.Native.Nat.{◌≤◌, ◌-◌}
 use native.Mathlib.Omega.{arith}
-use lib.ListN.{length, get_or, length-set}
-use Rattle.pair.specs.Counts.{variable_moves}
-use Rattle.pair.proofs.Counts.{SaidBelow, said_below_none, said_below_more, moves_said}
+use lib.ListN.{length-set}
+use Rattle.pair.proofs.Counts.{said_below_none, said_below_more, moves_said}
 use Rattle.pair.proofs.counting.moving_atoms.Goals as goal
 
 pub loop-atom-init : goal.loop-atom-init

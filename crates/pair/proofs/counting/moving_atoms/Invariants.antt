@@ -1,9 +1,8 @@
-use mathlib.Core.Path.{◌≡◌, refl}
+use mathlib.Core.Path.{◌≡◌}
 use Prim.Native.Nat.{◌≤◌, ◌-◌}
-use native.Mathlib.Omega.{arith}
-use lib.ListN.{length, get_or, length-set}
+use lib.ListN.{length, get_or}
 use Rattle.pair.specs.Counts.{variable_moves}
-use Rattle.pair.proofs.Counts.{SaidBelow, said_below_none, said_below_more, moves_said}
+use Rattle.pair.proofs.Counts.{SaidBelow}
 use Rattle.pair.proofs.counting.moving_atoms.Given as goal
 
 abbrev pub invariant-loop-atom : goal.invariant-loop-atom

@@ -4,7 +4,6 @@ use mathlib.Core.Path.{◌≡◌, refl, sym, subst}
 use mathlib.Core.Bool.{Bool}
 use mathlib.Core.List.{List}
 use Prim.Native.Nat.{ℕ}
-use borrow.Author.Rules.{rules}
 use Rattle.ac.specs.Pair.{unifying, identity}
 use Rattle.pair.specs.Counts.{TellsShared}
 use Rattle.pair.specs.declared.ways.Way.{Way}

@@ -1,6 +1,5 @@
 -- `pair::counting::on_both` meets its contract: where the first is not so, neither are both. Assumes nothing.
 use native.Mathlib.Omega.{arith}
-use Prim.Native.Nat.{◌<◌}
 use Rattle.pair.proofs.Telling.{tells_same, tells_less}
 use Rattle.pair.proofs.counting.on_both.Goals as goal
 

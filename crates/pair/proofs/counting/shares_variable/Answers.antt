@@ -1,9 +1,7 @@
 -- `pair::counting::shares_variable` meets its contract. The loop's invariant: none of the variables passed stands on
 -- both sides. Assumes nothing.
-use Prim.Native.Nat.{ℕ, ◌≤◌, ◌<◌, ◌-◌}
 use native.Mathlib.Omega.{arith}
 use borrow.Author.Count.{below_none, below_more}
-use lib.ListN.{get_or}
 use Rattle.pair.proofs.Counts.{shared_there, shared_nowhere}
 use Rattle.pair.proofs.Telling.{tells_true, tells_false}
 use Rattle.pair.proofs.counting.shares_variable.Goals as goal

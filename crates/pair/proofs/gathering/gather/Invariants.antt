@@ -1,9 +1,5 @@
-use mathlib.Core.Path.{◌≡◌, sym, ap, ◌∙◌}
-use mathlib.Core.Logic.{⊎_elim}
 use Prim.Native.Nat.{◌≤◌, ◌-◌}
-use native.Mathlib.Omega.{arith}
-use lib.ListN.{set}
-use Rattle.pair.proofs.Visited.{Visited, visited_none, visited_more, visited_skip, is_counted, exceeds, visited_gathers}
+use Rattle.pair.proofs.Visited.{Visited, is_counted, exceeds}
 use Rattle.pair.proofs.gathering.gather.Given as goal
 
 abbrev pub invariant-loop-atom : goal.invariant-loop-atom

@@ -1,6 +1,5 @@
 -- `pair::gathering::is_of` meets its contract: in each arm the kind is that arm's, and the tests say what
 -- passes. Assumes nothing.
-use borrow.Author.Rules.{rules}
 use Rattle.pair.proofs.Visited.{occurs-left, occurs-right}
 use Rattle.pair.proofs.gathering.is_of.Goals as goal
 

@@ -2,7 +2,6 @@
 use Prim.Native.Nat.{ℕ}
 use mathlib.Core.Path.{sym, ap, ◌∙◌}
 use mathlib.Core.Bool.{Bool, cond}
-use borrow.Author.Rules.{rules}
 use Rattle.pair.proofs.limits.least_atoms.Goals as goal
 
 pub returns-then-may_be_empty : goal.returns-then-may_be_empty

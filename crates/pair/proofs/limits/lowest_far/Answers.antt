@@ -1,10 +1,9 @@
 -- `pair::limits::lowest_far` meets its contract. The loop's invariant: at no atom passed are the two
 -- counts too far apart. Assumes nothing.
-use Prim.Native.Nat.{ℕ, ◌≤◌, ◌<◌, ◌-◌}
 use native.Mathlib.Omega.{arith}
 use borrow.Author.Count.{below_none, below_more}
 use Rattle.pair.specs.Counts.{a_far_one, all_near}
-use Rattle.pair.proofs.NetCounts.{apart, far_lowest, near_not_given}
+use Rattle.pair.proofs.NetCounts.{far_lowest, near_not_given}
 use Rattle.pair.proofs.limits.lowest_far.Goals as goal
 
 pub loop-atom-init : goal.loop-atom-init

@@ -1,8 +1,5 @@
 use Prim.Native.Nat.{ℕ, ◌≤◌, ◌<◌, ◌-◌}
-use native.Mathlib.Omega.{arith}
-use borrow.Author.Count.{below_none, below_more}
-use Rattle.pair.specs.Counts.{a_far_one, all_near}
-use Rattle.pair.proofs.NetCounts.{apart, far_lowest, near_not_given}
+use Rattle.pair.proofs.NetCounts.{apart}
 use Rattle.pair.proofs.limits.lowest_far.Given as goal
 
 abbrev pub invariant-loop-atom : goal.invariant-loop-atom

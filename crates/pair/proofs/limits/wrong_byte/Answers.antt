@@ -1,10 +1,9 @@
 -- `pair::limits::wrong_byte` meets its contract. The loop's invariant: no byte passed is above the highest
 -- atom. Assumes nothing.
-use Prim.Native.Nat.{ℕ, ◌≤◌, ◌<◌, ◌-◌}
 use native.Mathlib.Omega.{arith}
 use borrow.Author.Rules.{rules}
 use borrow.Author.Count.{below_more}
-use lib.ListN.{length, get_or}
+use lib.ListN.{get_or}
 use Rattle.ac.proofs.Places.{get_or_member}
 use Rattle.pair.proofs.Lists.{member_at}
 use Rattle.pair.proofs.Telling.{tells_true, tells_false}

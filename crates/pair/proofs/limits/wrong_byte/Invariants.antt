@@ -1,11 +1,5 @@
 use Prim.Native.Nat.{ℕ, ◌≤◌, ◌<◌, ◌-◌}
-use native.Mathlib.Omega.{arith}
-use borrow.Author.Rules.{rules}
-use borrow.Author.Count.{below_more}
 use lib.ListN.{length, get_or}
-use Rattle.ac.proofs.Places.{get_or_member}
-use Rattle.pair.proofs.Lists.{member_at}
-use Rattle.pair.proofs.Telling.{tells_true, tells_false}
 use Rattle.pair.proofs.limits.wrong_byte.Given as goal
 
 abbrev pub invariant-loop-i : goal.invariant-loop-i

@@ -1,6 +1,5 @@
 -- `pair::ways::may_be_empty` meets its contract: each way has its own arm. Assumes nothing.
 use mathlib.Core.Path.{ap}
-use borrow.Author.Rules.{rules}
 use Rattle.pair.specs.Ways.{mode_of}
 use Rattle.pair.proofs.ways.may_be_empty.Goals as goal
 

@@ -1,0 +1,32 @@
+-- `text::put_value` meets its contract: the first name, and the further ones behind it. Assumes nothing.
+use Prim.Native.Nat.{◌<◌}
+use native.Mathlib.Omega.{arith}
+use lib.ListN.{length}
+use Rattle.buffer.proofs.Puts.{put_nothing, put_then, put_as, put-length}
+use Rattle.text.proofs.Names.{joined_none, joined_first, name_short, tail, length_tail}
+use Rattle.text.proofs.put_value.Goals as goal
+
+pub returns-then-atoms-eq0 : goal.returns-then-atoms-eq0
+returns-then-atoms-eq0 c = put_as (joined_none c.args.atoms.now c.if-atoms-eq0.true) (put_nothing _ _)
+
+pub put_rest-requires : goal.put_rest-requires
+put_rest-requires c =
+    let a = c.args in
+    let n = c.put_name-next in
+    let some : 0 < length a.atoms.now = omega arith in
+    omega (
+      arith,
+      length_tail a.atoms.now some,
+      n.ensures.place,
+      put-length n.ensures,
+      name_short _
+          (c.shared_slice_known-2-1.given 0).fits,
+    )
+
+pub returns : goal.returns
+unfolding tail
+returns c =
+    let a = c.args in
+    let some : 0 < length a.atoms.now = omega arith in
+    put_as (joined_first a.atoms.now some)
+    (put_then c.put_name-next.ensures c.put_rest.ensures)

@@ -14,7 +14,7 @@ use Rattle.library.specs.declared.Reader.{Reader}
 use Rattle.library.specs.declared.Input.{Input}
 use Rattle.library.specs.declared.Input.TheVariants as input
 use Rattle.library.specs.declared.Next.TheVariants as next
-use Rattle.library.proofs.Coming.{wanted_most}
+use Rattle.library.proofs.Coming.{wanted_most, comes_more}
 
 -- as many bytes wait as stand between the reader's places
 pub waiting-length : {buffer : List ℕ} {r : Reader} → ReaderFits buffer r → length (waiting buffer r) ≡ waits r
@@ -178,5 +178,6 @@ reached-more far comes a =
 -- a read that is wanted leaves less to ask for
 pub wanted_falls : {buffer after : List ℕ} {r r' : Reader} → ReaderFits buffer r → Comes r next.Wanted r →
     ReadsOnce buffer r r' after → to_ask r' < to_ask r
-wanted_falls {r = r} fits (Comes.a_read few still) a =
-    (read_left fits a.read).falls (omega (arith, wanted_most r.left)) still
+wanted_falls {r = r} fits comes a =
+    let wants = comes_more comes in
+    (read_left fits a.read).falls (omega (arith, wants.0, wanted_most r.left)) wants.1

@@ -2,16 +2,11 @@
 use Prim.Native.Nat.{ℕ, zero, suc, ◌<◌, ◌≤◌}
 use native.Mathlib.Omega.{arith}
 use mathlib.Core.Path.{◌≡◌, refl, ap, subst}
-use mathlib.Core.Logic.{inl, inr}
-use mathlib.Core.List.{[], ◌∷◌}
-use types.Run.{OneOf}
-use denote.Enum.Declared.{tag_of}
 use Rattle.library.specs.Reading.{waits, wanted, Comes}
 use Rattle.library.specs.declared.Reader.{Reader}
 use Rattle.library.specs.declared.Input.TheVariants as input
 use Rattle.library.specs.declared.Next.{Next}
 use Rattle.library.specs.declared.Next.TheVariants as next
-use Rattle.library.specs.contracts.Next.{the_type}
 
 -- as long as a block may be read, a block's bytes are wanted
 pub wanted_block : (left : ℕ) → (left ≡ 0 → ⊥) → 512 ≡ wanted left
@@ -47,13 +42,3 @@ as_it_is (Comes.a_read few still) = Comes.a_read few still
 
 pub comes_wanted : {r r' : Reader} {n : Next} → Comes r n r' → n ≡ next.Wanted → Comes r next.Wanted r
 comes_wanted {r} {r'} comes e = as_it_is (subst (λ n. Comes r n r') e comes)
-
--- what is one of the first four kinds is not that a read is wanted
-first_four : {kind : ℕ} → OneOf (0 ∷ 1 ∷ 2 ∷ 3 ∷ []) kind → kind < 4
-first_four (inl e) = omega arith
-first_four (inr (inl e)) = omega arith
-first_four (inr (inr (inl e))) = omega arith
-first_four (inr (inr (inr e))) = omega arith
-
-pub not_wanted : {n : Next} → OneOf (0 ∷ 1 ∷ 2 ∷ 3 ∷ []) (tag_of the_type n) → n ≡ next.Wanted → ⊥
-not_wanted others e = omega (arith, first_four others, ap (tag_of the_type) e)

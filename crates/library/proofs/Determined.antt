@@ -67,7 +67,7 @@ module _ (r : Reader) where
       ∙ ap (of_few r.at (waits r)) e
 
 comes_is : {r r' : Reader} {n : Next} → Comes r n r' → n ≡ coming r
-comes_is {r} (Comes.a_Block may many) =
+comes_is {r} (Comes.a_block may many) =
     some_left r.left may
     ∙ sym (enough_is r (omega (arith, wanted_block r.left (λ e. omega arith))))
 comes_is {r} (Comes.a_short_block may some few over) =
@@ -81,7 +81,7 @@ comes_is {r} (Comes.failed few e) = sym (few_is r few e)
 comes_is {r} (Comes.a_read few e) = sym (few_is r few e)
 
 comes_after : {r r' : Reader} {n : Next} → Comes r n r' → r' ≡ after n r
-comes_after (Comes.a_Block may many) = refl
+comes_after (Comes.a_block may many) = refl
 comes_after (Comes.a_short_block may some few over) = refl
 comes_after (Comes.the_end none over) = refl
 comes_after (Comes.remains none some) = refl
@@ -107,7 +107,7 @@ misses_one (Misses.failed other) (Misses.given_up e none) = refl
 misses_one (Misses.failed other) (Misses.failed other') = refl
 
 -- What a call's answer says is determined, for every answer and every error.
-pub takes_one : {r r₁ r₂ : Reader} {room : ℕ} {answer error : ℤ} → Takes r room answer error r₁ →
+pub takes_one : {r : Reader} {room : ℕ} {r₁ r₂ : Reader} {answer error : ℤ} → Takes r room answer error r₁ →
     Takes r room answer error r₂ → r₁ ≡ r₂
 takes_one (Takes.the_end e) (Takes.the_end e') = refl
 takes_one (Takes.the_end e) (Takes.bytes e') = absurd (let z : ◌≡◌ {A = ℕ} 0 1 = cc (e, e') in omega arith)

@@ -23,7 +23,7 @@ record Kept (r r' : Reader) (after : List ℕ) : Type 0 where
   pub fits : ReaderFits after r'
   pub same_left : r'.left ≡ r.left
 
-calls_keep : {buffer after : List ℕ} {r r' : Reader} {calls : List Call} → ReaderFits buffer r →
+calls_keep : {buffer : List ℕ} {r : Reader} {after : List ℕ} {r' : Reader} {calls : List Call} → ReaderFits buffer r →
     Calls buffer r calls r' after → Kept r r' after
 calls_keep fits Calls.none = record { fits = fits; same_left = refl }
 calls_keep fits (Calls.one_more before comes a) =
@@ -39,7 +39,7 @@ pub record ABlock (r : Reader) (start size : ℕ) (r' : Reader) (after : List �
 
 block_tells : {r full r' : Reader} {after : List ℕ} {start size : ℕ} → Kept r full after →
     Comes full (next.Block start size) r' → ABlock r start size r' after
-block_tells k (Comes.a_Block may many) =
+block_tells k (Comes.a_block may many) =
     record {
       fits = record { ordered = omega arith; within = k.fits.within; room = k.fits.room };
       ends = refl;
@@ -59,7 +59,8 @@ handed_block {r' = r'} fits h e =
     block_tells (calls_keep fits h.reads) (subst (λ n. Comes h.full n r') e h.comes)
 
 -- a run goes on by calls
-run_calls : {most : ℕ} {calls more : List Call} {blocks : List (List ℕ)} {r r' : Reader} {buffer after : List ℕ} →
+run_calls : {most : ℕ} {calls : List Call} {blocks : List (List ℕ)} {r : Reader} {buffer : List ℕ} {more : List Call}
+    {r' : Reader} {after : List ℕ} →
     Run most calls blocks r buffer → Calls buffer r more r' after → Run most (more ++ calls) blocks r' after
 run_calls run Calls.none = run
 run_calls run (Calls.one_more before comes a) = Run.call (run_calls run before) comes a

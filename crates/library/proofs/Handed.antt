@@ -147,7 +147,7 @@ module _ {most : ℕ} {calls : List Call} {blocks : List (List ℕ)} {r : Reader
 holds_comes : {most : ℕ} {calls : List Call} {blocks : List (List ℕ)} {r r' : Reader} {buffer : List ℕ}
     {start size : ℕ} → Holds most calls blocks r buffer → Comes r (next.Block start size) r' →
     Holds most calls (blocks ++ (part start size buffer ∷ [])) r' buffer
-holds_comes h (Comes.a_Block may many) = holds_whole h may many
+holds_comes h (Comes.a_block may many) = holds_whole h may many
 holds_comes h (Comes.a_short_block may some few over) = holds_short h may some few over
 
 holds : {most : ℕ} {calls : List Call} {blocks : List (List ℕ)} {r : Reader} {buffer : List ℕ} →

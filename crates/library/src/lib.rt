@@ -1,22 +1,30 @@
-// A library read block by block from a file descriptor, through one lent buffer and with few calls of the
-// system.
+// A library read block by block from a reader, through one lent buffer and with few calls of it.
 //
-// No contract can say which bytes a call of read puts into the buffer. So everything but the call is a
+// No contract can say which bytes a call of the system puts into the buffer. So everything but the call is a
 // function of values: what its answer says of the reader, where the bytes that wait are put before it, and
 // what comes next. What is proved of any number of calls, whatever they answer, stands in proofs/Handed.antt.
 
 #![tactic(auto)]
 
 ghost use Rattle.std.specs.Prelude.{◌≡◌, ◌+◌, ◌-◌, ◌≤◌, ◌<◌, length};
-ghost use Rattle.library.specs.Reading.{opened, wanted, handed, room_made, moved, told};
+ghost use Rattle.library.specs.Reading.{opened, wanted, handed, room_made, moved, told, answer_of, error_of};
 ghost use Rattle.library.specs.Reading.{ReaderFits, Comes, Misses, Takes};
 ghost use Rattle.library.specs.Library.{ReadsOnce, HandsOn};
+
+use buffer::least;
+use std::io::Read;
 
 // The bytes of a block.
 pub const BLOCK: usize = 512;
 
 // So many interrupted calls are tried again, a million in all: every loop must end.
 const RETRIES: u64 = 1_000_000;
+
+// The system's number for the error of a call that a signal interrupted (EINTR).
+const INTERRUPTED: i32 = 4;
+
+// The longest that an answer says.
+const LONGEST: usize = 9_223_372_036_854_775_807;
 
 // What the calls of read have said of the input so far: more may come, it has ended, or a call failed, with
 // the system's number for the error.
@@ -37,6 +45,14 @@ pub struct Reader {
     pub left: u64,
     pub retries: u64,
     pub input: Input,
+}
+
+// What a call of read answered: how many bytes came, or -1 and the error's number, which is 0 where the error is none
+// of the system's.
+#[derive(Clone, Copy)]
+struct Answer {
+    came: isize,
+    error: i32,
 }
 
 // What comes next: a block, by its place in the buffer, where only the last may have fewer than 512 bytes;
@@ -72,7 +88,7 @@ pub fn open(most: u64) -> Reader
 }
 
 // The next block, or why there is none: reads as long as a read is wanted.
-pub fn next_block(fd: i32, buffer: &mut [u8], reader: Reader) -> Step
+pub fn next_block<R: Read>(input: &mut R, buffer: &mut [u8], reader: Reader) -> Step
     requires { ReaderFits buffer.old reader }
     ensures { HandsOn buffer.old reader result.next result.reader buffer.new }
 {
@@ -83,7 +99,7 @@ pub fn next_block(fd: i32, buffer: &mut [u8], reader: Reader) -> Step
         let Next::Wanted = next else {
             return step;
         };
-        read = read_more(fd, buffer, read);
+        read = read_more(input, buffer, read);
     }
 }
 
@@ -153,14 +169,31 @@ fn hand_on(reader: Reader, length: usize) -> Step
 }
 
 // One call of read into the room behind the bytes that wait, which are moved to the buffer's start before it.
-fn read_more(fd: i32, buffer: &mut [u8], reader: Reader) -> Reader
+fn read_more<R: Read>(input: &mut R, buffer: &mut [u8], reader: Reader) -> Reader
     requires { ReaderFits buffer.old reader }
     ensures { ReadsOnce buffer.old reader result buffer.new }
 {
     let ready = make_room(buffer, reader);
     let filled = ready.filled;
-    let answer = libc::read(fd, &mut buffer[filled..]);
-    took(ready, buffer, answer, os::errno())
+    let answer = answer_of(input.read(&mut buffer[filled..]));
+    took(ready, buffer, answer.came, answer.error)
+}
+
+// What a call of read answered, in numbers.
+fn answer_of(answered: std::io::Result<usize>) -> Answer
+    ensures came { result.came ≡ answer_of answered }
+    ensures error { result.error ≡ error_of answered }
+{
+    match answered {
+        Ok(came) => Answer {
+            came: least(came, LONGEST) as isize,
+            error: 0,
+        },
+        Err(error) => Answer {
+            came: -1,
+            error: error.raw_os_error().unwrap_or(0),
+        },
+    }
 }
 
 // Moves the bytes that wait to the buffer's start.
@@ -206,7 +239,7 @@ pub fn took(reader: Reader, buffer: &[u8], answer: isize, error: i32) -> Reader
 fn missed(reader: Reader, error: i32) -> Reader
     ensures { Misses reader error result }
 {
-    if error == libc::EINTR {
+    if error == INTERRUPTED {
         if reader.retries > 0 {
             let mut again = reader;
             again.retries -= 1;

@@ -3,13 +3,13 @@ use Prim.Native.Nat.{ℕ, suc, ◌+◌, ◌*◌, ◌/◌, ◌%◌, ◌^◌, ◌<
 use native.Mathlib.Omega.{arith}
 use native.Mathlib.Nat.{mul-le-mul_left, pow-suc, pow-le-pow_right}
 use native.Mathlib.Numerals.{add-one}
-use mathlib.Core.Path.{◌≡◌, refl, sym, ap, ap₂, subst, ◌∙◌}
+use mathlib.Core.Path.{◌≡◌, refl, sym, ap, ap₂, ◌∙◌}
 use mathlib.Core.Bool.{Bool, true, false}
 use mathlib.Core.List.{List, [], ◌∷◌}
 use lib.Bits.{bit_and, and_mask, mask_lt}
 use lib.ListN.{length, get_or, drop, drop_of_length-le}
 use lib.Pow.{pow_pos, pow_mono, shl_lt, shl_exact}
-use Rattle.ac.specs.Rows.{Group, Groups, rows_at}
+use Rattle.ac.specs.Rows.{Groups, rows_at}
 use Rattle.ac.specs.Keys.{layout, field_at, selection_at, start, Candidate, Fits}
 use Rattle.ac.specs.Weighed.{candidates, weighed}
 use Rattle.ac.proofs.Fields.{length_fields_of, index_at}

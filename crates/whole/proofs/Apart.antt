@@ -40,6 +40,7 @@ use Rattle.whole.proofs.Unifiers.{flatten-renamed, its_terms, read_sides, block_
 
 -- every atom of a term that may be written may be written
 atoms_written : {t : Term} {a : ℕ} → Writable t → Memᴰ a (flatten t) → MayBeWritten a
+atoms_written (one {a = a} m) (Memᴰ.tail x7) = elim x7 [ ]
 atoms_written (one m) (Memᴰ.head e) = subst MayBeWritten (sym e) m
 atoms_written (two {s = s} v w) m =
     ⊎_elim (λ l. atoms_written v l) (λ r. atoms_written w r) (Memᴰ.append_cases (flatten s) m)

@@ -29,10 +29,11 @@ pub laid_out_one_to_one : (bs cs : List Binding) → laid_out bs ≡ laid_out cs
 laid_out_one_to_one bs cs e = sym (taken_apart-laid_out bs) ∙ ap (taken_apart 0) e ∙ taken_apart-laid_out cs
 
 -- a variable that stands in the layout has its value there
-value_in-bindings : (θ : Replacement) {xs : List ℕ} {x : ℕ} → Memᴰ x xs → value_in (bindings θ xs) x ≡ θ x
-value_in-bindings θ {xs = y ∷ ys} {x} (Memᴰ.head e) =
+value_in-bindings : (θ : Replacement) {x : ℕ} {xs : List ℕ} → Memᴰ x xs → value_in (bindings θ xs) x ≡ θ x
+value_in-bindings θ {x = x} {xs = []} x3 = elim x3 [ ]
+value_in-bindings θ {x} {xs = y ∷ ys} (Memᴰ.head e) =
     ap (λ t. cond t (θ y) (value_in (bindings θ ys) x)) (eq-eqb x y e) ∙ ap θ (sym e)
-value_in-bindings θ {xs = y ∷ ys} {x} (Memᴰ.tail m) = go (eqb x y) refl (value_in-bindings θ m)
+value_in-bindings θ {x} {xs = y ∷ ys} (Memᴰ.tail m) = go (eqb x y) refl (value_in-bindings θ m)
   where
     go : (t : Bool) → eqb x y ≡ t → value_in (bindings θ ys) x ≡ θ x → cond t (θ y) (value_in (bindings θ ys) x) ≡ θ x
     go true e later = ap θ (sym (eqb-true x y e))

@@ -54,6 +54,7 @@ module _ {M : Mode} {L R : List ℕ} (none : NoneOf (PairGiven limits M L R) sid
 module _ {most : ℕ} (θ : ℕ → List ℕ) (short : (x : ℕ) → length (θ x) ≤ most) where
   -- none that stands with a variable is
   bindings_short : (xs : List ℕ) {b : Binding} → Memᴰ b (bindings θ xs) → length b.value ≤ most
+  bindings_short [] {b = b} x' = elim x' [ ]
   bindings_short (x ∷ xs) (Memᴰ.head e) = rw e (short x)
   bindings_short (x ∷ xs) (Memᴰ.tail m) = bindings_short xs m
 

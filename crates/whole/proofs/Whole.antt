@@ -16,7 +16,7 @@
 use Prim.Native.Nat.{ℕ}
 use mathlib.Core.Path.{◌≡◌, refl, subst}
 use mathlib.Core.Logic.{◌↔◌}
-use mathlib.Core.List.{List, ◌++◌}
+use mathlib.Core.List.{List}
 use Rattle.ac.specs.Pair.{Mode}
 use Rattle.ac.specs.Keys.{Beginning, start}
 use Rattle.ac.specs.Pages.{together}

@@ -6,10 +6,19 @@
 use output::ending::give_verdict;
 use tally::Report;
 
-fn main() {
+fn main(rt: HostRuntime) {
+    let mut from = rt.stdin();
+    let mut to = rt.stdout();
     let mut input = io::large_buffer();
     let mut output = io::large_buffer();
-    if printing::run(Report::Census, &mut input, &mut output) {
-        give_verdict();
+    if printing::run(
+        Report::Census,
+        &mut from,
+        &mut to,
+        &rt,
+        &mut input,
+        &mut output,
+    ) {
+        give_verdict(&rt);
     }
 }

@@ -4,7 +4,7 @@ ghost use Rattle.std.specs.Prelude.{◌≡◌, ℕ, ◌≤◌, List, ◌++◌, l
 ghost use Rattle.pack.specs.Cut.{Holds, Takes};
 
 use buffer::put_bytes;
-use bytes::scan::find;
+use pattern::scan::find;
 
 // The most bytes of a line.
 pub const MOST_BYTES: usize = 4096;

@@ -13,19 +13,21 @@ mod tell;
 ghost use Rattle.std.specs.Prelude.{◌≤◌, length};
 ghost use Rattle.pack.specs.Packing.{Ready, Finishes, PackedTo};
 
-use libc::STDIN_FILENO;
 use library::Next;
-use output::ending::{give_verdict, tell_unwritten, write_last};
+use output::ending::{give_verdict, tell_unread, tell_unwritten, write_last};
 use packing::{Packing, Went, begin, pack_line, pack_piece};
+use std::io::{Eprint, Read, Write};
 
 // The input is read in so many pieces of 512 bytes at most, so that the program ends.
 const MOST_PIECES: u64 = 1_000_000_000_000_000;
 
-fn main() {
+fn main(rt: HostRuntime) {
+    let mut from = rt.stdin();
+    let mut to = rt.stdout();
     let mut input = io::large_buffer();
     let mut output = io::large_buffer();
-    if run(&mut input, &mut output) {
-        give_verdict();
+    if run(&mut from, &mut to, &rt, &mut input, &mut output) {
+        give_verdict(&rt);
     }
 }
 
@@ -40,29 +42,40 @@ enum Packed {
 
 // Packs the lines, writes out what was not yet, and says whether every line was good and every block written out. What
 // failed is told.
-fn run(input: &mut [u8], output: &mut [u8]) -> bool
+fn run<R: Read, W: Write>(
+    from: &mut R,
+    to: &mut W,
+    rt: &impl Eprint,
+    input: &mut [u8],
+    output: &mut [u8],
+) -> bool
     requires { (512 ≤ length input.old) × (8192 ≤ length output.old) }
 {
-    let packed = pack_lines(input, output);
+    let packed = pack_lines(from, to, rt, input, output);
     match packed {
         Packed::All { at, wrong } => {
-            let written = write_last(output, at);
+            let written = write_last(to, rt, output, at);
             written && !wrong
         }
         Packed::Unread(at) => {
-            os::fail(b"standard input");
-            write_last(output, at);
+            write_last(to, rt, output, at);
             false
         }
         Packed::Unwritten(error) => {
-            tell_unwritten(error);
+            tell_unwritten(rt, error);
             false
         }
     }
 }
 
-// Piece by piece, until there is none, a read fails or nobody takes the output.
-fn pack_lines(input: &mut [u8], output: &mut [u8]) -> Packed
+// Piece by piece, until there is none, a read fails or nobody takes the output. That a read failed is told.
+fn pack_lines<R: Read, W: Write>(
+    from: &mut R,
+    to: &mut W,
+    rt: &impl Eprint,
+    input: &mut [u8],
+    output: &mut [u8],
+) -> Packed
     requires { (512 ≤ length input.old) × (8192 ≤ length output.old) }
     ensures { PackedTo output.new result }
 {
@@ -70,13 +83,13 @@ fn pack_lines(input: &mut [u8], output: &mut [u8]) -> Packed
     let mut line = io::buffer();
     let mut packing = begin();
     loop {
-        let step = library::next_block(STDIN_FILENO, input, reader);
+        let step = library::next_block(from, input, reader);
         let next = step.next;
         let Next::Block { start, length } = next else {
-            return finish(next, &line, packing, output);
+            return finish(to, rt, next, &line, packing, output);
         };
         let end = start + length;
-        let went = pack_piece(&input[start..end], &mut line, packing, output);
+        let went = pack_piece(to, &input[start..end], &mut line, packing, output);
         match went {
             Went::On(after) => {
                 packing = after;
@@ -87,20 +100,36 @@ fn pack_lines(input: &mut [u8], output: &mut [u8]) -> Packed
     }
 }
 
-// The end of the input: the last line may lack its line feed.
-fn finish(next: Next, line: &[u8], packing: Packing, output: &mut [u8]) -> Packed
+// The end of the input: the last line may lack its line feed. Where the input has not ended, that is told.
+fn finish<W: Write>(
+    to: &mut W,
+    rt: &impl Eprint,
+    next: Next,
+    line: &[u8],
+    packing: Packing,
+    output: &mut [u8],
+) -> Packed
     requires { Ready line.now packing (length output.old) }
     ensures { Finishes next line.now packing output.old result output.new }
 {
     let Next::End = next else {
+        tell_unread(rt, error_of(next));
         return Packed::Unread(packing.at);
     };
-    let went = pack_line(line, packing, output);
+    let went = pack_line(to, line, packing, output);
     match went {
         Went::On(after) => Packed::All {
             at: after.at,
             wrong: after.wrong,
         },
         Went::Unwritten(error) => Packed::Unwritten(error),
+    }
+}
+
+// The number of the error with which a read failed, and 0 where none did.
+fn error_of(next: Next) -> i32 {
+    match next {
+        Next::Failed(error) => error,
+        _ => 0,
     }
 }

@@ -5,9 +5,9 @@ ghost use Rattle.pack.specs.Packing.{Ready, PairGoes, LineGoes, PieceGoes};
 
 use crate::cut::MOST_BYTES;
 use crate::{cut, tell};
-use libc::STDOUT_FILENO;
 use output::{Place, make_room};
 use pattern::{LineAnswer, read_line};
+use std::io::Write;
 use writing::WriteAnswer;
 
 // The bytes of a block.
@@ -45,7 +45,13 @@ pub fn begin() -> Packing
 }
 
 // The lines of a piece of the input: those that end in it are packed, and what is left of it is kept.
-pub fn pack_piece(bytes: &[u8], line: &mut [u8], packing: Packing, output: &mut [u8]) -> Went
+pub fn pack_piece<W: Write>(
+    to: &mut W,
+    bytes: &[u8],
+    line: &mut [u8],
+    packing: Packing,
+    output: &mut [u8],
+) -> Went
     requires { Ready line.old packing (length output.old) }
     ensures { PieceGoes bytes.now line.old packing output.old result
         line.new output.new }
@@ -57,7 +63,7 @@ pub fn pack_piece(bytes: &[u8], line: &mut [u8], packing: Packing, output: &mut 
         from += taken.used;
         on.held = taken.held;
         if taken.ended {
-            let went = pack_line(line, on, output);
+            let went = pack_line(to, line, on, output);
             match went {
                 Went::On(after) => {
                     on = after;
@@ -70,7 +76,7 @@ pub fn pack_piece(bytes: &[u8], line: &mut [u8], packing: Packing, output: &mut 
 }
 
 // A line that has ended: a block is made of a pair, and what is wrong is told.
-pub fn pack_line(line: &[u8], packing: Packing, output: &mut [u8]) -> Went
+pub fn pack_line<W: Write>(to: &mut W, line: &[u8], packing: Packing, output: &mut [u8]) -> Went
     requires { Ready line.now packing (length output.old) }
     ensures { LineGoes line.now packing output.old result output.new }
 {
@@ -91,18 +97,24 @@ pub fn pack_line(line: &[u8], packing: Packing, output: &mut [u8]) -> Went
         LineAnswer::Sides {
             left: left_end,
             right: right_end,
-        } => pack_pair(&left[..left_end], &right[..right_end], packing, output),
+        } => pack_pair(to, &left[..left_end], &right[..right_end], packing, output),
     }
 }
 
 // The block of a pair, put behind the others. The sides that were read from a line can be written; a refusal would
 // count as a wrong line.
-fn pack_pair(left: &[u8], right: &[u8], packing: Packing, output: &mut [u8]) -> Went
+fn pack_pair<W: Write>(
+    to: &mut W,
+    left: &[u8],
+    right: &[u8],
+    packing: Packing,
+    output: &mut [u8],
+) -> Went
     requires { (packing.at ≤ length output.old) × (8192 ≤ length output.old) }
     ensures { PairGoes left.now right.now packing output.old result
         output.new }
 {
-    let place = make_room(STDOUT_FILENO, output, packing.at);
+    let place = make_room(to, output, packing.at);
     match place {
         Place::Failed(error) => Went::Unwritten(error),
         Place::At(at) => {

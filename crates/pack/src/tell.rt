@@ -4,22 +4,24 @@ ghost use Rattle.buffer.specs.Put.{Put};
 ghost use Rattle.pack.specs.Told.{words_of, line_named, column_named, wrong_line, long_line};
 
 use buffer::put_bytes;
-use libc::STDERR_FILENO;
 use pattern::Fault;
 use text::put_number;
+
+// The descriptor of standard error.
+const STANDARD_ERROR: i32 = 2;
 
 // Tells that a line is wrong at a column.
 pub fn tell_wrong(line: u64, column: u64, why: Fault) {
     let mut text = [0u8; 256];
     let end = put_wrong(&mut text, line, column, why);
-    io::write_all(STDERR_FILENO, &text[..end]);
+    io::write_all(STANDARD_ERROR, &text[..end]);
 }
 
 // Tells that a line is too long.
 pub fn tell_too_long(line: u64) {
     let mut text = [0u8; 256];
     let end = put_too_long(&mut text, line);
-    io::write_all(STDERR_FILENO, &text[..end]);
+    io::write_all(STANDARD_ERROR, &text[..end]);
 }
 
 // What is told of a wrong line.

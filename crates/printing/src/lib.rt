@@ -1,6 +1,6 @@
 // Printing what is reported of a library, a listing (document 01, "The nightly program"; matching, document 02, R-4) or a
-// census (document 02, R-7): it is read from standard input, and what is found of each block is printed. A program only
-// lends the two buffers and says which report.
+// census (document 02, R-7): it is read from a reader, and what is found of each block is printed to a writer. A program
+// only lends these, its standard input and output, with the two buffers, and says which report.
 
 #![tactic(auto)]
 
@@ -15,31 +15,38 @@ ghost use Rattle.printing.specs.Printed.{ReadyToPrint, StartsBlock, BlockPut};
 ghost use Rattle.printing.specs.Library.{no_counts, Over, Finishes, LibraryPrinted};
 
 use ask::ask;
-use libc::{STDIN_FILENO, STDOUT_FILENO};
 use library::{Next, Reader};
 use lines::put_closing;
 use list::Key;
-use output::ending::{tell_unwritten, write_last};
+use output::ending::{tell_unread, tell_unwritten, write_last};
 use output::{Place, make_room};
 use print::{Listing, line_count, put_lines};
+use std::io::{Eprint, Read, Write};
 use tally::{Report, Totals, closing_lines, expected_number, tally};
 
 // Prints the library, writes out what was not yet, and says whether its last line was written out. What failed is
 // told.
-pub fn run(report: Report, input: &mut [u8], output: &mut [u8]) -> bool
+pub fn run<R: Read, W: Write>(
+    report: Report,
+    from: &mut R,
+    to: &mut W,
+    rt: &impl Eprint,
+    input: &mut [u8],
+    output: &mut [u8],
+) -> bool
     requires in_bounds { 512 ≤ length input.old }
     requires in_bounds_2 { 8192 ≤ length output.old }
 {
-    let printed = print_library(report, input, output);
+    let printed = print_library(report, from, to, input, output);
     match printed {
-        Printed::All(at) => write_last(output, at),
-        Printed::Unread { at, error: _ } => {
-            os::fail(b"standard input");
-            write_last(output, at);
+        Printed::All(at) => write_last(to, rt, output, at),
+        Printed::Unread { at, error } => {
+            tell_unread(rt, error);
+            write_last(to, rt, output, at);
             false
         }
         Printed::Unwritten(error) => {
-            tell_unwritten(error);
+            tell_unwritten(rt, error);
             false
         }
     }
@@ -85,7 +92,13 @@ enum Printed {
 }
 
 // Block by block, until there is none, a read fails or nobody takes the output.
-fn print_library(report: Report, input: &mut [u8], output: &mut [u8]) -> Printed
+fn print_library<R: Read, W: Write>(
+    report: Report,
+    from: &mut R,
+    to: &mut W,
+    input: &mut [u8],
+    output: &mut [u8],
+) -> Printed
     requires in_bounds { 512 ≤ length input.old }
     requires in_bounds_2 { 8192 ≤ length output.old }
     ensures { LibraryPrinted report result output.new }
@@ -94,7 +107,7 @@ fn print_library(report: Report, input: &mut [u8], output: &mut [u8]) -> Printed
     let mut counts = no_counts();
     let mut at = 0;
     loop {
-        let step = library::next_block(STDIN_FILENO, input, reader);
+        let step = library::next_block(from, input, reader);
         let next = step.next;
         let Next::Block { start, length } = next else {
             return finish(report, next, counts, output, at);
@@ -102,7 +115,7 @@ fn print_library(report: Report, input: &mut [u8], output: &mut [u8]) -> Printed
         let end = start + length;
         let started = start_block(report, &input[start..end], counts);
         let listing = started.listing;
-        let place = print_block(listing, output, at);
+        let place = print_block(listing, to, output, at);
         match place {
             Place::At(after) => {
                 at = after;
@@ -145,7 +158,7 @@ fn start_block(report: Report, block: &[u8], counts: Totals) -> Started
 }
 
 // Puts the block's lines into the output buffer step by step, and makes room after each.
-fn print_block(listing: Listing, output: &mut [u8], at: usize) -> Place
+fn print_block<W: Write>(listing: Listing, to: &mut W, output: &mut [u8], at: usize) -> Place
     requires ready_to_print { ReadyToPrint listing }
     requires has_room { HasRoom (length output.old) at }
     ensures { BlockPut listing output.old at result output.new }
@@ -155,7 +168,7 @@ fn print_block(listing: Listing, output: &mut [u8], at: usize) -> Place
     let mut next = at;
     while number < lines {
         let step = put_lines(listing, number, output, next);
-        let place = make_room(STDOUT_FILENO, output, step.at);
+        let place = make_room(to, output, step.at);
         let Place::At(roomy) = place else {
             return place;
         };

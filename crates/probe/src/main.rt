@@ -12,9 +12,13 @@ mod room;
 ghost use Rattle.std.specs.Prelude.{◌≡◌, ◌≤◌, length};
 
 use buffer::least;
-use libc::{STDIN_FILENO, STDOUT_FILENO};
 use question::Header;
 use room::front;
+
+// The descriptors of standard input and output.
+const STANDARD_INPUT: i32 = 0;
+
+const STANDARD_OUTPUT: i32 = 1;
 
 // How many questions are answered at most, so that the program ends.
 const MOST_QUESTIONS: u64 = 1_000_000_000_000;
@@ -32,7 +36,7 @@ fn answer_all(answers: &mut [u8]) {
     let mut used: usize = 0;
     for _ in 0..MOST_QUESTIONS {
         let mut header = [0u8; 20];
-        if io::read_full(STDIN_FILENO, &mut header) < 20 {
+        if io::read_full(STANDARD_INPUT, &mut header) < 20 {
             break;
         }
         let end = answer_next(question::of(header), answers, used);
@@ -62,7 +66,7 @@ fn read_bytes(count: usize) -> [u8; 4096]
 {
     let mut bytes = io::buffer();
     let end = least(count, 4096);
-    io::read_full(STDIN_FILENO, &mut bytes[..end]);
+    io::read_full(STANDARD_INPUT, &mut bytes[..end]);
     bytes
 }
 
@@ -77,5 +81,5 @@ fn flushed(answers: &[u8], used: usize) -> usize {
 
 // Writes out so many bytes of the answers.
 fn write_out(answers: &[u8], used: usize) {
-    io::write_all(STDOUT_FILENO, front(answers, used));
+    io::write_all(STANDARD_OUTPUT, front(answers, used));
 }

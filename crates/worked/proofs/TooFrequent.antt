@@ -1,6 +1,6 @@
 -- Pairs with an atom that is too frequent (document 02, R-2): what each question answers of them, by what it promises
 -- alone. A test computes that nothing before 10 is given and which atom is the lowest.
-use Prim.Native.Nat.{ℕ, ◌≤◌, ◌<◌}
+use Prim.Native.Nat.{ℕ, ◌≤◌}
 use native.Mathlib.Omega.{arith}
 use mathlib.Core.Path.{◌≡◌, refl}
 use mathlib.Core.Bool.{Bool, true}

@@ -18,8 +18,8 @@ few : (sizes : List ℕ) (g : ℕ) → ((k : ℕ) → get_or sizes k 0 ≤ most_
 few sizes g most = omega (arith, most g, most_rows_least g)
 
 -- so their mask has as many ones
-mask-of : (n : ℕ) → n < 64 → 1 * 2 ^ n % 2 ^ 64 ≡ 2 ^ n
-mask-of n h = shl_exact {a = 1} 1 n 64 (omega arith) (omega arith) ∙ omega arith
+mask_of : (n : ℕ) → n < 64 → 1 * 2 ^ n % 2 ^ 64 ≡ 2 ^ n
+mask_of n h = shl_exact {a = 1} 1 n 64 (omega arith) (omega arith) ∙ omega arith
 
 pub loop-g-init : goal.loop-g-init
 loop-g-init c = (omega arith, refl, λ k h. absurd (omega arith))
@@ -36,7 +36,7 @@ overflow_shl-rows c = few c.args.sizes.now c.loop-g.g c.requires
 pub overflow_sub-rows : goal.overflow_sub-rows
 overflow_sub-rows c =
     let n = get_or c.args.sizes.now c.loop-g.g 0 in
-    omega (arith, mask-of n (few c.args.sizes.now c.loop-g.g c.requires), pow_pos n)
+    omega (arith, mask_of n (few c.args.sizes.now c.loop-g.g c.requires), pow_pos n)
 
 pub offset_bounds-rows-g : goal.offset_bounds-rows-g
 offset_bounds-rows-g c = omega arith
@@ -59,7 +59,7 @@ loop-g-preserved c =
       omega arith,
       length-set at.rows at.g mask ∙ at.invariant.1,
       set_more (λ k m. AllRows (get_or sizes k 0) m) at.rows at.g mask (omega arith) at.invariant.2
-          (subst (λ (m : ℕ). AllRows n (m - 1)) (sym (mask-of n (few c.args.sizes.now c.loop-g.g c.requires))) (all_rows_lem n)),
+          (subst (λ (m : ℕ). AllRows n (m - 1)) (sym (mask_of n (few c.args.sizes.now c.loop-g.g c.requires))) (all_rows_lem n)),
     )
 
 pub returns : goal.returns

@@ -15,7 +15,7 @@ use Rattle.ac.specs.Rows.{Group, Groups, GroupsOf}
 use Rattle.ac.specs.Keys.{start}
 use Rattle.ac.proofs.Counts.{count_member}
 use Rattle.ac.proofs.Groups.{groups_unique}
-use Rattle.block.specs.Block.{block_number, left_length, right_length, left_term, right_term, filler, check, check_of_bytes}
+use Rattle.block.specs.Block.{block_number as number_of_block, left_length, right_length, left_term, right_term, filler, check, check_of_bytes}
 use Rattle.block.specs.Table.{NoLength, NoTerm, ReadGiven, block_length, check_differs, block_number, term_length, no_term, filler_byte, short_buffer}
 use Rattle.numbers.specs.Order.{read_numbers, sides_numbers, beginning_numbers}
 use Rattle.block.proofs.Faults.{term_or_fault, fault_is_no_term}
@@ -47,7 +47,7 @@ module _ (block : List ℕ) (number : ℕ) (left right : List ℕ) (long : (leng
   given_2 : ReadGiven block number left right 2 → check block ≡ check_of_bytes block → ⊥
   given_2 (check_differs h) = h
 
-  given_3 : ReadGiven block number left right 3 → block_number block ≡ number → ⊥
+  given_3 : ReadGiven block number left right 3 → number_of_block block ≡ number → ⊥
   given_3 (block_number h) = h
 
   given_4 : ReadGiven block number left right 4 → NoLength (left_length block) ⊎ NoLength (right_length block)
@@ -64,7 +64,7 @@ module _ (block : List ℕ) (number : ℕ) (left right : List ℕ) (long : (leng
       (next (no given_16)
       (next (same_dec block_length given_1 (not_dec (ℕ_discrete (length block) 512)))
       (next (same_dec check_differs given_2 (not_dec (ℕ_discrete (check block) (check_of_bytes block))))
-      (next (same_dec block_number given_3 (not_dec (ℕ_discrete (block_number block) number)))
+      (next (same_dec block_number given_3 (not_dec (ℕ_discrete (number_of_block block) number)))
       (next (same_dec term_length given_4
       (either_dec (no_length_dec (left_length block)) (no_length_dec (right_length block))))
       (next (same_dec no_term given_5 (either_dec (no_term_dec (left_term block)) (no_term_dec (right_term block))))

@@ -21,7 +21,7 @@ use Rattle.tally.specs.Counts.{closing_of}
 use Rattle.tally.specs.declared.Line.{Line}
 use Rattle.tally.specs.declared.Report.{Report}
 use Rattle.lines.specs.Lines.{block_lines, closing_lines}
-use Rattle.lines.specs.Library.{bindings_of, found_by, PairFound, rows_refused, page_refused, a_page, SidesFound, listed, count_refused, a_count, Returns, read_refused, sides, BlocksText, no_more, one_more, counts_of, LibraryText}
+use Rattle.lines.specs.Library.{found_by, PairFound, rows_refused, page_refused, a_page, SidesFound, listed, count_refused, a_count, Returns, read_refused, sides, BlocksText, no_more, one_more, counts_of, LibraryText}
 
 -- what two sides come to
 pub record SameFound (r r' : Outcome BlockFound) (p p' : List (List Binding)) : Type 0 where

@@ -13,7 +13,6 @@ use Rattle.numbers.specs.Outcome.{Outcome}
 use Rattle.tally.specs.Counts.{totals, counted}
 use Rattle.tally.specs.declared.Line.{Line}
 use Rattle.tally.specs.declared.Line.TheVariants.{Listed, Counted, NoUnifier, Refused, RefusedNaming}
-use Rattle.tally.specs.declared.Totals.{Totals}
 use Rattle.tally.specs.declared.Report.{Report}
 use Rattle.lines.specs.Lines.{block_lines}
 use Rattle.lines.specs.Library.{Returns, BlocksText, no_more, one_more, is_listed, is_none, is_refused, how_many, unifiers_in, total, counts_of}

@@ -11,7 +11,7 @@ use Rattle.ac.proofs.Places.{get_d_map, get_or_member}
 use Rattle.pair.specs.Ways.{mode_of}
 use Rattle.pair.specs.declared.ways.Way.{Way}
 use Rattle.table.specs.Table.{groups_in}
-use Rattle.lines.specs.Lines.{substitution_line, end_line}
+use Rattle.lines.specs.Lines.{substitution_line, end_line as line_at_end}
 use Rattle.lines.specs.Library.{bindings_of}
 use Rattle.lines.proofs.Numbered.{lines_length, substitution_line_lem, last_line}
 use Rattle.printing.specs.Printed.{key_count, line_count, page_of, lines_of, Prints}
@@ -60,5 +60,5 @@ module _ {way : Way} {L R : List ℕ} {l : Listing} (prints : Prints way L R l) 
         ∙ substitution_line_lem l.place l.line (page_of way L R l) number some (omega (arith, page-length))
 
   -- what stands after the page
-  pub end_line : (number : ℕ) → number ≡ count + 1 → end_line l.line ≡ get_or (lines_of way L R l) number []
+  pub end_line : (number : ℕ) → number ≡ count + 1 → line_at_end l.line ≡ get_or (lines_of way L R l) number []
   end_line number e = last_line l.place l.line (page_of way L R l) number (omega (arith, page-length))

@@ -14,11 +14,8 @@ use Rattle.tally.specs.declared.Totals.{Totals}
 use Rattle.tally.specs.declared.Report.{Report}
 use Rattle.tally.specs.declared.Report.TheVariants as asks
 use Rattle.pair.specs.declared.ways.Way.{Way}
-use denote.Enum.Declared.{tag_of}
-use types.Run.{OneOf, miss}
 use Rattle.library.specs.Reading.{opened, part}
 use Rattle.library.specs.Library.{Call, HandsOn, Run}
-use Rattle.library.specs.contracts.Next.{the_type}
 use Rattle.library.proofs.Handed.{handed_on}
 use Rattle.library.proofs.Following.{run_block, run_end, run_limit, run_failure}
 use Rattle.library.specs.declared.Reader.{Reader}
@@ -84,16 +81,16 @@ started_more {report} {blocks} {text} {before} {after} {block} few so_far starts
 pub started_text : {report : Report} {blocks : List (List ℕ)} {text : List ℕ} {c : Totals} → Started report blocks text c
     → length blocks ≤ most_blocks report → StartedText report blocks text c
 started_text Started.nothing few = record { lines = []; of_blocks = no_more; the_counts = refl }
-started_text (Started.a_Block {blocks = blocks} {block = block} so_far starts) few =
+started_text (Started.a_block {blocks = blocks} {block = block} so_far starts) few =
     let more = length-append blocks (block ∷ []) in
     started_more few (started_text so_far (omega arith)) starts
 
 -- What is put in steps, joined, is what is left to put when printing begins.
 in_steps : {report : Report} {blocks : List (List ℕ)} {text : List ℕ} {c : Totals} → PutInSteps report blocks text c → Started report blocks text c
 in_steps PutInSteps.nothing = Started.nothing
-in_steps {report} (PutInSteps.a_Block {blocks = blocks} {text = text} {after = after} {block = block} so_far starts steps) =
+in_steps {report} (PutInSteps.a_block {blocks = blocks} {text = text} {after = after} {block = block} so_far starts steps) =
     subst (λ (t : List ℕ). Started report (blocks ++ (block ∷ [])) (text ++ t) after) (stepped_left steps)
-    (Started.a_Block (in_steps so_far) starts)
+    (Started.a_block (in_steps so_far) starts)
 
 -- So it is the definition's text of those blocks.
 pub text_in_steps : {report : Report} {blocks : List (List ℕ)} {text : List ℕ} {c : Totals} → PutInSteps report blocks text c
@@ -101,18 +98,21 @@ pub text_in_steps : {report : Report} {blocks : List (List ℕ)} {text : List �
 text_in_steps steps few = started_text (in_steps steps) few
 
 -- where no block and no read comes next, it is over
-pub over : (n : Next) → OneOf (1 ∷ 2 ∷ 3 ∷ 4 ∷ []) (tag_of the_type n) → (n ≡ next.Wanted → ⊥) → Over n
-over (next.Block start size) other no_read = absurd (miss (1 ∷ 2 ∷ 3 ∷ 4 ∷ []) 0 tt other)
-over next.End other no_read = at_end
-over next.Remains other no_read = input_remains
-over (next.Failed error) other no_read = failed
-over next.Wanted other no_read = absurd (no_read refl)
+pub over : (n : Next) → ((start size : ℕ) → n ≡ next.Block start size → ⊥) → (n ≡ next.Wanted → ⊥) → Over n
+over (next.Block start size) no_block no_read = absurd (no_block start size refl)
+over next.End no_block no_read = at_end
+over next.Remains no_block no_read = input_remains
+over (next.Failed error) no_block no_read = failed
+over next.Wanted no_block no_read = absurd (no_read refl)
 
 -- and nothing else
-pub not_over : (n : Next) → OneOf (0 ∷ 4 ∷ []) (tag_of the_type n) → Over n → ⊥
-not_over next.End other at_end = miss (0 ∷ 4 ∷ []) 1 tt other
-not_over next.Remains other input_remains = miss (0 ∷ 4 ∷ []) 2 tt other
-not_over (next.Failed error) other failed = miss (0 ∷ 4 ∷ []) 3 tt other
+pub not_over : (n : Next) → (n ≡ next.End → ⊥) → (n ≡ next.Remains → ⊥) → ((error : ℤ) → n ≡ next.Failed error → ⊥)
+    → Over n → ⊥
+not_over next.End no_end not_remaining no_failure at_end = no_end refl
+not_over next.Remains no_end not_remaining no_failure input_remains = not_remaining refl
+not_over (next.Failed error) no_end not_remaining no_failure failed = no_failure error refl
+not_over (next.Block start size) no_end not_remaining no_failure over = elim over [ ]
+not_over next.Wanted no_end not_remaining no_failure over = elim over [ ]
 
 -- what is put at the end, where it is known what comes next
 pub finish_as : {report : Report} {c : Totals} {out out' : List ℕ} {at : ℕ} {n n' : Next} {p : Printed} → n ≡ n'
@@ -178,7 +178,7 @@ module _ {report : Report} {input : List ℕ} {r : Reader} {c : Totals} {out : L
         blocks = running.blocks ++ (part start size input' ∷ []);
         text = running.text ++ lines_joined (lines_of begun.way begun.left begun.right l);
         run = run_block running.run handed e;
-        started = Started.a_Block running.started begun;
+        started = Started.a_block running.started begun;
         holds = holds_then (lines_joined (lines_of begun.way begun.left begun.right l)) running.holds
             (to.holds begun.way begun.left begun.right begun.prints);
       }

@@ -46,7 +46,7 @@ use Rattle.tally.specs.declared.Answers.{Answers}
 use Rattle.tally.specs.declared.Tallied.{Tallied}
 use Rattle.lines.specs.Library.{bindings_of, SidesFound, listed, count_refused, a_count, Returns, read_refused, sides, rows_refused, page_refused, a_page}
 use Rattle.printing.specs.Asked.{SolvedPair, PairListed, SidesAsked, BlockAsked}
-use Rattle.printing.specs.Printed.{key_count, ReadyToPrint, StartsBlock}
+use Rattle.printing.specs.Printed.{key_count, StartsBlock}
 use Rattle.printing.specs.declared.ask.Asked.{Asked}
 use Rattle.printing.specs.declared.print.Listing.{Listing}
 

@@ -1,0 +1,36 @@
+-- `printing::finish` meets its contract: the closing lines at the end and where input remains, nothing where a read
+-- failed. Assumes nothing.
+use mathlib.Core.Path.{ap, sym}
+use mir.Syntax.{w32}
+use mir.Val.{SFits}
+use mir.ValLaws.{to_z-of_z}
+use borrow.Author.Rules.{rules}
+use Rattle.lines.specs.Lines.{closing_lines}
+use Rattle.lines.proofs.Putting.{within_as}
+use Rattle.printing.specs.Library.{Finishes}
+use Rattle.printing.proofs.Running.{not_over, finish_as, finish_failed}
+use Rattle.printing.proofs.finish.Goals as goal
+
+pub returns-in-End : goal.returns-in-End
+returns-in-End c =
+    finish_as c.in-End.is
+    (Finishes.ended
+    (within_as (ap closing_lines c.closing_lines.ensures)
+    c.put_closing.ensures))
+
+pub returns-in-Remains : goal.returns-in-Remains
+returns-in-Remains c =
+    finish_as c.in-Remains.is
+    (Finishes.remains
+    (within_as (ap closing_lines c.closing_lines-in-Remains.ensures)
+    c.put_closing-in-Remains.ensures))
+
+pub returns-in-Failed : goal.returns-in-Failed
+returns-in-Failed c =
+    let error = c.in-Failed.error in
+    let fits : SFits w32 error = search rules in
+    finish_failed c.in-Failed.is (sym (to_z-of_z w32 error fits))
+
+pub returns-in_default : goal.returns-in_default
+returns-in_default c =
+    absurd (not_over _ c.in_default.not-End c.in_default.not-Remains c.in_default.not-Failed c.requires.over)

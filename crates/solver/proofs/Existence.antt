@@ -17,7 +17,6 @@ use Rattle.ac.specs.Pair.{Mode}
 use Rattle.ac.specs.Rows.{Groups, GroupsOf}
 use Rattle.ac.specs.Selection.{Selection, value}
 use Rattle.ac.specs.Keys.{layout, keys, key_of, Beginning, start, remaining}
-use Rattle.ac.specs.Pages.{more}
 use Rattle.ac.specs.Replacement.{Replacement, Unifies, ComesFrom}
 use Rattle.ac.proofs.Groups.{groups_exist, groups_unique}
 use Rattle.ac.proofs.Keys.{taken_apart, packed, candidate_selection}

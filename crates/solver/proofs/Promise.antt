@@ -20,7 +20,7 @@ use Rattle.buffer.proofs.Puts.{put_received}
 use Rattle.numbers.specs.Numbers.{number_of, said_of}
 use Rattle.numbers.specs.First.{First, NoneOf}
 use Rattle.numbers.specs.Order.{sides_numbers, beginning_numbers}
-use Rattle.numbers.specs.Outcome.{Outcome, refused, given, is_refused, is_given}
+use Rattle.numbers.specs.Outcome.{refused, given, is_refused, is_given}
 use Rattle.numbers.specs.declared.Refusal.{Refusal}
 use Rattle.numbers.proofs.Said.{refuses_carried, refuses_alone}
 use Rattle.numbers.proofs.Parts.{none_of_sides}

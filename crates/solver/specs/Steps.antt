@@ -4,13 +4,12 @@ use mathlib.Core.List.{List, [], ◌∷◌, ◌++◌, Memᴰ}
 use Rattle.ac.specs.Lists.{receives}
 use Rattle.ac.specs.Limits.{limits}
 use Rattle.ac.specs.Pair.{Mode}
-use Rattle.ac.specs.Rows.{Groups}
 use Rattle.ac.specs.Keys.{layout, keys, Beginning, after, remaining}
 use Rattle.ac.specs.Weighed.{candidates, weighed}
-use Rattle.numbers.specs.Numbers.{number_of, said_of}
+use Rattle.numbers.specs.Numbers.{number_of}
 use Rattle.numbers.specs.First.{First, NoneOf}
 use Rattle.numbers.specs.Order.{sides_numbers, beginning_numbers}
-use Rattle.numbers.specs.Outcome.{Outcome, refused, given}
+use Rattle.numbers.specs.Outcome.{Outcome}
 use Rattle.numbers.specs.declared.Refusal.{Refusal}
 use Rattle.pair.specs.Given.{PairGiven}
 use Rattle.table.specs.Table.{TableOf, groups_in}

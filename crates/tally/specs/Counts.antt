@@ -1,6 +1,6 @@
 -- The counts, and the lines that stand at the end, of a listing (document 01, "The nightly program") and of a census
 -- (document 02, R-7).
-use Rattle.std.specs.Prelude.{ℕ, ◌+◌, ◌-◌, ◌^◌, min, ◌≡◌, Bool, true, false, cond, eqb}
+use Rattle.std.specs.Prelude.{ℕ, ◌+◌, ◌-◌, ◌^◌, min, ◌≡◌, Bool, cond, eqb}
 use Rattle.numbers.specs.Outcome.{Outcome}
 use Rattle.tally.specs.Line.{BlockFound, line_of}
 use Rattle.tally.specs.declared.Line.{Line}

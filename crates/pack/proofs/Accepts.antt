@@ -11,6 +11,7 @@ use Rattle.pack.specs.Packing.{WriteRefuses}
 
 -- each member is such
 each_member : {Such : ℕ → Type 0} {atoms : List ℕ} → Each Such atoms → (a : ℕ) → Memᴰ a atoms → Such a
+each_member {Such = Such} none a x3 = elim x3 [ ]
 each_member {Such} (one_more such rest) a (Memᴰ.head same) = subst Such (sym same) such
 each_member (one_more such rest) a (Memᴰ.tail m) = each_member rest a m
 

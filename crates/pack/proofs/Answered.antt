@@ -8,7 +8,7 @@ use Rattle.pattern.specs.declared.Fault.{Fault}
 use Rattle.pattern.specs.declared.LineAnswer.{LineAnswer}
 use Rattle.pattern.specs.declared.LineAnswer.TheVariants as says
 use Rattle.pack.specs.Cut.{most_bytes, Holds, fits, too_long}
-use Rattle.pack.specs.Packing.{LinePacked, after_line, after_wrong, Behind, PairGoes, LineGoes, goes_on, not_written}
+use Rattle.pack.specs.Packing.{LinePacked, after_line, after_wrong, Behind, PairGoes, LineGoes, goes_on}
 use Rattle.pack.specs.declared.packing.Packing.{Packing}
 use Rattle.pack.specs.declared.packing.Went.{Went}
 use Rattle.pack.specs.declared.packing.Went.TheVariants as went
@@ -123,7 +123,7 @@ module _ {buffer out : List ℕ} {p : Packing} (inside : p.at ≤ length out) wh
         record {
           block = _;
           wrong = false;
-          packed = LinePacked.a_Block known.1
+          packed = LinePacked.a_block known.1
               (subst (λ l. PairLine l (take n left') (take m right')) known.0 (when_pair read is)) block;
           told = or_good p.wrong;
           counted = refl;

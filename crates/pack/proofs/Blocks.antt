@@ -21,7 +21,7 @@ use Rattle.pack.specs.declared.packing.Packing.{Packing}
 use Rattle.pack.specs.declared.packing.Went.TheVariants as went
 
 -- a lent buffer of 512 bytes receives the block and nothing else
-received : {left right lent block : List ℕ} {number : ℕ} {nothing : Unit {0}} → length lent ≡ length (block_of number left right)
+received : {left right lent : List ℕ} {number : ℕ} {block : List ℕ} {nothing : Unit {0}} → length lent ≡ length (block_of number left right)
     → WriteGives left right number lent nothing block → block ≡ block_of number left right
 received {left} {right} {lent} {number = number} size written =
     ap (λ (n : ℕ). block_of number left right ++ drop n lent) (sym size)

@@ -11,8 +11,7 @@ returns-then-room-lt64 c = short_buffer_first (omega (arith, c.least-room.ensure
 pub returns-then-block-ne512 : goal.returns-then-block-ne512
 returns-then-block-ne512 c =
     let room = c.least-room.ensures in
-    promised_refusal (omega (arith, room, c.if-room-lt64.false)) (omega (arith, room, c.if-room-lt64.false))
-    (block_length_first c.if-block-ne512.true)
+    promised_refusal (omega (arith, room)) (omega (arith, room)) (block_length_first c.if-block-ne512.true)
 
 pub read_terms-requires : goal.read_terms-requires
 read_terms-requires c =

@@ -11,7 +11,7 @@ returns-then-block-lt512 c = short_promised c.if-block-lt512.true
 pub returns-then-wrong_lengths : goal.returns-then-wrong_lengths
 returns-then-wrong_lengths c =
     let seven = tells_7 {block = c.args.block.now} c.wrong_length.ensures c.wrong_length-2.ensures in
-    length_promised c.if-block-lt512.false (seven.if_true c.if-wrong_lengths.true)
+    length_promised (omega arith) (seven.if_true c.if-wrong_lengths.true)
 
 pub returns-then-wrong_bytes : goal.returns-then-wrong_bytes
 returns-then-wrong_bytes c =
@@ -26,7 +26,7 @@ returns-then-wrong_sides c =
     let eight = tells_8 {block = c.args.block.now} c.wrong_byte.ensures c.wrong_byte-2.ensures in
     let eighteen = tells_18 {block = c.args.block.now} c.holds_variable.ensures c.holds_variable-2.ensures in
     side_promised c.if-block-lt512.false (seven.if_false c.if-wrong_lengths.false)
-    (eight.if_false c.if-wrong_bytes.false)
+    (eight.if_false (cc))
     (eighteen.if_true c.if-wrong_sides.true)
 
 pub slice_bounds-write_block-end-2 : goal.slice_bounds-write_block-end-2

@@ -1,6 +1,8 @@
 -- `pair::part` meets its contract: it is told whether 9, 10 and 11 are given, and the first that is refuses.
 -- Assumes nothing.
+use borrow.Author.Rules.{rules}
 use mathlib.Core.Path.{refl}
+use native.Mathlib.Omega.{arith}
 use borrow.Author.Tests.{lt-ltb, le-ltb}
 use Rattle.numbers.specs.First.{here, later, also, end}
 use Rattle.numbers.proofs.Verdicts.{decides_refused, decides_naming, decides_accepted}
@@ -12,7 +14,7 @@ use Rattle.pair.proofs.part.Goals as goal
 pub returns-then-many_variables : goal.returns-then-many_variables
 returns-then-many_variables c M L R counted =
     let nine = tells_9 (c.gather-variables.ensures M L R counted).how_many in
-    decides_refused {why = Variables} c.refused.ensures refl (here (nine.if_true (lt-ltb _ _ c.if-many_variables.true)))
+    decides_refused {why = Variables} (search rules) refl (here (nine.if_true (lt-ltb _ _ c.if-many_variables.true)))
 
 pub returns-in-Far : goal.returns-in-Far
 returns-in-Far c M L R counted =
@@ -26,9 +28,9 @@ pub returns-then-many_constants : goal.returns-then-many_constants
 returns-then-many_constants c M L R counted =
     let nine = tells_9 (c.gather-variables.ensures M L R counted).how_many in
     let eleven = tells_11 (c.gather-constants.ensures M L R counted).how_many in
-    decides_refused {why = Constants} c.refused-then-many_constants.ensures refl
-    (later (nine.if_false (le-ltb _ _ c.if-many_variables.false))
-    (later (near_found (c.lowest_far-net_counts.ensures M L R counted) c.in_default.is)
+    decides_refused {why = Constants} (search rules) refl
+    (later (nine.if_false (le-ltb _ _ (omega arith)))
+    (later (near_found (c.lowest_far-net_counts.ensures M L R counted) (search rules))
     (here (eleven.if_true (lt-ltb _ _ c.if-many_constants.true)))))
 
 pub returns : goal.returns

@@ -1,5 +1,6 @@
 -- `pair::take_apart` meets its contract: flags tell whether 7, 8 and 19 are given; where none is, the counts settle the
 -- rest. Assumes nothing.
+use borrow.Author.Rules.{rules}
 use mathlib.Core.Path.{refl}
 use mathlib.Core.Logic.{inr}
 use Rattle.numbers.specs.First.{here, later, also, end}
@@ -15,15 +16,15 @@ pub returns-then-wrong_lengths : goal.returns-then-wrong_lengths
 returns-then-wrong_lengths c =
     let seven = tells_7 (c.least_atoms-least.ensures c.args.left.now c.args.right.now) c.wrong_length.ensures
     c.wrong_length-2.ensures in
-    decides_refused {why = SideLength} c.refused.ensures refl (here (seven.if_true c.if-wrong_lengths.true))
+    decides_refused {why = SideLength} (search rules) refl (here (seven.if_true c.if-wrong_lengths.true))
 
 pub returns-then-wrong_bytes : goal.returns-then-wrong_bytes
 returns-then-wrong_bytes c =
     let seven = tells_7 (c.least_atoms-least.ensures c.args.left.now c.args.right.now) c.wrong_length.ensures
     c.wrong_length-2.ensures in
     let eight = tells_8 c.wrong_byte.ensures c.wrong_byte-2.ensures in
-    decides_refused {why = NoAtom} c.refused-then-wrong_bytes.ensures refl
-    (later (seven.if_false c.if-wrong_lengths.false) (here (eight.if_true c.if-wrong_bytes.true)))
+    decides_refused {why = NoAtom} (search rules) refl
+    (later (seven.if_false (cc)) (here (eight.if_true c.if-wrong_bytes.true)))
 
 pub occurrences-lefts-requires : goal.occurrences-lefts-requires
 occurrences-lefts-requires c =

@@ -18,11 +18,11 @@ get_or_member (x ∷ xs) zero d h = Memᴰ.head refl
 get_or_member (x ∷ xs) (suc i) d h = Memᴰ.tail (get_or_member xs i d (omega arith))
 
 -- what stands at a place of a list that is made member by member
-pub get_d_map {ℓ κ} : {A : Type ℓ} {B : Type κ} (f : A → B) (xs : List A) (i : ℕ) (d : A) (e : B)
+pub get_or-map {ℓ κ} : {A : Type ℓ} {B : Type κ} (f : A → B) (xs : List A) (i : ℕ) (d : A) (e : B)
     → i < length xs → get_or (map f xs) i e ≡ f (get_or xs i d)
-get_d_map f [] i d e h = absurd (omega arith)
-get_d_map f (x ∷ xs) zero d e h = refl
-get_d_map f (x ∷ xs) (suc i) d e h = get_d_map f xs i d e (omega arith)
+get_or-map f [] i d e h = absurd (omega arith)
+get_or-map f (x ∷ xs) zero d e h = refl
+get_or-map f (x ∷ xs) (suc i) d e h = get_or-map f xs i d e (omega arith)
 
 -- the numbers from k on are those from k up to, and not with, k + n
 pub from_bounds : (k n : ℕ) (a : ℕ) → Memᴰ a (from k n) → (k ≤ a) × (a < k + n)

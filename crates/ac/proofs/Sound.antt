@@ -16,7 +16,7 @@ use Rattle.ac.specs.Rows.{Group, Groups, GroupsOf}
 use Rattle.ac.specs.Equation.{dot, on_left, on_right}
 use Rattle.ac.specs.Selection.{Selection, SelectionOf, Within, none, index, Taken, taken_rows, taken_balanced, taken, all_reached, place_of, admissible, value}
 use Rattle.ac.specs.Replacement.{put, occurrences, NonEmpty, Unifies}
-use Rattle.ac.proofs.Places.{get_d_map, get_or_member, place_of-get_or, place_of_lt}
+use Rattle.ac.proofs.Places.{get_or-map, get_or_member, place_of-get_or, place_of_lt}
 use Rattle.ac.proofs.Counts.{same_self, same_other, count_none, count_once, staying}
 use Rattle.ac.proofs.Taken.{total, count-value_at, reached_value, all_reached-reached, admissible_reaches}
 use Rattle.ac.proofs.Replaced.{variables_ascending, unbalanced_ascending, Kind, constant, other, kind_of, count_left, count_right}
@@ -34,7 +34,7 @@ vector_at_places {xs} ascending v long =
     (length-map xs (λ x. get_or v (place_of x xs) 0) ∙ sym long)
     (λ i h.
     let l : i < length xs = omega (arith, length-map xs (λ x. get_or v (place_of x xs) 0)) in
-    get_d_map (λ x. get_or v (place_of x xs) 0) xs i 0 0 l ∙ ap (λ j. get_or v j 0) (place_of-get_or ascending i l))
+    get_or-map (λ x. get_or v (place_of x xs) 0) xs i 0 0 l ∙ ap (λ j. get_or v j 0) (place_of-get_or ascending i l))
 
 -- the product is linear in the vector
 dot_linear : (coefficients : List ℕ) (c : ℕ) (f g : ℕ → ℕ) (xs : List ℕ)

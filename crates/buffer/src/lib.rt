@@ -4,6 +4,8 @@
 
 #![tactic(auto)]
 
+pub mod answer;
+
 ghost use Rattle.std.specs.Prelude.{◌≡◌, ◌+◌, ◌≤◌, ◌<◌, min, length, replicate};
 ghost use Rattle.buffer.specs.Put.{Put};
 

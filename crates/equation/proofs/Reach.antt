@@ -42,11 +42,11 @@ right_gains l r true e small n = omega (arith, mul-le-mul_right n (leb-true r l 
 right_gains l r false e small n = omega (arith, mul-le-mul_right n small)
 
 -- sums that the budgets cannot bridge have no row
-module _ {E : Equation} {p left right : List ℕ} {at : Standing} {mostLeft mostRight : ℕ}
-    (s : Stands E p left right at) (lefts : (i : ℕ) → i < length left → get_or left i 0 ≤ mostLeft)
-    (rights : (i : ℕ) → i < length right → get_or right i 0 ≤ mostRight) where
+module _ {E : Equation} {p left right : List ℕ} {at : Standing} {most_left most_right : ℕ}
+    (s : Stands E p left right at) (lefts : (i : ℕ) → i < length left → get_or left i 0 ≤ most_left)
+    (rights : (i : ℕ) → i < length right → get_or right i 0 ≤ most_right) where
   -- since a row makes them equal and is within the budgets
-  pub no_row_apart : Apart at mostLeft mostRight → (rest : List ℕ) → Minimal E (p ++ rest) → ⊥
+  pub no_row_apart : Apart at most_left most_right → (rest : List ℕ) → Minimal E (p ++ rest) → ⊥
   no_row_apart apart rest minimal = by_side apart
     where
       long : length rest ≡ length left
@@ -61,21 +61,21 @@ module _ {E : Equation} {p left right : List ℕ} {at : Standing} {mostLeft most
       )
 
       left_more : weighted (coefficient left) rest
-          ≤ weighted (coefficient right) rest + up_sum left right rest * mostLeft
+          ≤ weighted (coefficient right) rest + up_sum left right rest * most_left
       left_more =
-          gains mostLeft (coefficient left) (coefficient right) (up (coefficient left) (coefficient right)) rest
+          gains most_left (coefficient left) (coefficient right) (up (coefficient left) (coefficient right)) rest
           (λ i h. left_gains (get_or left i 0) (get_or right i 0) (leb (get_or right i 0) (get_or left i 0)) refl
           (lefts i (omega (arith, long))))
 
       right_more : weighted (coefficient right) rest
-          ≤ weighted (coefficient left) rest + down_sum left right rest * mostRight
+          ≤ weighted (coefficient left) rest + down_sum left right rest * most_right
       right_more =
-          gains mostRight (coefficient right) (coefficient left) (down (coefficient left) (coefficient right)) rest
+          gains most_right (coefficient right) (coefficient left) (down (coefficient left) (coefficient right)) rest
           (λ i h. right_gains (get_or left i 0) (get_or right i 0) (leb (get_or right i 0) (get_or left i 0)) refl
           (rights i (omega (arith, long, s.level))))
 
-      by_side : Apart at mostLeft mostRight → ⊥
+      by_side : Apart at most_left most_right → ⊥
       by_side (left_short h) =
-          omega (arith, equal, left_more, mul-le-mul_right mostLeft (s.within_up rest minimal))
+          omega (arith, equal, left_more, mul-le-mul_right most_left (s.within_up rest minimal))
       by_side (right_short h) =
-          omega (arith, equal, right_more, mul-le-mul_right mostRight (s.within_down rest minimal))
+          omega (arith, equal, right_more, mul-le-mul_right most_right (s.within_down rest minimal))

@@ -21,18 +21,18 @@ use Rattle.equation.proofs.Places.{after_choice_lem, possible, rest_places}
 use Rattle.equation.proofs.Ranges.{room_after}
 
 -- the walk stands before a place, and knows which numbers the place may have
-pub record Choice (limit : ℕ) (left right mostLeft mostRight vector bytes : List ℕ) (place n : ℕ)
+pub record Choice (limit : ℕ) (left right most_left most_right vector bytes : List ℕ) (place n : ℕ)
     (at : Standing) (range : Range) : Type 0 where
-  pub ready : Ready limit left right mostLeft mostRight vector bytes place n at
+  pub ready : Ready limit left right most_left most_right vector bytes place n at
   pub within : place < length left
   pub ranges : Ranges at (get_or left place 0) (get_or right place 0) (eqb (place + 1) (length left)) range
 
 -- so it does before a place that is not the end
-pub choice_here : {limit : ℕ} {left right mostLeft mostRight vector bytes : List ℕ} {place n : ℕ}
+pub choice_here : {limit : ℕ} {left right most_left most_right vector bytes : List ℕ} {place n : ℕ}
     {at : Standing} {range : Range}
-    → Ready limit left right mostLeft mostRight vector bytes place n at → (place ≡ length left → ⊥)
+    → Ready limit left right most_left most_right vector bytes place n at → (place ≡ length left → ⊥)
     → Ranges at (get_or left place 0) (get_or right place 0) (eqb (place + 1) (length left)) range
-    → Choice limit left right mostLeft mostRight vector bytes place n at range
+    → Choice limit left right most_left most_right vector bytes place n at range
 choice_here ready not_end ranges = record { ready = ready; within = omega (arith, ready.within); ranges = ranges }
 
 -- from there it has reached some rows: the numbers before the place are as they were
@@ -47,17 +47,17 @@ pub record Reached (limit : ℕ) (left right vector₀ bytes₀ : List ℕ) (pla
       → HoldsRows limit (length E.left) (Row E) bytes n
 
 -- it is to go through the vectors with a number at the place
-pub record Turn (limit : ℕ) (left right mostLeft mostRight vector₀ bytes₀ : List ℕ) (place n₀ : ℕ)
+pub record Turn (limit : ℕ) (left right most_left most_right vector₀ bytes₀ : List ℕ) (place n₀ : ℕ)
     (at : Standing) (range : Range)
     (vector bytes : List ℕ) (number n : ℕ) : Type 0 where
-  pub choice : Choice limit left right mostLeft mostRight vector₀ bytes₀ place n₀ at range
+  pub choice : Choice limit left right most_left most_right vector₀ bytes₀ place n₀ at range
   pub small : number ≤ range.most
   pub reached : Reached limit left right vector₀ bytes₀ place n₀ at
       (λ E. RowBefore E (take place vector₀ ++ number ∷ [])) vector bytes n
 
-module _ {limit : ℕ} {left right mostLeft mostRight vector₀ bytes₀ : List ℕ} {place n₀ : ℕ} {at : Standing}
+module _ {limit : ℕ} {left right most_left most_right vector₀ bytes₀ : List ℕ} {place n₀ : ℕ} {at : Standing}
     {range : Range}
-    (choice : Choice limit left right mostLeft mostRight vector₀ bytes₀ place n₀ at range) where
+    (choice : Choice limit left right most_left most_right vector₀ bytes₀ place n₀ at range) where
   stands_here : {E : Equation} → Stands E (take place vector₀) (drop place left) (drop place right) at
       → Stands E (take place vector₀) (get_or left place 0 ∷ drop (suc place) left)
       (get_or right place 0 ∷ drop (suc place) right) at
@@ -93,7 +93,7 @@ module _ {limit : ℕ} {left right mostLeft mostRight vector₀ bytes₀ : List 
 
   -- the first turn: no row has a smaller number
   pub first_turn : range.first ≤ range.most
-      → Turn limit left right mostLeft mostRight vector₀ bytes₀ place n₀ at range vector₀ bytes₀ range.first n₀
+      → Turn limit left right most_left most_right vector₀ bytes₀ place n₀ at range vector₀ bytes₀ range.first n₀
   first_turn some =
       record {
         choice = choice;
@@ -108,10 +108,10 @@ module _ {limit : ℕ} {left right mostLeft mostRight vector₀ bytes₀ : List 
         };
       }
 
-module _ {limit : ℕ} {left right mostLeft mostRight vector₀ bytes₀ : List ℕ} {place n₀ : ℕ} {at : Standing}
+module _ {limit : ℕ} {left right most_left most_right vector₀ bytes₀ : List ℕ} {place n₀ : ℕ} {at : Standing}
     {range : Range}
     {vector bytes : List ℕ} {number n : ℕ}
-    (turn : Turn limit left right mostLeft mostRight vector₀ bytes₀ place n₀ at range vector bytes number n)
+    (turn : Turn limit left right most_left most_right vector₀ bytes₀ place n₀ at range vector bytes number n)
     {next : Standing} (is_next : next ≡ after_choice at (get_or left place 0) (get_or right place 0) number) where
   prefix_here : take (place + 1) (set vector place number) ≡ take place vector₀ ++ (number ∷ [])
   prefix_here =
@@ -123,7 +123,7 @@ module _ {limit : ℕ} {left right mostLeft mostRight vector₀ bytes₀ : List 
 
   -- the walk goes on from the next place
   pub ready_next : get_or left place 0 < 256 → get_or right place 0 < 256
-      → Ready limit left right mostLeft mostRight (set vector place number) bytes (place + 1) n next
+      → Ready limit left right most_left most_right (set vector place number) bytes (place + 1) n next
   ready_next left_byte right-byte =
       let ready = turn.choice.ready in
       record {
@@ -168,7 +168,7 @@ module _ {limit : ℕ} {left right mostLeft mostRight vector₀ bytes₀ : List 
 
     -- the next number's turn
     pub next_turn : (number ≡ range.most → ⊥)
-        → Turn limit left right mostLeft mostRight vector₀ bytes₀ place n₀ at range vector' bytes' (number + 1) n'
+        → Turn limit left right most_left most_right vector₀ bytes₀ place n₀ at range vector' bytes' (number + 1) n'
     next_turn more =
         record {
           choice = turn.choice;

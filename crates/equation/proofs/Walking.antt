@@ -21,8 +21,8 @@ full_advances full (few small found) = absurd (omega arith)
 full_advances full (more ascending only many) =
     more ascending (λ v m. ((only v m).0, before_upto (only v m).1)) many
 
-module _ {limit : ℕ} {left right mostLeft mostRight vector bytes : List ℕ} {place n : ℕ} {at : Standing}
-    (ready : Ready limit left right mostLeft mostRight vector bytes place n at) where
+module _ {limit : ℕ} {left right most_left most_right vector bytes : List ℕ} {place n : ℕ} {at : Standing}
+    (ready : Ready limit left right most_left most_right vector bytes place n at) where
   -- enough are found already
   pub walks_full : limit < n → Walks limit left right vector bytes place n at vector bytes n
   walks_full full = record { counted = ready.counted; prefix = refl; found = λ E s. full_advances full }
@@ -53,7 +53,7 @@ module _ {limit : ℕ} {left right mostLeft mostRight vector bytes : List ℕ} {
           ) at s))
 
   -- no row begins with the prefix
-  pub walks_apart : place < length left → Apart at (get_or mostLeft place 0) (get_or mostRight place 0)
+  pub walks_apart : place < length left → Apart at (get_or most_left place 0) (get_or most_right place 0)
       → Walks limit left right vector bytes place n at vector bytes n
   walks_apart within apart =
       record {
@@ -62,10 +62,10 @@ module _ {limit : ℕ} {left right mostLeft mostRight vector bytes : List ℕ} {
         found = λ E s. skip (take place vector) (no_row_apart s lefts rights apart);
       }
     where
-      lefts : (i : ℕ) → i < length (drop place left) → get_or (drop place left) i 0 ≤ get_or mostLeft place 0
+      lefts : (i : ℕ) → i < length (drop place left) → get_or (drop place left) i 0 ≤ get_or most_left place 0
       lefts i h = rw get_or-drop (ready.left_tops place (place + i) (omega arith)
           (omega (arith, length-drop place left)))
 
-      rights : (i : ℕ) → i < length (drop place right) → get_or (drop place right) i 0 ≤ get_or mostRight place 0
+      rights : (i : ℕ) → i < length (drop place right) → get_or (drop place right) i 0 ≤ get_or most_right place 0
       rights i h = rw get_or-drop (ready.right_tops place (place + i) (omega arith)
           (omega (arith, length-drop place right)))

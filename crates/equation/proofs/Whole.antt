@@ -24,10 +24,10 @@ use Rattle.equation.proofs.Prefix.{nothing_before}
 use Rattle.equation.proofs.Tops.{at_most_everywhere}
 
 -- budgets from the largest coefficients, the offsets among them, are enough
-pub starts_from_largest : {left right : List ℕ} {a b mostLeft mostRight : ℕ} {h : Bool} {standing : Standing}
-    → AtMost left 0 mostLeft → AtMost right 0 mostRight
+pub starts_from_largest : {left right : List ℕ} {a b most_left most_right : ℕ} {h : Bool} {standing : Standing}
+    → AtMost left 0 most_left → AtMost right 0 most_right
     → standing.left ≡ a → standing.right ≡ b → standing.counts ≡ not h
-    → standing.up ≡ max 1 (max b mostRight) → standing.down ≡ max a mostLeft
+    → standing.up ≡ max 1 (max b most_right) → standing.down ≡ max a most_left
     → standing.up < 256 → standing.down < 256 → Starts (equation left right a b h) standing
 starts_from_largest {left} {right} lefts rights left_sum right_sum counts up_budget down_budget up_byte down_byte =
     record {
@@ -68,11 +68,11 @@ stands_start {E} level starts =
     }
 
 -- before the first place everything has its length, and nothing is found
-pub ready_start : {limit : ℕ} {left right bytes mostLeft mostRight vector : List ℕ} {E : Equation}
+pub ready_start : {limit : ℕ} {left right bytes most_left most_right vector : List ℕ} {E : Equation}
     {standing : Standing} → Searchable limit left right bytes
-    → Starts E standing → Tops left mostLeft → Tops right mostRight → length mostLeft ≡ 6
-    → length mostRight ≡ 6 → length vector ≡ length left
-    → Ready limit left right mostLeft mostRight vector bytes 0 0 standing
+    → Starts E standing → Tops left most_left → Tops right most_right → length most_left ≡ 6
+    → length most_right ≡ 6 → length vector ≡ length left
+    → Ready limit left right most_left most_right vector bytes 0 0 standing
 ready_start searchable starts lefts rights six_lefts six_rights vectors =
     record {
       rights = searchable.rights;

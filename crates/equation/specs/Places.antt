@@ -40,9 +40,9 @@ pub record Room (at : Standing) : Type 0 where
   pub right_room : at.right + 255 * (at.up + at.down) < 2 ^ 32
 
 -- the two sums are further apart than the budgets can bridge, where no coefficient that is left is above these
-pub data Apart (at : Standing) (mostLeft mostRight : ℕ) : Type 0 where
-  left_short : at.left + at.up * mostLeft < at.right → Apart at mostLeft mostRight
-  right_short : at.right + at.down * mostRight < at.left → Apart at mostLeft mostRight
+pub data Apart (at : Standing) (most_left most_right : ℕ) : Type 0 where
+  left_short : at.left + at.up * most_left < at.right → Apart at most_left most_right
+  right_short : at.right + at.down * most_right < at.left → Apart at most_left most_right
 
 -- A number that a place with these coefficients may have in a row: within its budget; at the last place with
 -- the two sums equal; and where the coefficients are equal, so that one unit less solves too, only what keeps

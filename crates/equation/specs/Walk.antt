@@ -34,24 +34,24 @@ pub record Starts (E : Equation) (at : Standing) : Type 0 where
 
 -- so it begins for every equation with these offsets whose coefficients are at most these numbers
 abbrev pub StartsAll : ℕ → ℕ → Offsets → Standing → Type 0
-StartsAll mostLeft mostRight offsets at =
-    (left right : List ℕ) → AtMost left 0 mostLeft → AtMost right 0 mostRight
+StartsAll most_left most_right offsets at =
+    (left right : List ℕ) → AtMost left 0 most_left → AtMost right 0 most_right
     → Starts (equation_with left right offsets) at
 
 -- coefficients with their tops, a vector and bytes of the lengths that go with them, and a place of the vector
-pub record Ready (limit : ℕ) (left right mostLeft mostRight vector bytes : List ℕ) (place n : ℕ)
+pub record Ready (limit : ℕ) (left right most_left most_right vector bytes : List ℕ) (place n : ℕ)
     (at : Standing) : Type 0 where
   pub rights : length right ≡ length left
-  pub most_lefts : length left ≤ length mostLeft
-  pub most_rights : length left ≤ length mostRight
+  pub most_lefts : length left ≤ length most_left
+  pub most_rights : length left ≤ length most_right
   pub vectors : length vector ≡ length left
   pub bytes_room : limit * length left ≤ length bytes
   pub limited : limit < 65536
   pub within : place ≤ length left
   pub counted : n ≤ suc limit
   pub room : Room at
-  pub left_tops : Tops left mostLeft
-  pub right_tops : Tops right mostRight
+  pub left_tops : Tops left most_left
+  pub right_tops : Tops right most_right
 
 -- the numbers before the place stay, and the rows that begin with them are found
 pub record Walks (limit : ℕ) (left right vector bytes : List ℕ) (place n : ℕ) (at : Standing)

@@ -1,9 +1,6 @@
 -- Reading a library (document 01, "A library block" and "The nightly program"): the bytes that wait, what
 -- comes next of them, and what the answer of a call of read says.
-use Rattle.std.specs.Prelude.{ℕ, zero, suc, ◌+◌, ◌-◌, ◌≤◌, ◌<◌, min, ◌≡◌, List, ◌++◌, length, take, drop, ℤ, pos, negsuc, Result, Ok, Err, None, Some}
-use Rattle.std.specs.declared.option.Option.{Option}
-use Rattle.std.specs.IoError.{raw_os_error}
-use Rattle.std.specs.declared.io.Error.{Error}
+use Rattle.std.specs.Prelude.{ℕ, zero, suc, ◌+◌, ◌-◌, ◌≤◌, ◌<◌, min, ◌≡◌, List, ◌++◌, length, take, drop, ℤ, pos, negsuc}
 use Rattle.library.specs.declared.Reader.{Reader}
 use Rattle.library.specs.declared.Input.{Input}
 use Rattle.library.specs.declared.Input.TheVariants as input
@@ -91,25 +88,6 @@ told said r = record { at = r.at; filled = r.filled; left = r.left; retries = r.
 -- the system's number for a call that a signal interrupted (EINTR)
 abbrev pub interrupted : ℤ
 interrupted = pos 4
-
--- the longest that an answer says
-abbrev pub longest : ℕ
-longest = 9223372036854775807
-
--- A call of read answers how many bytes came, or a negative number where it failed ..
-abbrev pub answer_of : Result ℕ Error → ℤ
-answer_of (Ok n) = pos (min n longest)
-answer_of (Err error) = negsuc 0
-
--- the error's number, 0 where it is none of the system's
-abbrev pub number_of : Option ℤ → ℤ
-number_of None = pos 0
-number_of (Some number) = number
-
--- .. and then there is an error
-abbrev pub error_of : Result ℕ Error → ℤ
-error_of (Ok n) = pos 0
-error_of (Err error) = number_of (raw_os_error error)
 
 -- What a call that failed with this error says: an interrupted one is tried again as long as that may be
 -- done; any other error is a failure that is told.

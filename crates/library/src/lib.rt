@@ -7,11 +7,11 @@
 #![tactic(auto)]
 
 ghost use Rattle.std.specs.Prelude.{◌≡◌, ◌+◌, ◌-◌, ◌≤◌, ◌<◌, length};
-ghost use Rattle.library.specs.Reading.{opened, wanted, handed, room_made, moved, told, answer_of, error_of};
+ghost use Rattle.library.specs.Reading.{opened, wanted, handed, room_made, moved, told};
 ghost use Rattle.library.specs.Reading.{ReaderFits, Comes, Misses, Takes};
 ghost use Rattle.library.specs.Library.{ReadsOnce, HandsOn};
 
-use buffer::least;
+use buffer::answer::answer_of;
 use std::io::Read;
 
 // The bytes of a block.
@@ -22,9 +22,6 @@ const RETRIES: u64 = 1_000_000;
 
 // The system's number for the error of a call that a signal interrupted (EINTR).
 const INTERRUPTED: i32 = 4;
-
-// The longest that an answer says.
-const LONGEST: usize = 9_223_372_036_854_775_807;
 
 // What the calls of read have said of the input so far: more may come, it has ended, or a call failed, with
 // the system's number for the error.
@@ -45,14 +42,6 @@ pub struct Reader {
     pub left: u64,
     pub retries: u64,
     pub input: Input,
-}
-
-// What a call of read answered: how many bytes came, or -1 and the error's number, which is 0 where the error is none
-// of the system's.
-#[derive(Clone, Copy)]
-struct Answer {
-    came: isize,
-    error: i32,
 }
 
 // What comes next: a block, by its place in the buffer, where only the last may have fewer than 512 bytes;
@@ -176,24 +165,7 @@ fn read_more<R: Read>(input: &mut R, buffer: &mut [u8], reader: Reader) -> Reade
     let ready = make_room(buffer, reader);
     let filled = ready.filled;
     let answer = answer_of(input.read(&mut buffer[filled..]));
-    took(ready, buffer, answer.came, answer.error)
-}
-
-// What a call of read answered, in numbers.
-fn answer_of(answered: std::io::Result<usize>) -> Answer
-    ensures came { result.came ≡ answer_of answered }
-    ensures error { result.error ≡ error_of answered }
-{
-    match answered {
-        Ok(came) => Answer {
-            came: least(came, LONGEST) as isize,
-            error: 0,
-        },
-        Err(error) => Answer {
-            came: -1,
-            error: error.raw_os_error().unwrap_or(0),
-        },
-    }
+    took(ready, buffer, answer.moved, answer.error)
 }
 
 // Moves the bytes that wait to the buffer's start.

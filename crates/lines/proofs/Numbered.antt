@@ -7,7 +7,7 @@ use mathlib.Core.List.{List, [], ◌∷◌, map}
 use lib.ListN.{length, get_or, length-append, length-map, get_or-append}
 use lib.Seq.{get_or-append_seam}
 use Rattle.ac.specs.Values.{Binding}
-use Rattle.ac.proofs.Places.{get_d_map}
+use Rattle.ac.proofs.Places.{get_or-map}
 use Rattle.tally.specs.declared.Line.{Line}
 use Rattle.lines.specs.Lines.{block_line, substitution_line, end_line, block_lines}
 
@@ -32,7 +32,7 @@ module _ (P : ℕ) (line : Line) (page : List (List Binding)) where
       let before : i < length page = omega arith in
       let within_lines : i < length substitutions = omega (arith, length-map page substitution_line) in
       ap (λ (k : ℕ). substitution_line (get_or page k [])) (let e : suc i - 1 ≡ i = omega arith in e)
-      ∙ sym (get_d_map substitution_line page i [] [] before)
+      ∙ sym (get_or-map substitution_line page i [] [] before)
       ∙ sym (get_or-append substitutions (end_line line ∷ []) [] i within_lines)
 
   -- and what stands after the page

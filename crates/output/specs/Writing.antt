@@ -1,29 +1,7 @@
--- What a write answers, and what follows from it.
-use Rattle.std.specs.Prelude.{ℕ, zero, suc, ◌+◌, ◌-◌, min, cond, eqb, ℤ, pos, negsuc, Result, Ok, Err, None, Some}
-use Rattle.std.specs.declared.option.Option.{Option}
-use Rattle.std.specs.IoError.{raw_os_error}
-use Rattle.std.specs.declared.io.Error.{Error}
+-- What follows from the answer of a write.
+use Rattle.std.specs.Prelude.{ℕ, zero, suc, ◌+◌, ◌-◌, min, cond, eqb, ℤ, pos, negsuc}
 use Rattle.output.specs.declared.Onward.{Onward}
 use Rattle.output.specs.declared.Onward.TheVariants.{From, Failed}
-
--- the longest that an answer says
-abbrev pub longest : ℕ
-longest = 9223372036854775807
-
--- A call of write answers how many bytes it took, or a negative number where it failed ..
-abbrev pub answer_of : Result ℕ Error → ℤ
-answer_of (Ok taken) = pos (min taken longest)
-answer_of (Err error) = negsuc 0
-
--- the error's number, 0 where it is none of the system's
-abbrev pub number_of : Option ℤ → ℤ
-number_of None = pos 0
-number_of (Some number) = number
-
--- .. and then there is an error
-abbrev pub error_of : Result ℕ Error → ℤ
-error_of (Ok taken) = pos 0
-error_of (Err error) = number_of (raw_os_error error)
 
 -- so many of the bytes were taken, and it goes on behind them; 0 says that nothing will be taken
 abbrev pub after_bytes : ℕ → ℕ → ℕ → Onward

@@ -11,9 +11,10 @@
 pub mod ending;
 
 ghost use Rattle.std.specs.Prelude.{◌≡◌, ◌+◌, ◌≤◌, leb, length};
-ghost use Rattle.output.specs.Writing.{answer_of, error_of, after_write, after_error};
+ghost use Rattle.output.specs.Writing.{after_write, after_error};
 ghost use Rattle.output.specs.Room.{MakesRoom};
 
+use buffer::answer::answer_of;
 use buffer::least;
 use std::io::Write;
 
@@ -26,22 +27,11 @@ pub const TRIES: usize = 1_000_000;
 // The system's number for the error of a call that a signal interrupted (EINTR).
 const INTERRUPTED: i32 = 4;
 
-// The longest that an answer says.
-const LONGEST: usize = 9_223_372_036_854_775_807;
-
 // Where a step ends: the number of the next line, and the place in the buffer after what was put.
 #[derive(Clone, Copy)]
 pub struct Progress {
     pub line: usize,
     pub at: usize,
-}
-
-// What a call of write answered: how many bytes it took, or -1 and the error's number, which is 0 where the error is
-// none of the system's.
-#[derive(Clone, Copy)]
-struct Answer {
-    taken: isize,
-    error: i32,
 }
 
 // What follows from a write's answer: to go on from a place in the buffer, where an interrupted write may be tried
@@ -109,23 +99,6 @@ fn after_error(written: usize, tries: usize, error: i32) -> Onward
     }
 }
 
-// What a call of write answered, in numbers.
-fn answer_of(answered: std::io::Result<usize>) -> Answer
-    ensures taken { result.taken ≡ answer_of answered }
-    ensures error { result.error ≡ error_of answered }
-{
-    match answered {
-        Ok(taken) => Answer {
-            taken: least(taken, LONGEST) as isize,
-            error: 0,
-        },
-        Err(error) => Answer {
-            taken: -1,
-            error: error.raw_os_error().unwrap_or(0),
-        },
-    }
-}
-
 // Writes out the first bytes of the buffer, up to the place where it is filled.
 pub fn write_out<W: Write>(to: &mut W, out: &[u8], filled: usize) -> Written
     requires { filled ≤ length out.now }
@@ -134,7 +107,7 @@ pub fn write_out<W: Write>(to: &mut W, out: &[u8], filled: usize) -> Written
     let mut tries = TRIES;
     while written < filled {
         let answer = answer_of(to.write(&out[written..filled]));
-        let next = after_write(written, filled, tries, answer.taken, answer.error);
+        let next = after_write(written, filled, tries, answer.moved, answer.error);
         match next {
             Onward::From {
                 written: place,

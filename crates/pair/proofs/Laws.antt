@@ -9,7 +9,7 @@ use lib.Seq.{take_at}
 use lib.IntN.{nat_abs}
 use Rattle.ac.specs.Pair.{Mode, count, net, variables, unbalanced}
 use Rattle.ac.proofs.Longest.{Near}
-use Rattle.ac.proofs.Places.{get_d_map}
+use Rattle.ac.proofs.Places.{get_or-map}
 use Rattle.numbers.specs.First.{NoneOf}
 use Rattle.numbers.proofs.Carried.{elsewhere, none_given, its_member}
 use Rattle.ac.specs.Limits.{Limits}
@@ -27,7 +27,7 @@ take-padded list {n} how_many = take_at list _ n (sym how_many)
 -- each place in use has what was made of the atom there
 get_or-padded : (f : ℕ → ℕ) (list : List ℕ) {i : ℕ} → i < length list
     → get_or (padded (map f list)) i 0 ≡ f (get_or list i 0)
-get_or-padded f list {i} used = get_or-append (map f list) _ 0 i (rw length-map used) ∙ get_d_map f list i 0 0 used
+get_or-padded f list {i} used = get_or-append (map f list) _ 0 i (rw length-map used) ∙ get_or-map f list i 0 0 used
 
 module _ {L R found : List ℕ} {gathered : Gathered} (held : Held L R found gathered) where
   -- the places in use hold the atoms found and the two parts of their net counts

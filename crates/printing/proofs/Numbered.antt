@@ -7,7 +7,7 @@ use lib.ListN.{length, get_or, take, length-map}
 use lib.Seq.{get_or-take, length-take-le}
 use Rattle.ac.specs.Keys.{layout, keys}
 use Rattle.ac.specs.Values.{Binding}
-use Rattle.ac.proofs.Places.{get_d_map, get_or_member}
+use Rattle.ac.proofs.Places.{get_or-map, get_or_member}
 use Rattle.pair.specs.Ways.{mode_of}
 use Rattle.pair.specs.declared.ways.Way.{Way}
 use Rattle.table.specs.Table.{groups_in}
@@ -56,7 +56,7 @@ module _ {way : Way} {L R : List ℕ} {l : Listing} (prints : Prints way L R l) 
     key_line =
         let here : number - 1 < length printed = omega (arith, before, printed_length) in
         ap (λ (key : ℕ). substitution_line (substitution key)) (sym same_key)
-        ∙ ap substitution_line (sym (get_d_map substitution printed (number - 1) 0 [] here))
+        ∙ ap substitution_line (sym (get_or-map substitution printed (number - 1) 0 [] here))
         ∙ substitution_line_lem l.place l.line (page_of way L R l) number some (omega (arith, page-length))
 
   -- what stands after the page

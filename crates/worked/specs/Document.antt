@@ -36,8 +36,8 @@ between mark [] = []
 between mark (item ∷ items) = item ++ behind mark items
 
 -- two items are joined by a word, others by commas
-abbrev in_aRow : List (List ℕ) → List ℕ
-in_aRow items = between (cond (eqb (length items) 2) (ascii " and ") (ascii ", ")) items
+abbrev in_a_row : List (List ℕ) → List ℕ
+in_a_row items = between (cond (eqb (length items) 2) (ascii " and ") (ascii ", ")) items
 
 -- a small number as a word
 abbrev word : ℕ → List ℕ
@@ -66,7 +66,7 @@ row_in_words (k ∷ row) = decimal k ++ row_in_words row
 abbrev keys_in_words : List ℕ → List ℕ
 keys_in_words [] = decimal (number_of NoUnifier)
 keys_in_words (key ∷ []) = ascii "key " ++ grouped key
-keys_in_words (key ∷ next ∷ keys) = ascii "keys " ++ in_aRow (map grouped (key ∷ next ∷ keys))
+keys_in_words (key ∷ next ∷ keys) = ascii "keys " ++ in_a_row (map grouped (key ∷ next ∷ keys))
 
 -- a substitution
 abbrev values_in_words : List Binding → List ℕ
@@ -76,7 +76,7 @@ values_in_words (b ∷ bs) = substitution (b ∷ bs)
 -- what is printed of a pair, in words
 abbrev in_words : Printed → List ℕ
 in_words (how_many k) = word k
-in_words (rows rs) = ascii "rows " ++ in_aRow (map row_in_words rs)
+in_words (rows rs) = ascii "rows " ++ in_a_row (map row_in_words rs)
 in_words (balanced_rows k) =
     ascii "though there "
     ++ cond (eqb k 1) (ascii "is a balanced row") (ascii "are " ++ word k ++ ascii " balanced rows")

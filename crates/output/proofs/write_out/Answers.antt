@@ -7,7 +7,7 @@ use Rattle.output.proofs.write_out.Goals as goal
 pub loop-written-smaller : goal.loop-written-smaller
 loop-written-smaller g c =
     let said = c.answer_of-answer.result in
-    let answer = to_z w64 (of_z w64 said.taken) in
+    let answer = to_z w64 (of_z w64 said.moved) in
     let error = to_z w32 (of_z w32 said.error) in
     (onward {tries = c.loop-written.tries} c.loop-written-test.true answer error c.after_write-next.ensures
     c.in-From.is).less
@@ -15,7 +15,7 @@ loop-written-smaller g c =
 pub loop-written-preserved : goal.loop-written-preserved
 loop-written-preserved g c =
     let said = c.answer_of-answer.result in
-    let answer = to_z w64 (of_z w64 said.taken) in
+    let answer = to_z w64 (of_z w64 said.moved) in
     let error = to_z w32 (of_z w32 said.error) in
     (onward {tries = c.loop-written.tries} c.loop-written-test.true answer error c.after_write-next.ensures
     c.in-From.is).within

@@ -1,22 +1,12 @@
--- Read's contract determines the answer and both buffers.
-use Rattle.std.proofs.Common.{◌≡◌, ℕ, List, refl, ap}
-use Rattle.numbers.specs.Outcome.{Outcome, refused, given, NamesNone}
-use Rattle.numbers.proofs.Laws.{refusal_of, refusal_of_said_of}
-use Rattle.numbers.proofs.Promises.{OneResult, answer_determined}
+-- Read's contract determines the result and both buffers.
+use Rattle.std.proofs.Common.{◌≡◌, ℕ, List, Result, refl, ap}
+use Rattle.numbers.specs.Outcome.{NamesNone}
+use Rattle.numbers.specs.declared.Refusal.{Refusal}
+use Rattle.numbers.proofs.Promises.{OneResult}
+use Rattle.numbers.proofs.Told.{result_determined}
 use Rattle.block.specs.Read.{SideLengths, told_read, ReadGives, sides, ReadPromise}
-use Rattle.block.specs.declared.ReadAnswer.{ReadAnswer}
-use Rattle.block.specs.declared.ReadAnswer.TheVariants.{Sides, Refused}
+use Rattle.block.specs.declared.Sides.{Sides}
 use Rattle.block.proofs.Terms.{writes_unique}
-
--- which answer an outcome is of
-answer_of : Outcome SideLengths → ReadAnswer
-answer_of (refused said) = Refused (refusal_of said)
-answer_of (given lengths) = Sides lengths.left lengths.right
-
-answer_of_told : (a : ReadAnswer) → answer_of (told_read a) ≡ a
-unfolding answer_of
-answer_of_told (Sides left right) = refl
-answer_of_told (Refused why) = ap Refused (refusal_of_said_of why)
 
 -- bytes are one term, so the sides are one
 sides_once : {block left right : List ℕ} (v v' : SideLengths) (b b' : List ℕ × List ℕ)
@@ -30,12 +20,12 @@ sides_once _ _ _ _ (sides w v) (sides w' v') =
 pub one_read : {block left right : List ℕ} → OneResult NamesNone (ReadGives block left right)
 one_read = record { one_atom = λ a b names names'. absurd names; one_result = sides_once }
 
--- Two answers, each with its pair of buffers, that meet the promise are identical.
+-- Two results, each with its pair of buffers, that meet the promise are identical.
 pub read_determined :
-    {block : List ℕ} {number : ℕ} {left right : List ℕ} {a a' : ReadAnswer} {l l' r r' : List ℕ} →
-    ReadPromise block number left right (told_read a) l r →
-    ReadPromise block number left right (told_read a') l' r' →
-    (a ≡ a') × (l ≡ l') × (r ≡ r')
+    {block : List ℕ} {number : ℕ} {left right : List ℕ} {r r' : Result Sides Refusal} {x x' y y' : List ℕ} →
+    ReadPromise block number left right (told_read r) x y →
+    ReadPromise block number left right (told_read r') x' y' →
+    (r ≡ r') × (x ≡ x') × (y ≡ y')
 read_determined p p' =
-    let same = answer_determined one_read answer_of answer_of_told p p' in
+    let same = result_determined (λ lengths. record { left = lengths.left; right = lengths.right }) (λ sides. refl) one_read p p' in
     (same.0, ap (λ b. b.0) same.1, ap (λ b. b.1) same.1)

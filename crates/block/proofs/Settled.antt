@@ -1,7 +1,7 @@
 -- Which number is the first that a block gives: a law for each way in which reading it ends.
-use Rattle.std.proofs.Common.{◌≡◌, ℕ, ◌<◌, ◌≤◌, min, Bool, true, false, not, eqb, ◌⊎◌, List, [], ◌∷◌, length, refl, ◌∙◌, inl, inr, arith, eqb-true}
+use Rattle.std.proofs.Common.{◌≡◌, ℕ, ◌<◌, ◌≤◌, min, ◌↔◌, Bool, true, false, IsTrue, eqb, ◌⊎◌, List, [], ◌∷◌, length, refl, ◌∙◌, inl, inr, arith, eqb-true}
 use mathlib.Core.List.{Memᴰ}
-use native.Mathlib.Decide.{dec_lt}
+use native.Mathlib.Decide.{dec_lt, ℕ_discrete}
 use borrow.Author.Tests.{eqb-false}
 use Rattle.ac.specs.Term.{Term}
 use Rattle.numbers.specs.Numbers.{said_of}
@@ -16,23 +16,21 @@ use Rattle.block.specs.Table.{ReadGiven, block_length, check_differs, block_numb
 use Rattle.numbers.specs.Outcome.{refused, is_refused}
 use Rattle.numbers.proofs.Said.{refuses_alone}
 use Rattle.block.specs.Read.{ReadPromise}
-use Rattle.block.specs.Inner.{IsLength, TermLengths, within, outside, all_zero, BlockRefuses, GoodHeader}
-use Rattle.block.proofs.Apart.{apart}
+use Rattle.block.specs.Inner.{IsLength, all_zero, BlockRefuses, GoodHeader}
 
 -- a length from 1 to 127 is none that no term may have
 is_length : {n : ℕ} → IsLength n → NoLength n → ⊥
 is_length h (inl e) = omega arith
 is_length h (inr above) = omega arith
 
--- what the test of the lengths tells
-pub tested_outside : {m n : ℕ} {b : Bool} → TermLengths m n b → not b ≡ true → NoLength m ⊎ NoLength n
-tested_outside (within l r) e = apart (cc e)
-tested_outside (outside h) e = h
-
--- and that both are within
-pub tested_within : {m n : ℕ} {b : Bool} → TermLengths m n b → not b ≡ false → IsLength m × IsLength n
-tested_within (within l r) e = (l, r)
-tested_within (outside h) e = apart (cc e)
+-- and where the test of the length fails, it is one
+pub no_length : {n : ℕ} → IsTrue false ↔ IsLength n → NoLength n
+no_length {n} tested = go (ℕ_discrete n 0) (dec_lt 127 n)
+  where
+    go : Dec (n ≡ 0) → Dec (127 < n) → NoLength n
+    go (yes zero) above = inl zero
+    go (no some) (yes above) = inr above
+    go (no some) (no within) = let its : IsTrue false = tested.1 (omega arith) in absurd (cc)
 
 -- where every byte is 0, so is each
 only_zeros : (bytes : List ℕ) → all_zero bytes ≡ true → {b : ℕ} → Memᴰ b bytes → b ≡ 0
@@ -48,7 +46,7 @@ record OtherThanZero (bytes : List ℕ) : Type 0 where
 
 -- a byte that is not 0 is found from the front
 other_than_zero : (bytes : List ℕ) → all_zero bytes ≡ false → OtherThanZero bytes
-other_than_zero [] e = apart (cc e)
+other_than_zero [] e = cc e
 other_than_zero (a ∷ bytes) e = go (eqb a 0) refl (other_than_zero bytes)
   where
     go : (z : Bool) → eqb a 0 ≡ z → (all_zero bytes ≡ false → OtherThanZero bytes) → OtherThanZero (a ∷ bytes)

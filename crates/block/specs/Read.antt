@@ -1,25 +1,24 @@
 -- The question Read (document 01, "The questions"): what it promises.
-use Rattle.std.specs.Prelude.{ℕ, List, length}
+use Rattle.std.specs.Prelude.{ℕ, List, length, Result}
 use Rattle.ac.specs.Lists.{receives}
 use Rattle.ac.specs.Term.{Term}
-use Rattle.numbers.specs.Numbers.{said_of}
 use Rattle.numbers.specs.Order.{read_numbers}
-use Rattle.numbers.specs.Outcome.{Outcome, refused, given, NamesNone, Promise}
+use Rattle.numbers.specs.Outcome.{Outcome, NamesNone, Promise}
+use Rattle.numbers.specs.Told.{told}
+use Rattle.numbers.specs.declared.Refusal.{Refusal}
 use Rattle.block.specs.Front.{Writes, left_side, right_side}
 use Rattle.block.specs.Block.{left_term, right_term}
 use Rattle.block.specs.Table.{ReadGiven}
-use Rattle.block.specs.declared.ReadAnswer.{ReadAnswer}
-use Rattle.block.specs.declared.ReadAnswer.TheVariants.{Sides, Refused}
+use Rattle.block.specs.declared.Sides.{Sides}
 
 -- What Read returns: the lengths of the flattened sides.
 pub record SideLengths : Type 0 where
   pub left : ℕ
   pub right : ℕ
 
--- document 01's number and values for each case of the answer
-abbrev pub told_read : ReadAnswer → Outcome SideLengths
-told_read (Sides left right) = given (record { left = left; right = right })
-told_read (Refused refusal) = refused (said_of refusal)
+-- document 01's number and values for each case of the result
+abbrev pub told_read : Result Sides Refusal → Outcome SideLengths
+told_read = told (λ sides. record { left = sides.left; right = sides.right })
 
 -- Two lent buffers receive the flattened sides; the lengths are returned.
 pub data ReadGives (block left right : List ℕ) : SideLengths → List ℕ × List ℕ → Type 0 where

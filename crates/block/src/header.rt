@@ -1,39 +1,36 @@
 // What stands before a block's terms, and the check (document 01, "A library block"): numbers 2 to 4.
-ghost use Rattle.std.specs.Prelude.{◌≡◌, ◌-◌, ◌%◌, length};
-ghost use Rattle.ac.specs.Lists.{sum as total};
-ghost use Rattle.block.specs.Block.{two_bytes, check_of_bytes};
-ghost use Rattle.block.specs.Inner.{TermLengths, SettlesHeader};
+ghost use Rattle.std.specs.Prelude.{◌≡◌, ◌≤◌, ◌↔◌, IsTrue, MatchResult, length, sum};
+ghost use Rattle.block.specs.Block.{check_of_bytes};
+ghost use Rattle.block.specs.Inner.{IsLength, BlockRefuses, HeaderLengths};
 
 use numbers::Refusal;
 
-// The lengths of the two terms, or why the block is refused.
+// The lengths of the two terms.
 #[derive(Clone, Copy)]
-pub enum Header {
-    Lengths { left: usize, right: usize },
-    Refused(Refusal),
+pub struct TermLengths {
+    pub left: usize,
+    pub right: usize,
 }
 
 // Settles 2 to 4, in this order, for a block of the right length.
-pub fn read_header(block: &[u8], number: u16) -> Header
+pub fn read_header(block: &[u8], number: u16) -> Result<TermLengths, Refusal>
     requires { length block.now ≡ 512 }
-    ensures { SettlesHeader block.now number result }
+    ensures { MatchResult result (λ lengths. HeaderLengths block.now number lengths)
+        (λ refusal. BlockRefuses block.now number refusal) }
 {
-    let check = two_bytes(block[510], block[511]);
-    let right_check = check_of(block);
-    let written = two_bytes(block[0], block[1]);
-    let left = block[2] as usize;
-    let right = block[3] as usize;
-    let is_good = are_term_lengths(left, right);
-    if check != right_check {
-        return Header::Refused(Refusal::Check);
+    if u16::from_be_bytes([block[510], block[511]]) != check_of(block) {
+        return Err(Refusal::Check);
     }
-    if written != number {
-        return Header::Refused(Refusal::BlockNumber);
+    if u16::from_be_bytes([block[0], block[1]]) != number {
+        return Err(Refusal::BlockNumber);
     }
-    if !is_good {
-        return Header::Refused(Refusal::TermLength);
+    if !is_term_length(block[2]) || !is_term_length(block[3]) {
+        return Err(Refusal::TermLength);
     }
-    Header::Lengths { left, right }
+    Ok(TermLengths {
+        left: usize::from(block[2]),
+        right: usize::from(block[3]),
+    })
 }
 
 // 65,535 minus the sum of bytes 0 to 509, modulo 65,536.
@@ -41,36 +38,20 @@ pub fn check_of(block: &[u8]) -> u16
     requires { length block.now ≡ 512 }
     ensures { result ≡ check_of_bytes block.now }
 {
-    65535 - sum(&block[..510])
+    65535 - (sum(&block[..510]) % 65536) as u16
 }
 
-// The sum of the bytes, modulo 65,536.
-fn sum(bytes: &[u8]) -> u16
-    ensures { result ≡ total bytes.now % 65536 }
+// The sum of the bytes that have a check.
+fn sum(bytes: &[u8]) -> u32
+    requires { length bytes.now ≤ 510 }
+    ensures { result ≡ sum bytes.now }
 {
-    let mut sum: u16 = 0;
-    for i in 0..bytes.len() {
-        sum = std::num::wrapping_add_u16(sum, two_bytes(0, bytes[i]));
-    }
-    sum
+    bytes.iter().map(|byte| u32::from(*byte)).sum()
 }
 
-// A number of two bytes has the high byte first.
-fn two_bytes(high: u8, low: u8) -> u16
-    ensures { result ≡ two_bytes high low }
+// Whether it is the length of a term, 1 to 127.
+fn is_term_length(length: u8) -> bool
+    ensures { IsTrue result ↔ IsLength length }
 {
-    (high as u16) * 256 + (low as u16)
-}
-
-// Whether both are the length of a term, 1 to 127.
-fn are_term_lengths(left: usize, right: usize) -> bool
-    ensures { TermLengths left right result }
-{
-    match left {
-        1..=127 => match right {
-            1..=127 => true,
-            _ => false,
-        },
-        _ => false,
-    }
+    matches!(length, 1..=127)
 }

@@ -1,10 +1,8 @@
 -- Laws of bytes put one after the other into a buffer.
-use Prim.Native.Nat.{ℕ, suc, ◌+◌, ◌<◌, ◌≤◌}
-use native.Mathlib.Omega.{arith}
-use mathlib.Core.Path.{◌≡◌, refl, ap, sym, ◌∙◌, subst}
-use mathlib.Core.List.{List, [], ◌∷◌, ◌++◌}
-use lib.ListN.{length, length-append, set, take, drop, get_or}
-use lib.Seq.{sets, sets-eq, length-sets, take-suc}
+use Rattle.std.proofs.Common.{ℕ, suc, ◌+◌, ◌-◌, ◌≤◌, arith, ◌≡◌, refl, ap, sym, ◌∙◌, subst, List, [], ◌∷◌, ◌++◌, length, length-append, set, take, drop}
+use borrow.Rule.Slice.PartMut.{put_mid}
+use Rattle.std.proofs.lemmas.Slice.{put_mid-paste}
+use lib.Seq.{sets, sets-eq, length-sets, take-length}
 use Rattle.buffer.specs.Put.{Put}
 
 -- what is put behind what was put is put as one
@@ -14,14 +12,17 @@ sets_append l i (v ∷ vs) ws =
     let e : i + suc (length vs) ≡ suc i + length vs = omega arith in
     ap (λ (k : ℕ). sets (sets (set l i v) (suc i) vs) k ws) e ∙ sets_append (set l i v) (suc i) vs ws
 
--- the next byte of a list, put behind those before it
-pub sets_next : (l : List ℕ) (at i : ℕ) (s : List ℕ) → i < length s → length (take i s) ≡ i →
-    set (sets l at (take i s)) (at + i) (get_or s i 0) ≡ sets l at (take (i + 1) s)
-sets_next l at i s h e =
-    ap (λ (k : ℕ). set (sets l at (take i s)) (at + k) (get_or s i 0)) (sym e)
-    ∙ sets_append l at (take i s) (get_or s i 0 ∷ [])
-    ∙ ap (sets l at) (sym (take-suc s i 0 h))
-    ∙ ap (λ (k : ℕ). sets l at (take k s)) (let e₂ : suc i ≡ i + 1 = omega arith in e₂)
+-- bytes that are written over a part of a buffer are put there
+pub put_part : (out : List ℕ) (at : ℕ) {bytes part : List ℕ} {end : ℕ} → end ≡ at + length bytes → end ≤ length out
+    → part ≡ bytes → Put out at bytes end (put_mid at (end - at) out part)
+put_part out at {bytes} {part} {end} ends room same =
+    record {
+      place = ends;
+      stored =
+          put_mid-paste at (end - at) out part bytes (length bytes) same (omega arith) refl
+          ∙ ap (λ (front : List ℕ). take at out ++ front ++ drop (at + length bytes) out) (take-length bytes)
+          ∙ sym (sets-eq bytes out at (omega arith));
+    }
 
 -- nothing
 pub put_nothing : (out : List ℕ) (at : ℕ) → Put out at [] at out
@@ -55,10 +56,6 @@ put_as {out} {after} {at} {n} e p = subst (λ (l : List ℕ). Put out at l n aft
 -- the same place, said in another way
 pub put_at : {out after : List ℕ} {at m n : ℕ} {s : List ℕ} → m ≡ n → Put out at s m after → Put out at s n after
 put_at {out} {after} {at} {m} {n} {s} e p = subst (λ (k : ℕ). Put out at s k after) e p
-
--- two bytes, one behind the other
-pub put_two : (out : List ℕ) (at a b : ℕ) → Put out at (a ∷ b ∷ []) (at + 2) (set (set out at a) (at + 1) b)
-put_two out at a b = put_at (omega arith) (put_then (put_byte out at a) (put_byte (set out at a) (at + 1) b))
 
 -- what is put from the front of a buffer that has room for it stands there, and what comes after it stays
 pub put_received : {out after bytes : List ℕ} {next : ℕ} → Put out 0 bytes next after → next ≤ length out

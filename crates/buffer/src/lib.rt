@@ -1,4 +1,4 @@
-// Bytes put into a lent buffer from a place on, and the lengths that go with it.
+// Bytes put into a lent buffer from a place on.
 //
 // Every function that puts answers the place after what it put, and leaves every other byte of the buffer as it was.
 
@@ -6,46 +6,27 @@
 
 pub mod answer;
 
-ghost use Rattle.std.specs.Prelude.{◌≡◌, ◌+◌, ◌≤◌, ◌<◌, min, length, replicate};
+ghost use Rattle.std.specs.Prelude.{◌+◌, ◌≤◌, length, replicate};
 ghost use Rattle.buffer.specs.Put.{Put};
 
 // The bytes as they stand in another slice.
+#[tactic(auto, using(crate::proofs::Puts::put_part))]
 pub fn put_bytes(out: &mut [u8], at: usize, bytes: &[u8]) -> usize
     requires { at + length bytes.now ≤ length out.old }
     ensures { Put out.old at bytes.now result out.new }
 {
-    let mut i = 0;
-    while i < bytes.len() {
-        out[at + i] = bytes[i];
-        i += 1;
-    }
-    at + i
+    let end = at + bytes.len();
+    out[at..end].copy_from_slice(bytes);
+    end
 }
 
 // One byte, as often as `times` says.
+#[tactic(auto, using(crate::proofs::Puts::put_part))]
 pub fn put_repeated(out: &mut [u8], at: usize, byte: u8, times: usize) -> usize
     requires { at + times ≤ length out.old }
     ensures { Put out.old at (replicate times byte) result out.new }
 {
-    let mut i = 0;
-    while i < times {
-        out[at + i] = byte;
-        i += 1;
-    }
-    at + i
-}
-
-// The smaller of two lengths: as far as both go.
-pub fn least(a: usize, b: usize) -> usize
-    ensures { result ≡ min a b }
-{
-    if a < b { a } else { b }
-}
-
-// A byte as a number with room for sums.
-pub fn wide(byte: u8) -> usize
-    ensures value { result ≡ byte }
-    ensures upper_bound { result < 256 }
-{
-    byte as usize
+    let end = at + times;
+    out[at..end].fill(byte);
+    end
 }

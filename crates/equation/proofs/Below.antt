@@ -23,12 +23,7 @@ pub record Tried (rows vector : List ℕ) (row : ℕ) : Type 0 where
 
 -- While the places of a row are tried: the row is at or below the vector in those before `place`.
 pub record Compared (rows vector : List ℕ) (row place : ℕ) : Type 0 where
-  pub within : place ≤ length vector
   pub fine : (j : ℕ) → j < place → get_or rows (row * length vector + j) 0 ≤ get_or vector j 0
-
--- at first none has been tried
-pub tried_none : {rows vector : List ℕ} → Tried rows vector 0
-tried_none = record { none_lower = λ i h. absurd (omega arith) }
 
 -- when all rows have been tried, none is lower
 pub tried_all : {rows vector : List ℕ} {count row : ℕ} → Tried rows vector row → count ≤ row
@@ -42,22 +37,8 @@ entry : (k : ℕ) (rows : List ℕ) (row j : ℕ) → j < k → get_or (row_at k
 entry k rows row j h = get_or-take k (drop (row * k) rows) j 0 h ∙ get_or-drop (row * k) rows j 0
 
 module _ {rows vector : List ℕ} {row : ℕ} where
-  -- at first no place has been compared
-  pub compared_none : Compared rows vector row 0
-  compared_none = record { within = omega arith; fine = λ j h. absurd (omega arith) }
-
-  -- one place more
-  pub compared_more : {place : ℕ} → Compared rows vector row place → place < length vector
-      → get_or rows (row * length vector + place) 0 ≤ get_or vector place 0
-      → Compared rows vector row (place + 1)
-  compared_more {place} d h le =
-      record {
-        within = omega arith;
-        fine = below_more (λ j. get_or rows (row * length vector + j) 0 ≤ get_or vector j 0) place d.fine le;
-      }
-
   -- a row that is at or below in all places is lower
-  pub compared_all : {count place : ℕ} → Compared rows vector row place → place ≡ length vector → row < count
+  pub compared_all : {count place : ℕ} → Compared rows vector row place → length vector ≤ place → row < count
       → count * length vector ≤ length rows
       → Lower (rows_of (length vector) count rows) vector
   compared_all {count} {place} d all more room =

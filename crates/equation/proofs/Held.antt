@@ -3,7 +3,7 @@ use Prim.Native.Nat.{ℕ, suc, ◌+◌, ◌*◌, ◌≤◌, ◌<◌}
 use native.Mathlib.Omega.{arith}
 use native.Mathlib.Numerals.{add-one}
 use mathlib.Core.Path.{◌≡◌, refl, sym, ap, subst, ◌∙◌}
-use mathlib.Core.Logic.{◌↔◌, ◌⊎◌, inl, inr}
+use mathlib.Core.Logic.{◌⊎◌, inl, inr}
 use mathlib.Core.List.Memᴰ
 use mathlib.Core.List.{List, [], ◌∷◌, ◌++◌, Memᴰ}
 use lib.ListN.{length, length-append, get_or, take, drop}
@@ -15,10 +15,11 @@ use Rattle.ac.proofs.Order.{≺_asymmetric, ascending_single, ascending_append}
 use Rattle.ac.proofs.Places.{get_or_member}
 use Rattle.ac.proofs.Search.{minimal_solutions_exact}
 use Rattle.ac.proofs.RowBelow.{RowBelow, minimal_below}
+use Rattle.std.specs.Prelude.{Some, None}
 use Rattle.equation.specs.Flat.{rows_of}
-use Rattle.equation.specs.Kept.{HoldsRows, HoldsRows.few, HoldsRows.more, Upto, RowBefore, RowUpto, Lower, Keeps, Advances}
+use Rattle.equation.specs.Kept.{MoreThan, Upto, RowBefore, RowUpto, Lower, Keeps, Advances}
 use Rattle.equation.proofs.Flat.{length_rows, rows_put}
-use Rattle.equation.proofs.Prefix.{Begins, Smaller, upto_cases, before_upto, before_longer, before_number_cases, upto_before_next, before_next_upto, upto_shorter, number_upto, begins_upto, begins_whole, ≼_before}
+use Rattle.equation.proofs.Prefix.{Begins, Smaller, upto_cases, before_upto, before_longer, before_number_cases, upto_before_next, before_next_upto, upto_shorter, smaller_before, begins_upto, begins_whole, ≼_before}
 
 -- The next vector, which solves the equation: the rows before it are found.
 module _ (E : Equation) {v : List ℕ} (vector : length v ≡ length E.left) (solves : Solves E v)
@@ -89,81 +90,72 @@ module _ (E : Equation) {v : List ℕ} (vector : length v ≡ length E.left) (so
       all w minimal (inr b) =
           Memᴰ.append_right rows (Memᴰ.head (begins_whole v (minimal.vector ∙ sym vector) b))
 
--- where the number is at most the limit, the bytes hold exactly the rows
-found_few : {limit places : ℕ} {Row : List ℕ → Type 0} {bytes : List ℕ} {n : ℕ} → n ≤ limit
-    → HoldsRows limit places Row bytes n
-    → Exactly Row (rows_of places n bytes)
-found_few fits (few small found) = found
-found_few fits (more ascending only many) = absurd (omega arith)
-
 -- The vector has been compared with the rows found: the three ways on.
-module _ {limit n : ℕ} {v bytes : List ℕ} (fits : n ≤ limit) where
+module _ {limit n : ℕ} {v : List ℕ} (bytes : List ℕ) (fits : n ≤ limit) where
   rows_of_vector : (E : Equation) → length v ≡ length E.left
-      → HoldsRows limit (length E.left) (RowBefore E v) bytes n
+      → Exactly (RowBefore E v) (rows_of (length E.left) n bytes)
       → Exactly (RowBefore E v) (rows_of (length v) n bytes)
-  rows_of_vector E vector held =
-      subst (λ k. Exactly (RowBefore E v) (rows_of k n bytes)) (sym vector) (found_few fits held)
+  rows_of_vector E vector held = subst (λ k. Exactly (RowBefore E v) (rows_of k n bytes)) (sym vector) held
 
   -- a row found is lower: nothing changes
-  pub keeps_lower : Lower (rows_of (length v) n bytes) v → Keeps limit v bytes n bytes n
+  pub keeps_lower : Lower (rows_of (length v) n bytes) v → Keeps limit v bytes n bytes (Some n)
   keeps_lower lower =
       record {
-        counted = omega arith;
-        found = λ E vector solves held.
-            few fits (subst (λ k. Exactly (RowUpto E v) (rows_of k n bytes)) vector
-            (upto_lower E vector solves (rows_of_vector E vector held) lower));
+        counted = fits;
+        found = λ E vector solves held. (
+          fits,
+          subst (λ k. Exactly (RowUpto E v) (rows_of k n bytes)) vector
+              (upto_lower E vector solves (rows_of_vector E vector held) lower),
+        );
       }
 
   module _ (none_lower : Lower (rows_of (length v) n bytes) v → ⊥) where
     next : (E : Equation) → length v ≡ length E.left → Solves E v
-        → HoldsRows limit (length E.left) (RowBefore E v) bytes n
+        → Exactly (RowBefore E v) (rows_of (length E.left) n bytes)
         → Exactly (RowUpto E v) (rows_of (length v) n bytes ++ (v ∷ []))
     next E vector solves held = upto_more E vector solves (rows_of_vector E vector held) none_lower
 
-    -- none is, and there is no room: it is only counted
-    pub keeps_full : n ≡ limit → Keeps limit v bytes n bytes (n + 1)
-    keeps_full full = record { counted = omega arith; found = found }
+    -- none is, and there is no room: there are more than the limit
+    pub keeps_full : n ≡ limit → Keeps limit v bytes n bytes None
+    keeps_full full = record { counted = tt; found = found }
       where
         long : limit < length (rows_of (length v) n bytes ++ (v ∷ []))
         long = omega (arith, length-append (rows_of (length v) n bytes) (v ∷ []), length_rows (length v) n bytes)
 
-        found : (E : Equation) → length v ≡ length E.left → Solves E v → Advances E v limit bytes n bytes (n + 1)
+        found : (E : Equation) → length v ≡ length E.left → Solves E v → Advances E v limit bytes n bytes None
         found E vector solves held =
             let rows = next E vector solves held in
-            subst (HoldsRows limit (length E.left) (RowUpto E v) bytes)
-            (let e : suc limit ≡ n + 1 = omega arith in e)
-            (more rows.ascending rows.only long)
+            record {
+              rows = rows_of (length v) n bytes ++ (v ∷ []);
+              ascending = rows.ascending;
+              only = rows.only;
+              many = long;
+            }
 
     -- none is, and it is put behind them
     pub keeps_put : (n ≡ limit → ⊥) → n * length v ≤ length bytes → {bytes' : List ℕ}
         → bytes' ≡ take (n * length v) bytes ++ v ++ drop (n * length v + length v) bytes
-        → Keeps limit v bytes n bytes' (n + 1)
+        → Keeps limit v bytes n bytes' (Some (n + 1))
     keeps_put room_left room {bytes'} put = record { counted = omega arith; found = found }
       where
         rows' : rows_of (length v) (suc n) bytes' ≡ rows_of (length v) n bytes ++ (v ∷ [])
         rows' = ap (rows_of (length v) (suc n)) put ∙ rows_put (length v) n bytes v room refl
 
         found : (E : Equation) → length v ≡ length E.left → Solves E v
-            → Advances E v limit bytes n bytes' (n + 1)
-        found E vector solves held =
-            subst (HoldsRows limit (length E.left) (RowUpto E v) bytes') (sym (add-one n))
-            (few (let h : suc n ≤ limit = omega arith in h)
-            (subst (λ k. Exactly (RowUpto E v) (rows_of k (suc n) bytes')) vector
-            (rw rows' (next E vector solves held))))
+            → Advances E v limit bytes n bytes' (Some (n + 1))
+        found E vector solves held = (
+          omega arith,
+          rw (add-one n)
+              (subst (λ k. Exactly (RowUpto E v) (rows_of k (suc n) bytes')) vector
+              (rw rows' (next E vector solves held))),
+        )
 
 -- From one prefix to the next.
 
--- rows of one kind are those of another that has the same members
-holds_same : {limit places : ℕ} {Row Row' : List ℕ → Type 0} {bytes : List ℕ} {n : ℕ}
-    → ((v : List ℕ) → Row v ↔ Row' v)
-    → HoldsRows limit places Row bytes n → HoldsRows limit places Row' bytes n
-holds_same same (few small found) = few small (exactly_same same found)
-holds_same same (more ascending only many) = more ascending (λ v m. (same v).0 (only v m)) many
-
-module _ {E : Equation} {limit : ℕ} (p : List ℕ) {bytes : List ℕ} {n : ℕ} where
+module _ {E : Equation} (p : List ℕ) {rows : List (List ℕ)} where
   -- no row begins with the prefix
-  pub skip : ((rest : List ℕ) → Minimal E (p ++ rest) → ⊥) → Advances E p limit bytes n bytes n
-  skip none = holds_same (λ v. (λ b. (b.0, before_upto b.1), λ u. (u.0, before u.0 (upto_cases u.1))))
+  pub skip : ((rest : List ℕ) → Minimal E (p ++ rest) → ⊥) → Exactly (RowBefore E p) rows → Exactly (RowUpto E p) rows
+  skip none = exactly_same (λ v. (λ b. (b.0, before_upto b.1), λ u. (u.0, before u.0 (upto_cases u.1))))
     where
       before : {v : List ℕ} → Minimal E v → (v ≺ p) ⊎ Begins p v → v ≺ p
       before minimal (inl h) = h
@@ -171,10 +163,9 @@ module _ {E : Equation} {limit : ℕ} (p : List ℕ) {bytes : List ℕ} {n : ℕ
 
   -- no row has a number below the first after the prefix
   pub from_first : (first : ℕ) → ((m : ℕ) (rest : List ℕ) → Minimal E (p ++ m ∷ rest) → first ≤ m)
-      → HoldsRows limit (length E.left) (RowBefore E p) bytes n
-      → HoldsRows limit (length E.left) (RowBefore E (p ++ first ∷ [])) bytes n
+      → Exactly (RowBefore E p) rows → Exactly (RowBefore E (p ++ first ∷ [])) rows
   from_first first none =
-      holds_same (λ v. (
+      exactly_same (λ v. (
         λ b. (b.0, before_longer (first ∷ []) b.1),
         λ b.
             (b.0, before b.0 (before_number_cases p first b.1)),
@@ -186,32 +177,45 @@ module _ {E : Equation} {limit : ℕ} (p : List ℕ) {bytes : List ℕ} {n : ℕ
           absurd (omega (arith, none s.number s.rest (subst (Minimal E) s.whole minimal), s.smaller))
 
   -- the rows up to a number after the prefix are those before the next number
-  pub to_next : (m : ℕ) → HoldsRows limit (length E.left) (RowUpto E (p ++ m ∷ [])) bytes n
-      → HoldsRows limit (length E.left) (RowBefore E (p ++ (m + 1) ∷ [])) bytes n
-  to_next m h =
-      rw add-one (holds_same (λ v. (
+  pub to_next : (m : ℕ) → Exactly (RowUpto E (p ++ m ∷ [])) rows → Exactly (RowBefore E (p ++ (m + 1) ∷ [])) rows
+  to_next m =
+      rw add-one (exactly_same (λ v. (
         λ u. (u.0, upto_before_next p m u.1),
         λ b.
             (b.0, before_next_upto p m b.1),
-      )) h)
+      )))
 
-  -- no row has a number above the most after the prefix
-  pub to_most : length p < length E.left → (most : ℕ)
-      → ((m : ℕ) (rest : List ℕ) → Minimal E (p ++ m ∷ rest) → m ≤ most)
-      → HoldsRows limit (length E.left) (RowUpto E (p ++ most ∷ [])) bytes n
-      → HoldsRows limit (length E.left) (RowUpto E p) bytes n
-  to_most short most none =
-      holds_same (λ v. (
-        λ u. (u.0, upto_shorter p (most ∷ []) u.1),
+  -- every row has a number below the last after the prefix
+  pub to_last : length p < length E.left → (last : ℕ)
+      → ((m : ℕ) (rest : List ℕ) → Minimal E (p ++ m ∷ rest) → m < last)
+      → Exactly (RowBefore E (p ++ last ∷ [])) rows → Exactly (RowUpto E p) rows
+  to_last short last small =
+      exactly_same (λ v. (
+        λ b. (b.0, upto b.0 (before_number_cases p last b.1)),
         λ u.
-            (u.0, upto u.0 (upto_cases u.1)),
+            (u.0, before u.0 (upto_cases u.1)),
       ))
     where
-      at_number : (rest : List ℕ) → Minimal E (p ++ rest) → Upto (p ++ most ∷ []) (p ++ rest)
+      at_number : (rest : List ℕ) → Minimal E (p ++ rest) → (p ++ rest) ≺ (p ++ last ∷ [])
       at_number [] minimal = absurd (omega (arith, minimal.vector, length-append p []))
-      at_number (m ∷ rest) minimal = number_upto p rest (none m rest minimal)
+      at_number (m ∷ rest) minimal = smaller_before p rest (small m rest minimal)
 
-      upto : {v : List ℕ} → Minimal E v → (v ≺ p) ⊎ Begins p v → Upto (p ++ most ∷ []) v
-      upto minimal (inl h) = before_upto (before_longer (most ∷ []) h)
-      upto minimal (inr b) = subst (Upto (p ++ most ∷ [])) (sym b.whole)
-          (at_number b.rest (subst (Minimal E) b.whole minimal))
+      upto : {v : List ℕ} → Minimal E v → (v ≺ p) ⊎ Smaller p last v → Upto p v
+      upto minimal (inl h) = before_upto h
+      upto {v} minimal (inr s) = upto_shorter p (s.number ∷ s.rest) (subst (λ w. Upto w v) s.whole (begins_upto v))
+
+      before : {v : List ℕ} → Minimal E v → (v ≺ p) ⊎ Begins p v → v ≺ (p ++ last ∷ [])
+      before minimal (inl h) = before_longer (last ∷ []) h
+      before minimal (inr b) =
+          subst (λ w. w ≺ (p ++ last ∷ [])) (sym b.whole) (at_number b.rest (subst (Minimal E) b.whole minimal))
+
+-- more rows up to a longer prefix are more up to a shorter one
+pub more_shorter : {E : Equation} {limit : ℕ} (p q : List ℕ) → MoreThan limit (RowUpto E (p ++ q))
+    → MoreThan limit (RowUpto E p)
+more_shorter p q more =
+    record {
+      rows = more.rows;
+      ascending = more.ascending;
+      only = λ v m. ((more.only v m).0, upto_shorter p q (more.only v m).1);
+      many = more.many;
+    }

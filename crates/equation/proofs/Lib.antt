@@ -5,6 +5,7 @@ pub mod Held
 pub mod Places
 pub mod Reach
 pub mod Ranges
+pub mod Numbers
 pub mod Tops
 pub mod Walking
 pub mod Turns

@@ -1,5 +1,5 @@
 -- Vectors and their prefixes: what begins with a prefix, and what stands before all that do.
-use Prim.Native.Nat.{ℕ, suc, ◌≤◌, ◌<◌}
+use Prim.Native.Nat.{ℕ, suc, ◌<◌}
 use native.Mathlib.Omega.{arith}
 use native.Mathlib.Decide.{dec_lt}
 use mathlib.Core.Path.{◌≡◌, refl, sym, ap, ap₂, subst, ◌∙◌}
@@ -125,7 +125,7 @@ upto_shorter [] q u = begins
 upto_shorter (n ∷ p) q (here h) = here h
 upto_shorter (n ∷ p) q (later u) = later (upto_shorter p q u)
 
--- the prefix with a number up to another
-pub number_upto : (p : List ℕ) {m n : ℕ} (rest : List ℕ) → m ≤ n → Upto (p ++ n ∷ []) (p ++ m ∷ rest)
-number_upto [] {m} {n} rest h = number_before_next n m rest (let h' : m < suc n = omega arith in h')
-number_upto (k ∷ p) rest h = later (number_upto p rest h)
+-- with a smaller number after the prefix
+pub smaller_before : (p : List ℕ) {m n : ℕ} (rest : List ℕ) → m < n → (p ++ m ∷ rest) ≺ (p ++ n ∷ [])
+smaller_before [] rest h = here h
+smaller_before (k ∷ p) rest h = later (smaller_before p rest h)

@@ -1,14 +1,16 @@
 -- Which numbers a place may have, and that the sums have room for them.
-use Prim.Native.Nat.{ℕ, ◌+◌, ◌*◌, ◌-◌, ◌/◌, ◌≤◌, ◌<◌, min}
+use Prim.Native.Nat.{ℕ, ◌+◌, ◌*◌, ◌-◌, ◌/◌, ◌≤◌, ◌<◌}
 use native.Mathlib.Omega.{arith}
-use native.Mathlib.Nat.{le_trans, le-min, mul-le-mul, mul-le-mul_right, mul-div_right}
+use native.Mathlib.Nat.{mul-le-mul, mul-le-mul_right, mul-div_right}
 use mathlib.Core.Path.{◌≡◌, sym, ap, ◌∙◌}
 use mathlib.Core.Bool.{Bool, true, false, cond}
 use lib.Dec.{leb}
 use borrow.Author.Tests.{le-leb, lt-leb}
 use Rattle.equation.specs.declared.standing.Standing.{Standing}
-use Rattle.equation.specs.declared.standing.Range.{Range}
-use Rattle.equation.specs.Places.{budget_of, after_choice, Room, Lifts, Ranges}
+use Rattle.std.specs.declared.ops.RangeInclusive.{RangeInclusive}
+use Rattle.std.specs.Range.{range_inclusive_start, range_inclusive_end, range_inclusive_exhausted}
+use Rattle.std.specs.Prelude.{Option, Some, None, IfSome}
+use Rattle.equation.specs.Places.{budget_of, after_choice, Room, Possible, Lifts, Ranges}
 
 -- Numbers that fit.
 
@@ -40,36 +42,23 @@ quotient low n {high} {step} positive e =
     ap (λ z. z / step) (let h : high - low ≡ step * n = omega arith in h) ∙ mul-div_right n positive
 
 module _ {low high step budget : ℕ} (positive : 0 < step) where
-  -- the higher sum is below the lower one: no number
-  pub lifts_none_low : high < low → {range : Range} → range.most ≤ budget → Lifts low high step budget range
-  lifts_none_low h small = record { within = small; covers = λ n fits e. absurd (omega arith) }
-
-  -- the quotient is above the budget: no number
-  pub lifts_none_high : budget < (high - low) / step → {range : Range} → range.most ≤ budget
-      → Lifts low high step budget range
-  lifts_none_high h small =
-      record { within = small; covers = λ n fits e. absurd (omega (arith, quotient low n positive e)) }
-
   -- else the quotient alone
-  pub lifts_one : {range : Range} → range.first ≡ (high - low) / step → range.most ≡ (high - low) / step
-      → (high - low) / step ≤ budget
-      → Lifts low high step budget range
-  lifts_one first most fits =
-      record {
-        within = omega arith;
-        covers = λ n h e.
-            (omega (arith, quotient low n positive e), omega (arith, quotient low n positive e));
-      }
+  pub lifts_one : {number : ℕ} → number ≡ (high - low) / step → number ≤ budget → Lifts low high step budget (Some number)
+  lifts_one its fits = record { within = fits; covers = λ n h e. ap Some (its ∙ quotient low n positive e) }
 
 -- what one side has more at a place, it has more for each unit
 more_each : (n x : ℕ) {a b y : ℕ} → b < a → a * n + x ≡ b * n + y → (a - b) * n + x ≡ y
 more_each n x {a} {b} {y} h e = omega (arith, ap (λ z. z * n) (let e : a ≡ b + (a - b) = omega arith in e))
 
-module _ {at : Standing} {l r : ℕ} {last : Bool} {range : Range} where
-  -- at the last place the left sum is to be lifted
-  pub ranges_up : r < l → last ≡ true → Lifts at.left at.right (l - r) at.up range
-      → Ranges at l r last range
-  ranges_up h t lifts =
+-- the one number that a last place with these coefficients may have
+pub record Only (at : Standing) (l r : ℕ) (last : Bool) (number : Option ℕ) : Type 0 where
+  pub within : IfSome number (λ n. n ≤ budget_of at l r)
+  pub covers : (n : ℕ) → Possible at l r last n → number ≡ Some n
+
+module _ {at : Standing} {l r : ℕ} {last : Bool} {number : Option ℕ} where
+  -- the left sum is to be lifted
+  pub only_up : r < l → last ≡ true → Lifts at.left at.right (l - r) at.up number → Only at l r last number
+  only_up h t lifts =
       let e = le-leb r l (let h' : r ≤ l = omega arith in h') in
       record {
         within = rw e lifts.within;
@@ -77,22 +66,33 @@ module _ {at : Standing} {l r : ℕ} {last : Bool} {range : Range} where
       }
 
   -- or the right one
-  pub ranges_down : l < r → last ≡ true → Lifts at.right at.left (r - l) at.down range
-      → Ranges at l r last range
-  ranges_down h t lifts =
+  pub only_down : l < r → last ≡ true → Lifts at.right at.left (r - l) at.down number → Only at l r last number
+  only_down h t lifts =
       let e = lt-leb r l h in
       record {
         within = rw e lifts.within;
         covers = λ n p. lifts.covers n (rw e at p.within) (more_each n at.right h (sym (p.equal t)));
       }
 
--- where a unit more changes nothing
-pub ranges_even : (at : Standing) (l r : ℕ) (last : Bool) {most : ℕ} → l ≡ r → most ≤ at.up
-    → min at.up (cond at.counts 0 1) ≤ most
-    → Ranges at l r last (record { first = 0; most = most })
-ranges_even at l r last same small enough =
-    let e = le-leb r l (let h : r ≤ l = omega arith in h) in
-    record {
-      within = rw e small;
-      covers = λ n p. (omega arith, le_trans (le-min (rw e at p.within) (p.even same)) enough);
-    }
+-- the range has not been gone through, and goes from one number to another
+pub record Spans (first most : ℕ) (range : RangeInclusive ℕ) : Type 0 where
+  pub fresh : range_inclusive_exhausted range ≡ false
+  pub start : range_inclusive_start range ≡ first
+  pub end : range_inclusive_end range ≡ most
+
+module _ {at : Standing} {l r : ℕ} {last : Bool} {range : RangeInclusive ℕ} where
+  pub ranges_some : {n : ℕ} → Only at l r last (Some n) → Spans n n range → Ranges at l r last range
+  ranges_some {n} only spans =
+      record {
+        fresh = spans.fresh;
+        within = omega (arith, only.within, spans.end);
+        covers = λ m p. let e : n ≡ m = cc (only.covers m p) in (omega (arith, spans.start), omega (arith, spans.end));
+      }
+
+  pub ranges_none : Only at l r last None → Spans 1 0 range → Ranges at l r last range
+  ranges_none only spans =
+      record {
+        fresh = spans.fresh;
+        within = omega (arith, spans.end);
+        covers = λ m p. absurd (let z : ◌≡◌ {A = ℕ} 0 1 = cc (only.covers m p) in omega arith);
+      }

@@ -3,3 +3,4 @@ pub mod Found
 pub mod Kept
 pub mod Places
 pub mod Walk
+pub mod Tops

@@ -1,11 +1,12 @@
 -- Where the walk stands after a prefix, and which numbers the next place may have in a row (document 01,
 -- "From sides to equations": "How far the search must go is the team's to prove").
-use Rattle.std.specs.Prelude.{ℕ, ◌+◌, ◌*◌, ◌-◌, ◌^◌, ◌≤◌, ◌<◌, ◌≡◌, ◌↔◌, Bool, true, false, cond, ◌||◌, List, ◌++◌, length, leb, ltb}
+use Rattle.std.specs.Prelude.{ℕ, ◌+◌, ◌*◌, ◌-◌, ◌^◌, ◌≤◌, ◌<◌, ◌≡◌, ◌↔◌, Bool, true, false, cond, ◌||◌, List, ◌++◌, length, leb, ltb, Option, Some, IfSome}
 use Rattle.ac.specs.Lists.{sum}
 use Rattle.ac.specs.Equation.{Equation, Solves, Minimal, dot}
 use Rattle.ac.specs.Budgets.{up_sum, down_sum}
 use Rattle.equation.specs.declared.standing.Standing.{Standing}
-use Rattle.equation.specs.declared.standing.Range.{Range}
+use Rattle.std.specs.declared.ops.RangeInclusive.{RangeInclusive}
+use Rattle.std.specs.Range.{range_inclusive_start, range_inclusive_end, range_inclusive_exhausted}
 
 -- The walk stands after a prefix, with the coefficients of the places that are left. A rest solves with the
 -- prefix exactly if it makes the two sums equal and, where an all-zero rest does not count, is not all zero;
@@ -52,12 +53,14 @@ pub record Possible (at : Standing) (l r : ℕ) (last : Bool) (n : ℕ) : Type 0
   pub equal : last ≡ true → l * n + at.left ≡ r * n + at.right
   pub even : l ≡ r → n ≤ cond at.counts 0 1
 
--- the numbers within the budget that lift the lower sum, by so much for each unit, to the higher one
-pub record Lifts (low high step budget : ℕ) (range : Range) : Type 0 where
-  pub within : range.most ≤ budget
-  pub covers : (n : ℕ) → n ≤ budget → step * n + low ≡ high → (range.first ≤ n) × (n ≤ range.most)
+-- the number within the budget that lifts the lower sum, by so much for each unit, to the higher one
+pub record Lifts (low high step budget : ℕ) (number : Option ℕ) : Type 0 where
+  pub within : IfSome number (λ n. n ≤ budget)
+  pub covers : (n : ℕ) → n ≤ budget → step * n + low ≡ high → number ≡ Some n
 
 -- from a first number to a most one, within the budget, all that a place may have
-pub record Ranges (at : Standing) (l r : ℕ) (last : Bool) (range : Range) : Type 0 where
-  pub within : range.most ≤ budget_of at l r
-  pub covers : (n : ℕ) → Possible at l r last n → (range.first ≤ n) × (n ≤ range.most)
+pub record Ranges (at : Standing) (l r : ℕ) (last : Bool) (range : RangeInclusive ℕ) : Type 0 where
+  pub fresh : range_inclusive_exhausted range ≡ false
+  pub within : range_inclusive_end range ≤ budget_of at l r
+  pub covers : (n : ℕ) → Possible at l r last n
+      → (range_inclusive_start range ≤ n) × (n ≤ range_inclusive_end range)

@@ -12,38 +12,30 @@ fn lower(rows: &[u8], count: usize, vector: &[u8]) -> bool
     requires { count * length vector.now ≤ length rows.now }
     ensures { Tells (Lower (rows_of (length vector.now) count rows.now) vector.now) result }
 {
-    let mut met = false;
-    let mut row = 0;
-    'rows: while row < count {
+    'rows: for row in 0..count {
         let start = row * vector.len();
-        let mut place = 0;
-        'places: loop {
-            if place == vector.len() {
-                met = true;
-                break 'rows;
-            }
+        for place in 0..vector.len() {
             if vector[place] < rows[start + place] {
-                break 'places;
+                continue 'rows;
             }
-            place += 1;
         }
-        row += 1;
+        return true;
     }
-    met
+    false
 }
 
-// Puts a vector that solves the equation behind the rows found, unless one of them is lower. What does not
-// fit any more is only counted.
-pub fn keep(rows: &mut [u8], limit: usize, count: usize, vector: &[u8]) -> usize
+// Puts a vector that solves the equation behind the rows found, unless one of them is lower, and says how many rows
+// there are then. Where that is one more than the limit, the vector does not fit any more.
+pub fn keep(rows: &mut [u8], limit: usize, count: usize, vector: &[u8]) -> Option<usize>
     requires { (count ≤ limit) × (limit < 65536) × (limit * length vector.now ≤ length rows.old) }
     ensures { Keeps limit vector.now rows.old count rows.new result }
 {
     if lower(rows, count, vector) {
-        return count;
+        return Some(count);
     }
     if count == limit {
-        return count + 1;
+        return None;
     }
     put_bytes(rows, count * vector.len(), vector);
-    count + 1
+    Some(count + 1)
 }

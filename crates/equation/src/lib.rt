@@ -3,6 +3,7 @@
 #![tactic(auto)]
 
 mod kept;
+mod searched;
 mod standing;
 mod walk;
 
@@ -11,7 +12,7 @@ ghost use Rattle.ac.specs.Limits.{limits};
 ghost use Rattle.equation.specs.Found.{equation_by, Finds};
 
 use numbers::limits::{BALANCED_ROWS, VARIABLES};
-use walk::search;
+use searched::Searched;
 
 // What is added to the two sums, and whether all-zero vectors are left out.
 #[derive(Clone, Copy)]
@@ -33,8 +34,7 @@ pub struct NetEquation {
 // The bytes of as many rows as a group may have; no group may have more than the balanced one.
 pub const ROOM: usize = BALANCED_ROWS * VARIABLES;
 
-// The rows of an equation, one after the other from the first byte on, and their number, where the number
-// after the limit says that there are more.
+// The rows of an equation, one after the other from the first byte on, and their number.
 #[derive(Clone, Copy)]
 pub struct FoundRows {
     pub rows: [u8; ROOM],
@@ -42,15 +42,12 @@ pub struct FoundRows {
 }
 
 // The rows of an equation, if they are at most as many as the limit says.
-pub fn find_rows(equation: NetEquation, limit: usize) -> FoundRows
+pub fn find_rows(equation: NetEquation, limit: usize) -> Option<FoundRows>
     requires { (equation.places ≤ limits.variables) × (limit ≤ limits.balanced_rows) }
-    ensures { Finds limit (equation_by equation) result.rows result.number }
+    ensures { Finds limit (equation_by equation) result }
 {
     let places = equation.places;
     let left = equation.left;
     let right = equation.right;
-    let offsets = equation.offsets;
-    let mut rows = [0u8; ROOM];
-    let number = search(&left[..places], &right[..places], offsets, &mut rows, limit);
-    FoundRows { rows, number }
+    Searched::of(&left[..places], &right[..places], limit).search(equation.offsets)
 }

@@ -1,144 +1,82 @@
 // The walk through the vectors in ascending order, place by place, and the search that it makes.
-ghost use Rattle.std.specs.Prelude.{◌≡◌, ◌*◌, ◌<◌, ◌≤◌, max, length};
-ghost use Rattle.ac.specs.Limits.{limits};
+ghost use Rattle.std.specs.Prelude.{◌≡◌, ◌*◌, ◌<◌, ◌≤◌, length};
 ghost use Rattle.equation.specs.Found.{equation_with, Finds};
-ghost use Rattle.equation.specs.Walk.{Settles, Ready, Walks, Tops, StartsAll, Searchable};
+ghost use Rattle.equation.specs.Walk.{Settles, Ready, Walks, Starts};
 
-use crate::Offsets;
 use crate::kept::keep;
-use crate::standing::{Standing, apart, chosen, possible};
-use buffer::wide;
+use crate::searched::Searched;
+use crate::standing::Standing;
+use crate::{FoundRows, Offsets, ROOM};
 use numbers::limits::VARIABLES;
 
-// At the end of a vector: keeps it if it solves the equation.
-fn settle(rows: &mut [u8], limit: usize, count: usize, vector: &[u8], at: Standing) -> usize
-    requires { (count ≤ limit) × (limit < 65536) × (limit * length vector.now ≤ length rows.old) }
-    ensures { Settles limit vector.now at rows.old count rows.new result }
-{
-    if at.left != at.right {
-        return count;
-    }
-    if !at.counts {
-        return count;
-    }
-    keep(rows, limit, count, vector)
-}
-
-// Finds the rows that begin with the numbers of the vector before `place`, when those that stand before them
-// are found: the numbers that the place may have are taken one after the other, ascending, and with each of
-// them the walk goes on from the next place.
-fn walk(
-    left: &[u8],
-    right: &[u8],
-    lifts: &[u8],
-    drops: &[u8],
-    vector: &mut [u8],
-    rows: &mut [u8],
-    limit: usize,
-    place: usize,
-    count: usize,
-    at: Standing,
-) -> usize
-    requires { Ready limit left.now right.now lifts.now drops.now vector.old rows.old place count at }
-    ensures { Walks limit left.now right.now vector.old rows.old place count at vector.new rows.new result }
-{
-    if limit < count {
-        return count;
-    }
-    if place == left.len() {
-        return settle(rows, limit, count, vector, at);
-    }
-    if apart(at, lifts[place], drops[place]) {
-        return count;
-    }
-    let range = possible(at, left[place], right[place], place + 1 == left.len());
-    let most = range.most;
-    let mut number = range.first;
-    if most < number {
-        return count;
-    }
-    let mut found = count;
-    loop {
-        vector[place] = number;
-        let next = chosen(at, left[place], right[place], number);
-        found = walk(
-            left,
-            right,
-            lifts,
-            drops,
-            vector,
-            rows,
-            limit,
-            place + 1,
-            found,
-            next,
-        );
-        if number == most {
-            return found;
+impl Searched<'_> {
+    // At the end of a vector: keeps it if it solves the equation.
+    fn settle(&self, vector: &[u8], rows: &mut [u8], count: usize, at: Standing) -> Option<usize>
+        requires { (count ≤ self.now.limit) × (self.now.limit * length vector.now ≤ length rows.old) }
+        ensures { Settles self.now.limit vector.now at rows.old count rows.new result }
+    {
+        if at.left != at.right || !at.counts {
+            return Some(count);
         }
-        number += 1;
+        keep(rows, self.limit, count, vector)
     }
-}
 
-// The larger of two bytes.
-fn larger(a: u8, b: u8) -> u8
-    ensures { result ≡ max a b }
-{
-    if a < b { b } else { a }
-}
-
-// For each place the largest of the bytes from there on.
-fn tops(bytes: &[u8]) -> [u8; VARIABLES]
-    requires { length bytes.now ≤ limits.variables }
-    ensures { Tops bytes.now result }
-{
-    let mut each = [0u8; VARIABLES];
-    let mut most = 0;
-    let mut place = bytes.len();
-    while 0 < place {
-        place -= 1;
-        most = larger(most, bytes[place]);
-        each[place] = most;
+    // Finds the rows that begin with the numbers of the vector before `place`, when those that stand before them
+    // are found: the numbers that the place may have are taken one after the other, ascending, and with each of
+    // them the walk goes on from the next place. How many rows are found then, unless they are more than the limit.
+    fn walk(
+        &self,
+        vector: &mut [u8],
+        rows: &mut [u8],
+        place: usize,
+        count: usize,
+        at: Standing,
+    ) -> Option<usize>
+        requires { Ready self.now vector.old rows.old place count at }
+        ensures { Walks self.now vector.old rows.old place count at vector.new rows.new result }
+    {
+        if place == self.left.len() {
+            return self.settle(vector, rows, count, at);
+        }
+        if at.apart(self.lifts[place], self.drops[place]) {
+            return Some(count);
+        }
+        let left = self.left[place];
+        let right = self.right[place];
+        let last = place + 1 == self.left.len();
+        let mut found = count;
+        for number in at.possible(left, right, last) {
+            vector[place] = number;
+            let next = at.chosen(left, right, number);
+            found = self.walk(vector, rows, place + 1, found, next)?;
+        }
+        Some(found)
     }
-    each
-}
 
-// Where the walk starts, where no left coefficient is above `lift` and no right one above `drop`. The places
-// whose left coefficient is at least the right one get their budget from the right side, the others from the
-// left one, the offsets among them: the other side sets how large an entry of a row can be.
-fn start(lift: u8, drop: u8, offsets: Offsets) -> Standing
-    ensures { StartsAll lift drop offsets result }
-{
-    Standing {
-        left: wide(offsets.left),
-        right: wide(offsets.right),
-        up: larger(1, larger(offsets.right, drop)),
-        down: larger(offsets.left, lift),
-        counts: !offsets.homogeneous,
+    // Where the walk starts. The places whose left coefficient is at least the right one get their budget from the right
+    // side, the others from the left one, the offsets among them: the other side sets how large an entry of a row can be.
+    fn start(&self, offsets: Offsets) -> Standing
+        ensures { Starts (equation_with self.now.left.now self.now.right.now offsets) result }
+    {
+        let lift = self.lifts[0];
+        let drop = self.drops[0];
+        Standing {
+            left: usize::from(offsets.left),
+            right: usize::from(offsets.right),
+            up: offsets.right.max(drop).max(1),
+            down: offsets.left.max(lift),
+            counts: !offsets.homogeneous,
+        }
     }
-}
 
-// Finds the rows of an equation: the bytes get them, one after the other, unless they are more than the
-// limit; then the number after it is given.
-pub fn search(left: &[u8], right: &[u8], offsets: Offsets, rows: &mut [u8], limit: usize) -> usize
-    requires { Searchable limit left.now right.now rows.old }
-    ensures { Finds limit (equation_with left.now right.now offsets) rows.new result }
-{
-    let lifts = tops(left);
-    let drops = tops(right);
-    let at = start(lifts[0], drops[0], offsets);
-    let places = left.len();
-    let mut vector = [0u8; VARIABLES];
-    walk(
-        left,
-        right,
-        &lifts,
-        &drops,
-        &mut vector[..places],
-        rows,
-        limit,
-        0,
-        0,
-        at,
-    )
+    // The rows of the equation with these offsets, unless they are more than the limit.
+    pub fn search(&self, offsets: Offsets) -> Option<FoundRows>
+        ensures { Finds self.now.limit (equation_with self.now.left.now self.now.right.now offsets) result }
+    {
+        let mut vector = [0u8; VARIABLES];
+        let mut rows = [0u8; ROOM];
+        let places = self.left.len();
+        let number = self.walk(&mut vector[..places], &mut rows, 0, 0, self.start(offsets))?;
+        Some(FoundRows { rows, number })
+    }
 }

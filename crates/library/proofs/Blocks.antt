@@ -1,10 +1,6 @@
 -- Laws of the blocks of a library.
-use Prim.Native.Nat.{ℕ, zero, suc, ◌+◌, ◌*◌, ◌≤◌, ◌<◌}
-use native.Mathlib.Omega.{arith}
-use mathlib.Core.Path.{◌≡◌, refl, ap, ap₂, sym, ◌∙◌}
-use mathlib.Core.List.{List, [], ◌∷◌, ◌++◌, append_assoc}
-use lib.ListN.{length, take, drop, length-drop, take-append-drop}
-use lib.Seq.{drop-nil, drop-drop, take-append-le, drop-append-le}
+use Rattle.std.proofs.Common.{ℕ, zero, suc, ◌+◌, ◌*◌, ◌≤◌, ◌<◌, arith, ◌≡◌, refl, ap, ap₂, sym, ◌∙◌, List, [], ◌∷◌, ◌++◌, append_assoc, length, take, drop, length-drop, take-append-drop, drop-drop}
+use lib.Seq.{drop-nil, take-append-le, drop-append-le}
 use Rattle.library.specs.Library.{blocks_of, all_bytes}
 
 -- bytes without their first 512 and those of some blocks more

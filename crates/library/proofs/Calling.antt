@@ -1,12 +1,7 @@
 -- Laws of one call of read, behind the bytes that wait.
-use Prim.Native.Nat.{ℕ, suc, ◌+◌, ◌-◌, ◌≤◌, ◌<◌, min}
-use native.Mathlib.Omega.{arith}
+use Rattle.std.proofs.Common.{ℕ, suc, ◌+◌, ◌-◌, ◌≤◌, ◌<◌, min, arith, ◌≡◌, refl, ap, sym, ◌∙◌, List, [], ◌∷◌, ◌++◌, append-nil, length, take, drop, length-append, length-drop, take-append-drop, take_at, take_all, length-take-le, ℤ, Result}
 use native.Mathlib.Decide.{dec_le}
-use mathlib.Core.Path.{◌≡◌, refl, ap, sym, ◌∙◌}
-use mathlib.Core.List.{List, [], ◌∷◌, ◌++◌, append-nil}
-use lib.ListN.{length, take, drop, length-append, length-drop, take-append-drop}
-use lib.Seq.{take_at, take_all, take-append-add, length-take-le}
-use lib.IntN.{ℤ}
+use lib.Seq.{take-append-add}
 use borrow.Rule.Slice.PartMut.{put_mid, take_put}
 use Rattle.library.specs.Reading.{waits, waiting, room_made, moved, more, ReaderFits, Comes, Misses, Takes}
 use Rattle.library.specs.Library.{Call, brought, Reads, ReadsOnce, Calls}
@@ -42,11 +37,11 @@ module _ {buffer mid : List ℕ} {r ready : Reader} (last : List ℕ) (fits : Re
       (waiting-length fits ∙ sym (ap (λ (z : Reader). z.filled) made))
 
   -- what the call answers is taken
-  pub reads_room : {answer error : ℤ} {r' : Reader} → length read_into ≡ length mid →
-      Takes ready (length read_into - ready.filled) answer error r' → ReadsOnce buffer r r' read_into
-  reads_room {answer} {error} {r'} kept takes =
+  pub reads_room : {answered : Result ℕ ℤ} {r' : Reader} → length read_into ≡ length mid →
+      Takes ready (length read_into - ready.filled) answered r' → ReadsOnce buffer r r' read_into
+  reads_room {answered} {r'} kept takes =
       record {
-        call = record { room = drop ready.filled read_into; answer = answer; error = error };
+        call = record { room = drop ready.filled read_into; answered = answered };
         read =
             record {
               same_length = kept ∙ same;
@@ -90,8 +85,8 @@ module _ {buffer : List ℕ} {r : Reader} (room : List ℕ) (fits : ReaderFits b
   misses_on (Misses.given_up e none) = waits_on
   misses_on (Misses.failed other) = waits_on
 
-  takes_on : {answer error : ℤ} {r' : Reader} → Takes (room_made r) (length room) answer error r' →
-      waiting (waiting buffer r ++ room) r' ≡ waiting buffer r ++ brought answer room
+  takes_on : {answered : Result ℕ ℤ} {r' : Reader} → Takes (room_made r) (length room) answered r' →
+      waiting (waiting buffer r ++ room) r' ≡ waiting buffer r ++ brought answered room
   takes_on (Takes.the_end e) = waits_on ∙ ap (λ z. waiting buffer r ++ brought z room) (sym e)
   takes_on (Takes.bytes {n} e) =
       waits_more (min (suc n) (length room)) (omega arith)
@@ -101,7 +96,7 @@ module _ {buffer : List ℕ} {r : Reader} (room : List ℕ) (fits : ReaderFits b
 
 -- the same of the buffer as it is then
 pub read_waiting : {buffer after : List ℕ} {r r' : Reader} {c : Call} → ReaderFits buffer r →
-    Reads buffer r c r' after → waiting after r' ≡ waiting buffer r ++ brought c.answer c.room
+    Reads buffer r c r' after → waiting after r' ≡ waiting buffer r ++ brought c.answered c.room
 read_waiting {r' = r'} {c = c} fits a =
     ap (λ (l : List ℕ). waiting l r') a.behind ∙ takes_on c.room fits a.takes
 
@@ -139,7 +134,7 @@ module _ {after : List ℕ} {r : Reader} (size : ℕ) (large : 512 ≤ length af
   left_missed (Misses.failed other) =
       left_by refl (omega arith) refl (λ few still. omega (arith, ap open_still still))
 
-  left_takes : {answer error : ℤ} {r' : Reader} → Takes (room_made r) size answer error r' → Left r r' after
+  left_takes : {answered : Result ℕ ℤ} {r' : Reader} → Takes (room_made r) size answered r' → Left r r' after
   left_takes (Takes.the_end e) =
       left_by refl (omega arith) refl (λ few still. omega (arith, ap open_still still))
   left_takes (Takes.bytes {n} e) = left_by refl (omega arith) refl (λ few still. omega arith)

@@ -1,7 +1,5 @@
 -- Laws of what comes next, by the tests that are made of how many bytes wait.
-use Prim.Native.Nat.{ℕ, zero, suc, ◌<◌, ◌≤◌}
-use native.Mathlib.Omega.{arith}
-use mathlib.Core.Path.{◌≡◌, refl, ap, subst}
+use Rattle.std.proofs.Common.{ℕ, zero, suc, ◌<◌, ◌≤◌, arith, ◌≡◌, refl, ap, subst}
 use Rattle.library.specs.Reading.{waits, wanted, Comes}
 use Rattle.library.specs.declared.Reader.{Reader}
 use Rattle.library.specs.declared.Input.TheVariants as input
@@ -16,11 +14,6 @@ wanted_block (suc left) some = refl
 -- where no block may be read, one byte is
 pub wanted_one : (left : ℕ) → left ≡ 0 → wanted left ≡ 1
 wanted_one left e = ap wanted e
-
--- where some bytes wait and still fewer than are wanted, a block may be read and they are fewer than its own
-pub short_block : (left : ℕ) {n : ℕ} → n < wanted left → (n ≡ 0 → ⊥) → (0 < left) × (n < 512)
-short_block zero {n} few some = absurd (some (omega arith))
-short_block (suc left) few some = (omega arith, few)
 
 -- always some, and never more than a block's bytes
 pub wanted_some : (left : ℕ) → 0 < wanted left

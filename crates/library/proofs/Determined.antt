@@ -1,12 +1,7 @@
 -- The contracts of `next_step` and `took` determine what they give: two results that meet one of them are the
 -- same.
-use Prim.Native.Nat.{ℕ, zero, suc, ◌<◌, ◌≤◌, min}
-use native.Mathlib.Omega.{arith}
-use mathlib.Core.Path.{◌≡◌, refl, ap, sym, ◌∙◌}
-use mathlib.Core.Bool.{Bool, true, false}
-use lib.Dec.{leb}
-use lib.IntN.{ℤ}
-use borrow.Author.Tests.{le-leb, lt-leb}
+use Rattle.std.proofs.Common.{ℕ, zero, suc, ◌<◌, ◌≤◌, min, arith, ◌≡◌, refl, ap, sym, subst, ◌∙◌, Bool, true, false, leb, ℤ, Result, le-leb}
+use borrow.Author.Tests.{lt-leb}
 use Rattle.library.specs.Reading.{waits, wanted, handed, more, Comes, Misses, Takes}
 use Rattle.library.specs.declared.Reader.{Reader}
 use Rattle.library.specs.declared.Input.{Input}
@@ -106,16 +101,18 @@ misses_one (Misses.failed other) (Misses.tried_again e some) = absurd (other e)
 misses_one (Misses.failed other) (Misses.given_up e none) = refl
 misses_one (Misses.failed other) (Misses.failed other') = refl
 
--- What a call's answer says is determined, for every answer and every error.
-pub takes_one : {r : Reader} {room : ℕ} {r₁ r₂ : Reader} {answer error : ℤ} → Takes r room answer error r₁ →
-    Takes r room answer error r₂ → r₁ ≡ r₂
+-- What a call's answer says is determined, for every answer.
+pub takes_one : {r : Reader} {room : ℕ} {r₁ r₂ : Reader} {answered : Result ℕ ℤ} → Takes r room answered r₁ →
+    Takes r room answered r₂ → r₁ ≡ r₂
 takes_one (Takes.the_end e) (Takes.the_end e') = refl
-takes_one (Takes.the_end e) (Takes.bytes e') = absurd (let z : ◌≡◌ {A = ℕ} 0 1 = cc (e, e') in omega arith)
-takes_one (Takes.the_end e) (Takes.missed e' m) = absurd (let z : ◌≡◌ {A = ℕ} 0 1 = cc (e, e') in omega arith)
-takes_one (Takes.bytes e) (Takes.the_end e') = absurd (let z : ◌≡◌ {A = ℕ} 0 1 = cc (e, e') in omega arith)
+takes_one (Takes.the_end e) (Takes.bytes e') = cc (e, e')
+takes_one (Takes.the_end e) (Takes.missed e' m) = cc (e, e')
+takes_one (Takes.bytes e) (Takes.the_end e') = cc (e, e')
 takes_one {r} {room = room} (Takes.bytes {n} e) (Takes.bytes {n = n'} e') =
     ap (λ (k : ℕ). more (min k room) r) (let z : suc n ≡ suc n' = cc (e, e') in z)
-takes_one (Takes.bytes e) (Takes.missed e' m) = absurd (let z : ◌≡◌ {A = ℕ} 0 1 = cc (e, e') in omega arith)
-takes_one (Takes.missed e m) (Takes.the_end e') = absurd (let z : ◌≡◌ {A = ℕ} 0 1 = cc (e, e') in omega arith)
-takes_one (Takes.missed e m) (Takes.bytes e') = absurd (let z : ◌≡◌ {A = ℕ} 0 1 = cc (e, e') in omega arith)
-takes_one (Takes.missed e m) (Takes.missed e' m') = misses_one m m'
+takes_one (Takes.bytes e) (Takes.missed e' m) = cc (e, e')
+takes_one (Takes.missed e m) (Takes.the_end e') = cc (e, e')
+takes_one (Takes.missed e m) (Takes.bytes e') = cc (e, e')
+takes_one {r} {r₂ = r₂} (Takes.missed {error} e m) (Takes.missed {error = error'} e' m') =
+    let same : error' ≡ error = cc (e, e') in
+    misses_one m (subst (λ z. Misses r z r₂) same m')

@@ -1,11 +1,6 @@
 -- What a program may go by that calls `next_block` again and again: where its reader stands in the buffer,
 -- and that its run goes on.
-use Prim.Native.Nat.{ℕ, ◌+◌, ◌≤◌}
-use native.Mathlib.Omega.{arith}
-use mathlib.Core.Path.{◌≡◌, refl, subst, ◌∙◌}
-use mathlib.Core.List.{List, [], ◌∷◌, ◌++◌}
-use lib.ListN.{length}
-use lib.IntN.{ℤ}
+use Rattle.std.proofs.Common.{ℕ, ◌+◌, ◌≤◌, arith, ◌≡◌, refl, subst, ◌∙◌, List, [], ◌∷◌, ◌++◌, length, ℤ}
 use Rattle.library.specs.Reading.{opened, part, ReaderFits, Comes}
 use Rattle.library.specs.Library.{Call, Calls, HandsOn, Run, AtEnd, AtLimit, AtFailure}
 use Rattle.library.specs.declared.Reader.{Reader}

@@ -1,14 +1,8 @@
 -- A library's blocks are handed on in order, none lost and none twice, however the calls of read cut the
 -- input; and what is told at the end is so. Of the contracts alone: of any run of calls, whatever they
 -- answer, and of blocks.
-use Prim.Native.Nat.{ℕ, suc, ◌+◌, ◌*◌, ◌-◌, ◌<◌, ◌≤◌}
-use native.Mathlib.Omega.{arith}
-use mathlib.Core.Path.{◌≡◌, refl, ap, ap₂, sym, subst, ◌∙◌}
-use mathlib.Core.Logic.{◌⊎◌, inl, inr}
-use mathlib.Core.List.{List, [], ◌∷◌, ◌++◌}
-use lib.ListN.{length, take, drop, length-append, length-drop, drop_of_length-le}
-use lib.Seq.{take-add, take-take, take_all, drop_at, drop-drop, drop-append-le, length-take-le}
-use lib.IntN.{ℤ}
+use Rattle.std.proofs.Common.{ℕ, suc, ◌+◌, ◌*◌, ◌-◌, ◌<◌, ◌≤◌, arith, ◌≡◌, refl, ap, ap₂, sym, subst, ◌∙◌, ◌⊎◌, inl, inr, List, [], ◌∷◌, ◌++◌, length, take, drop, length-append, length-drop, drop_of_length-le, take-add, take-take, take_all, drop_at, drop-drop, length-take-le, ℤ}
+use lib.Seq.{drop-append-le}
 use Rattle.library.specs.Reading.{patience, part, waits, waiting, handed, ReaderFits, Comes}
 use Rattle.library.specs.Library.{blocks_of, all_bytes, Call, came, brought, Going, Reads, Run}
 use Rattle.library.specs.Library.{HandedOn, AtEnd, AtLimit, AtFailure}
@@ -41,7 +35,7 @@ module _ {most : ℕ} {calls : List Call} {blocks : List (List ℕ)} {r r' : Rea
     (h : Holds most calls blocks r buffer) (a : Reads buffer r c r' after) (still : r.input ≡ input.More)
     (few : waits r < 512) where
   enough : 512 * length blocks ≤ length (came calls)
-  enough = whole_before h.whole (λ over. let z : ◌≡◌ {A = ℕ} 0 1 = cc (over, still) in omega arith)
+  enough = whole_before h.whole (λ over. cc (over, still))
 
   lent : 0 < length c.room
   lent =
@@ -62,12 +56,12 @@ module _ {most : ℕ} {calls : List Call} {blocks : List (List ℕ)} {r r' : Rea
         fits = left.fits;
         counted = omega (arith, left.same_left, h.counted);
         in_order =
-            h.in_order ∙ sym (blocks_more (length blocks) (came calls) (brought c.answer c.room) enough);
+            h.in_order ∙ sym (blocks_more (length blocks) (came calls) (brought c.answered c.room) enough);
         rest =
             read_waiting h.fits a
-            ∙ ap (λ (l : List ℕ). l ++ brought c.answer c.room) h.rest
-            ∙ sym (drop-append-le (512 * length blocks) (came calls) (brought c.answer c.room) enough);
-        whole = inl (omega (arith, length-append (came calls) (brought c.answer c.room), enough));
+            ∙ ap (λ (l : List ℕ). l ++ brought c.answered c.room) h.rest
+            ∙ sym (drop-append-le (512 * length blocks) (came calls) (brought c.answered c.room) enough);
+        whole = inl (omega (arith, length-append (came calls) (brought c.answered c.room), enough));
         told = told_takes r c g.going g.budget still lent a.takes;
       }
 
@@ -220,6 +214,6 @@ module _ {most : ℕ} {calls : List Call} {blocks : List (List ℕ)} {r : Reader
       record {
         failed = failed_by h.told told;
         in_order = h.in_order;
-        whole = whole_before h.whole (λ over. let z : ◌≡◌ {A = ℕ} 0 1 = cc (over, told) in omega arith);
+        whole = whole_before h.whole (λ over. cc (over, told));
         no_other = omega (arith, came_length h, wanted_most r.left);
       }

@@ -1,4 +1,3 @@
-pub mod Moved
 pub mod Coming
 pub mod Taking
 pub mod Calling

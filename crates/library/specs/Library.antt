@@ -1,6 +1,6 @@
 -- A library and the calls by which it is read (document 01, "A library block" and "The nightly program"): its
 -- blocks, all that came by the calls, and every way in which calls and blocks may follow one another.
-use Rattle.std.specs.Prelude.{ℕ, zero, suc, ◌+◌, ◌*◌, ◌≤◌, ◌<◌, ◌≡◌, List, [], ◌∷◌, ◌++◌, length, take, drop, ℤ, pos, negsuc}
+use Rattle.std.specs.Prelude.{ℕ, zero, suc, ◌+◌, ◌*◌, ◌≤◌, ◌<◌, ◌≡◌, List, [], ◌∷◌, ◌++◌, length, take, drop, ℤ, Result, Ok, Err}
 use Rattle.library.specs.Reading.{patience, opened, part, waiting, room_made, interrupted, ReaderFits, Comes, Takes}
 use Rattle.library.specs.declared.Reader.{Reader}
 use Rattle.library.specs.declared.Next.{Next}
@@ -17,45 +17,42 @@ abbrev pub all_bytes : List (List ℕ) → List ℕ
 all_bytes [] = []
 all_bytes (block ∷ blocks) = block ++ all_bytes blocks
 
--- One call of read: what stands then in the room that it was lent, what it answered, and the error's number
--- then.
+-- One call of read: what stands then in the room that it was lent, and what it answered, the bytes that it moved
+-- or the error's number.
 pub record Call : Type 0 where
   pub room : List ℕ
-  pub answer : ℤ
-  pub error : ℤ
+  pub answered : Result ℕ ℤ
 
 -- so many bytes as the answer says stand at the room's start
-abbrev pub brought : ℤ → List ℕ → List ℕ
-brought (pos n) room = take n room
-brought (negsuc k) room = []
+abbrev pub brought : Result ℕ ℤ → List ℕ → List ℕ
+brought (Ok n) room = take n room
+brought (Err error) room = []
 
 -- all that came by the calls, of which the newest stands first
 abbrev pub came : List Call → List ℕ
 came [] = []
-came (c ∷ calls) = came calls ++ brought c.answer c.room
+came (c ∷ calls) = came calls ++ brought c.answered c.room
 
 -- Calls after which more may come: each brought bytes, or it was interrupted; so many were interrupted.
 pub data Going : List Call → ℕ → Type 0 where
   none : Going [] 0
-  bytes : {c : Call} {calls : List Call} {n k : ℕ} → c.answer ≡ pos (suc k) → Going calls n → Going (c ∷ calls) n
+  bytes : {c : Call} {calls : List Call} {n k : ℕ} → c.answered ≡ Ok (suc k) → Going calls n → Going (c ∷ calls) n
   again :
-      {c : Call} {calls : List Call} {n k : ℕ} →
-      c.answer ≡ negsuc k →
-      c.error ≡ interrupted →
+      {c : Call} {calls : List Call} {n : ℕ} →
+      c.answered ≡ Err interrupted →
       Going calls n →
       Going (c ∷ calls) (suc n)
 
 -- The newest call says that the input has ended: it was lent room and answered 0.
 pub data EndedBy : List Call → Type 0 where
-  ended : {c : Call} {calls : List Call} {n : ℕ} → c.answer ≡ pos 0 → 0 < length c.room → Going calls n
+  ended : {c : Call} {calls : List Call} {n : ℕ} → c.answered ≡ Ok 0 → 0 < length c.room → Going calls n
       → EndedBy (c ∷ calls)
 
 -- The newest call failed with this error; it was interrupted only where all that may be tried again had been.
 pub data FailedBy (error : ℤ) : List Call → Type 0 where
   failed :
-      {c : Call} {calls : List Call} {n k : ℕ} →
-      c.answer ≡ negsuc k →
-      c.error ≡ error →
+      {c : Call} {calls : List Call} {n : ℕ} →
+      c.answered ≡ Err error →
       (error ≡ interrupted → n ≡ patience) →
       Going calls n →
       FailedBy error (c ∷ calls)
@@ -64,7 +61,7 @@ pub data FailedBy (error : ℤ) : List Call → Type 0 where
 pub record Reads (buffer : List ℕ) (r : Reader) (c : Call) (r' : Reader) (after : List ℕ) : Type 0 where
   pub same_length : length after ≡ length buffer
   pub behind : after ≡ waiting buffer r ++ c.room
-  pub takes : Takes (room_made r) (length c.room) c.answer c.error r'
+  pub takes : Takes (room_made r) (length c.room) c.answered r'
 
 -- a reader after some call
 pub record ReadsOnce (buffer : List ℕ) (r r' : Reader) (after : List ℕ) : Type 0 where

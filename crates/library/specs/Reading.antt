@@ -1,6 +1,6 @@
 -- Reading a library (document 01, "A library block" and "The nightly program"): the bytes that wait, what
 -- comes next of them, and what the answer of a call of read says.
-use Rattle.std.specs.Prelude.{ℕ, zero, suc, ◌+◌, ◌-◌, ◌≤◌, ◌<◌, min, ◌≡◌, List, ◌++◌, length, take, drop, ℤ, pos, negsuc}
+use Rattle.std.specs.Prelude.{ℕ, zero, suc, ◌+◌, ◌-◌, ◌≤◌, ◌<◌, min, ◌≡◌, List, ◌++◌, length, take, drop, ℤ, pos, Result, Ok, Err}
 use Rattle.library.specs.declared.Reader.{Reader}
 use Rattle.library.specs.declared.Input.{Input}
 use Rattle.library.specs.declared.Input.TheVariants as input
@@ -96,10 +96,10 @@ pub data Misses (r : Reader) (error : ℤ) : Reader → Type 0 where
   given_up : error ≡ interrupted → r.retries ≡ 0 → Misses r error (told (input.Failed error) r)
   failed : (error ≡ interrupted → ⊥) → Misses r error (told (input.Failed error) r)
 
--- What a call says that was lent so much room: 0 is the end of the input; any other number that is not
--- negative, so many bytes came, and no more than there was room for, since nothing else can have been put
--- there; a negative one, it failed.
-pub data Takes (r : Reader) (room : ℕ) (answer error : ℤ) : Reader → Type 0 where
-  the_end : answer ≡ pos 0 → Takes r room answer error (told input.Ended r)
-  bytes : {n : ℕ} → answer ≡ pos (suc n) → Takes r room answer error (more (min (suc n) room) r)
-  missed : {k : ℕ} {r' : Reader} → answer ≡ negsuc k → Misses r error r' → Takes r room answer error r'
+-- What a call says that was lent so much room: 0 bytes are the end of the input; of any other number, so many
+-- came, and no more than there was room for, since nothing else can have been put there; or it failed, with this
+-- error.
+pub data Takes (r : Reader) (room : ℕ) (answered : Result ℕ ℤ) : Reader → Type 0 where
+  the_end : answered ≡ Ok 0 → Takes r room answered (told input.Ended r)
+  bytes : {n : ℕ} → answered ≡ Ok (suc n) → Takes r room answered (more (min (suc n) room) r)
+  missed : {error : ℤ} {r' : Reader} → answered ≡ Err error → Misses r error r' → Takes r room answered r'

@@ -7,7 +7,7 @@
 #![tactic(auto)]
 
 ghost use Rattle.std.specs.Prelude.{◌≡◌, ◌+◌, ◌-◌, ◌≤◌, ◌<◌, length};
-ghost use Rattle.library.specs.Reading.{opened, wanted, handed, room_made, moved, told};
+ghost use Rattle.library.specs.Reading.{opened, wanted, handed, room_made, moved};
 ghost use Rattle.library.specs.Reading.{ReaderFits, Comes, Misses, Takes};
 ghost use Rattle.library.specs.Library.{ReadsOnce, HandsOn};
 
@@ -44,6 +44,52 @@ pub struct Reader {
     pub input: Input,
 }
 
+impl Reader {
+    // How many bytes must wait while more may come: a block's or, where no block may be read any more, one, which
+    // says that input remains.
+    fn wanted(self) -> usize
+        ensures { result ≡ wanted self.left }
+    {
+        if self.left == 0 { 1 } else { BLOCK }
+    }
+
+    // The next so many of the bytes that wait, as a block.
+    fn hand_on(self, length: usize) -> Step
+        requires length_bound { self.at + length ≤ self.filled }
+        requires left_nonzero { 0 < self.left }
+        ensures next_value { result.next ≡ Next.Block self.at length }
+        ensures reader_value { result.reader ≡ handed length self }
+    {
+        Step {
+            next: Next::Block {
+                start: self.at,
+                length,
+            },
+            reader: Reader {
+                at: self.at + length,
+                left: self.left - 1,
+                ..self
+            },
+        }
+    }
+
+    // After a call that failed: an interrupted one is tried again as long as it may be, any other error is told.
+    fn missed(self, error: i32) -> Reader
+        ensures { Misses self error result }
+    {
+        if error == INTERRUPTED && self.retries > 0 {
+            return Reader {
+                retries: self.retries - 1,
+                ..self
+            };
+        }
+        Reader {
+            input: Input::Failed(error),
+            ..self
+        }
+    }
+}
+
 // What comes next: a block, by its place in the buffer, where only the last may have fewer than 512 bytes;
 // the end; input that remains after the last block that may be read; a failure, with its error; or a read is
 // wanted before it can be said.
@@ -77,18 +123,16 @@ pub fn open(most: u64) -> Reader
 }
 
 // The next block, or why there is none: reads as long as a read is wanted.
-pub fn next_block<R: Read>(input: &mut R, buffer: &mut [u8], reader: Reader) -> Step
+pub fn next_block<R: Read>(input: &mut R, buffer: &mut [u8], mut reader: Reader) -> Step
     requires { ReaderFits buffer.old reader }
     ensures { HandsOn buffer.old reader result.next result.reader buffer.new }
 {
-    let mut read = reader;
     loop {
-        let step = next_step(read);
-        let next = step.next;
-        let Next::Wanted = next else {
+        let step = next_step(reader);
+        let Next::Wanted = step.next else {
             return step;
         };
-        read = read_more(input, buffer, read);
+        reader = read_more(input, buffer, reader);
     }
 }
 
@@ -99,17 +143,16 @@ pub fn next_step(reader: Reader) -> Step
     ensures { Comes reader result.next result.reader }
 {
     let waiting = reader.filled - reader.at;
-    if wanted(reader.left) <= waiting {
+    if reader.wanted() <= waiting {
         if reader.left == 0 {
             return Step {
                 next: Next::Remains,
                 reader,
             };
         }
-        return hand_on(reader, BLOCK);
+        return reader.hand_on(BLOCK);
     }
-    let input = reader.input;
-    match input {
+    match reader.input {
         Input::More => Step {
             next: Next::Wanted,
             reader,
@@ -118,42 +161,11 @@ pub fn next_step(reader: Reader) -> Step
             next: Next::Failed(error),
             reader,
         },
-        Input::Ended => {
-            if waiting == 0 {
-                return Step {
-                    next: Next::End,
-                    reader,
-                };
-            }
-            hand_on(reader, waiting)
-        }
-    }
-}
-
-// How many bytes must wait while more may come: a block's or, where no block may be read any more, one, which
-// says that input remains.
-fn wanted(left: u64) -> usize
-    ensures { result ≡ wanted left }
-{
-    if left == 0 { 1 } else { BLOCK }
-}
-
-// The next so many of the bytes that wait, as a block.
-fn hand_on(reader: Reader, length: usize) -> Step
-    requires length_bound { reader.at + length ≤ reader.filled }
-    requires left_nonzero { 0 < reader.left }
-    ensures next_value { result.next ≡ Next.Block reader.at length }
-    ensures reader_value { result.reader ≡ handed length reader }
-{
-    let mut rest = reader;
-    rest.at += length;
-    rest.left -= 1;
-    Step {
-        next: Next::Block {
-            start: reader.at,
-            length,
+        Input::Ended if waiting == 0 => Step {
+            next: Next::End,
+            reader,
         },
-        reader: rest,
+        Input::Ended => reader.hand_on(waiting),
     }
 }
 
@@ -163,9 +175,8 @@ fn read_more<R: Read>(input: &mut R, buffer: &mut [u8], reader: Reader) -> Reade
     ensures { ReadsOnce buffer.old reader result buffer.new }
 {
     let ready = make_room(buffer, reader);
-    let filled = ready.filled;
-    let answer = answer_of(input.read(&mut buffer[filled..]));
-    took(ready, buffer, answer.moved, answer.error)
+    let answered = answer_of(input.read(&mut buffer[ready.filled..]));
+    took(ready, buffer, answered)
 }
 
 // Moves the bytes that wait to the buffer's start.
@@ -174,62 +185,29 @@ pub fn make_room(buffer: &mut [u8], reader: Reader) -> Reader
     ensures value { result ≡ room_made reader }
     ensures buffer_after { buffer.new ≡ moved reader buffer.old }
 {
-    let at = reader.at;
-    let count = reader.filled - at;
-    let mut i = 0;
-    while i < count {
-        buffer[i] = buffer[at + i];
-        i += 1;
-    }
-    let mut ready = reader;
-    ready.at = 0;
-    ready.filled = count;
-    ready
-}
-
-// What a call's answer says: 0 that the input has ended, a negative one that the call failed, any other how
-// many bytes came behind those that wait. More than there was room for cannot have come: the room is full
-// then.
-pub fn took(reader: Reader, buffer: &[u8], answer: isize, error: i32) -> Reader
-    requires { reader.filled ≤ length buffer.now }
-    ensures { Takes reader (length buffer.now - reader.filled) answer error result }
-{
-    if answer < 0 {
-        return missed(reader, error);
-    }
-    if answer == 0 {
-        return told(reader, Input::Ended);
-    }
-    let filled = reader.filled;
-    let count = io::count(answer, &buffer[filled..]);
-    let mut more = reader;
-    more.filled = filled + count;
-    more
-}
-
-// A call that failed: an interrupted one is tried again as long as it may be, any other error is told.
-fn missed(reader: Reader, error: i32) -> Reader
-    ensures { Misses reader error result }
-{
-    if error == INTERRUPTED {
-        if reader.retries > 0 {
-            let mut again = reader;
-            again.retries -= 1;
-            return again;
-        }
-    }
-    told(reader, Input::Failed(error))
-}
-
-// What a call told of the input, with the rest as it was.
-fn told(reader: Reader, input: Input) -> Reader
-    ensures { result ≡ told input reader }
-{
+    buffer.copy_within(reader.at..reader.filled, 0);
     Reader {
-        at: reader.at,
-        filled: reader.filled,
-        left: reader.left,
-        retries: reader.retries,
-        input,
+        at: 0,
+        filled: reader.filled - reader.at,
+        ..reader
+    }
+}
+
+// What a call's answer says: 0 bytes that the input has ended, any other number how many came behind those that wait,
+// or that the call failed. More than there was room for cannot have come: the room is full then.
+pub fn took(reader: Reader, buffer: &[u8], answered: Result<usize, i32>) -> Reader
+    requires { reader.filled ≤ length buffer.now }
+    ensures { Takes reader (length buffer.now - reader.filled) answered result }
+{
+    match answered {
+        Ok(0) => Reader {
+            input: Input::Ended,
+            ..reader
+        },
+        Ok(count) => Reader {
+            filled: reader.filled + count.min(buffer.len() - reader.filled),
+            ..reader
+        },
+        Err(error) => reader.missed(error),
     }
 }

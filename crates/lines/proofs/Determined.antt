@@ -1,9 +1,5 @@
 -- A library's text is determined: two texts of the same blocks for one report are identical.
-use Prim.Native.Nat.{ℕ}
-use mathlib.Core.Path.{◌≡◌, refl, ap, ap₂, sym, subst₂, ◌∙◌}
-use mathlib.Core.Bool.{Bool}
-use mathlib.Core.List.{List, [], ◌∷◌, ◌++◌}
-use lib.ListN.{take}
+use Rattle.std.proofs.Common.{ℕ, ◌≡◌, refl, ap, ap₂, sym, subst₂, ◌∙◌, Bool, List, [], ◌∷◌, ◌++◌, take}
 use Rattle.ac.specs.Values.{Binding}
 use Rattle.ac.proofs.Groups.{groups_unique}
 use Rattle.numbers.specs.Outcome.{Said, Outcome, refused, given}

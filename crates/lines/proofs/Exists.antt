@@ -1,11 +1,6 @@
 -- Every library has its text: the questions return something for every block.
-use Prim.Native.Nat.{ℕ, ◌+◌, ◌%◌, ◌<◌, ◌≤◌}
-use native.Mathlib.Omega.{arith}
-use mathlib.Core.Path.{◌≡◌, refl}
-use mathlib.Core.Bool.{Bool, true}
-use mathlib.Core.Logic.{◌⊎◌, inl, inr, ⊎_elim}
-use mathlib.Core.List.{List, [], ◌∷◌, Memᴰ}
-use lib.ListN.{length}
+use Rattle.std.proofs.Common.{ℕ, ◌+◌, ◌%◌, ◌<◌, ◌≤◌, arith, ◌≡◌, refl, Bool, true, ◌⊎◌, inl, inr, ⊎_elim, List, [], ◌∷◌, length}
+use mathlib.Core.List.{Memᴰ}
 use Rattle.ac.specs.Lists.{receives}
 use Rattle.ac.specs.Pair.{unifying}
 use Rattle.ac.specs.Rows.{Groups, GroupsOf}

@@ -1,10 +1,5 @@
 -- Laws of the text of blocks: one block more behind the others, and what is counted then.
-use Prim.Native.Nat.{ℕ, suc, ◌+◌, ◌-◌, ◌^◌, ◌%◌, ◌<◌, ◌≤◌}
-use native.Mathlib.Omega.{arith}
-use mathlib.Core.Path.{◌≡◌, refl, ap, sym, subst, ◌∙◌}
-use mathlib.Core.Bool.{Bool, true, false}
-use mathlib.Core.List.{List, [], ◌∷◌, ◌++◌, append_assoc, append-nil}
-use lib.ListN.{length, length-append}
+use Rattle.std.proofs.Common.{ℕ, suc, ◌+◌, ◌-◌, ◌^◌, ◌%◌, ◌<◌, ◌≤◌, arith, ◌≡◌, refl, ap, sym, subst, ◌∙◌, Bool, true, false, List, [], ◌∷◌, ◌++◌, append_assoc, append-nil, length, length-append}
 use Rattle.ac.specs.Lists.{keep, filter}
 use Rattle.ac.specs.Values.{Binding}
 use Rattle.output.specs.Step.{lines_joined}
@@ -12,7 +7,7 @@ use Rattle.tally.specs.Line.{BlockFound, line_of}
 use Rattle.numbers.specs.Outcome.{Outcome}
 use Rattle.tally.specs.Counts.{totals, counted}
 use Rattle.tally.specs.declared.Line.{Line}
-use Rattle.tally.specs.declared.Line.TheVariants.{Listed, Counted, NoUnifier, Refused, RefusedNaming}
+use Rattle.tally.specs.declared.Line.TheVariants.{Listed, Counted, NoUnifier, Refused}
 use Rattle.tally.specs.declared.Report.{Report}
 use Rattle.lines.specs.Lines.{block_lines}
 use Rattle.lines.specs.Library.{Returns, BlocksText, no_more, one_more, is_listed, is_none, is_refused, how_many, unifiers_in, total, counts_of}
@@ -88,17 +83,6 @@ counts_more lines line few small = go line (total-more lines line) small
     all : (line : Line) → length (lines ++ (line ∷ [])) ≡ length lines + 1
     all line = length-append lines (line ∷ [])
 
-    -- a line that is refused, with an atom or without
-    one_refused : (line : Line) → how_many is_listed (line ∷ []) ≡ 0 → how_many is_none (line ∷ []) ≡ 0
-        → how_many is_refused (line ∷ []) ≡ 1 → unifiers_in line ≡ 0
-        → counted (counts_of lines) line ≡ counted (counts_of lines) (Refused 0)
-        → counted (counts_of lines) line ≡ counts_of (lines ++ (line ∷ []))
-    one_refused line unlisted some refuses uncounted counts =
-        counts ∙ same_counts (omega (arith, all line)) (omega (arith, many_more is_listed lines line, unlisted))
-        (omega (arith, many_more is_none lines line, some))
-        (omega (arith, many_more is_refused lines line, many_within is_refused lines, refuses))
-        (omega (arith, total-more lines line, uncounted))
-
     go : (line : Line) → total (lines ++ (line ∷ [])) ≡ total lines + unifiers_in line
         → total (lines ++ (line ∷ [])) ≤ 2 ^ 64 - 1
         → counted (counts_of lines) line ≡ counts_of (lines ++ (line ∷ []))
@@ -115,5 +99,8 @@ counts_more lines line few small = go line (total-more lines line) small
         same_counts (omega (arith, all NoUnifier)) (omega (arith, many_more is_listed lines NoUnifier))
         (omega (arith, many_more is_none lines NoUnifier, many_within is_none lines))
         (omega (arith, many_more is_refused lines NoUnifier)) (omega (arith, sum))
-    go (Refused X) sum small = one_refused (Refused X) refl refl refl refl refl
-    go (RefusedNaming X atom) sum small = one_refused (RefusedNaming X atom) refl refl refl refl refl
+    go (Refused X atom) sum small =
+        let line = Refused X atom in
+        same_counts (omega (arith, all line)) (omega (arith, many_more is_listed lines line))
+        (omega (arith, many_more is_none lines line))
+        (omega (arith, many_more is_refused lines line, many_within is_refused lines)) (omega (arith, sum))

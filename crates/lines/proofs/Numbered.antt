@@ -1,10 +1,7 @@
 -- Laws of a block's lines by their numbers: 0 is the block's own, then one follows for each substitution of its
 -- page, and the last is what stands after the page.
-use Prim.Native.Nat.{ℕ, zero, suc, ◌+◌, ◌-◌, ◌<◌, ◌≤◌}
-use native.Mathlib.Omega.{arith}
-use mathlib.Core.Path.{◌≡◌, refl, ap, sym, ◌∙◌}
-use mathlib.Core.List.{List, [], ◌∷◌, map}
-use lib.ListN.{length, get_or, length-append, length-map, get_or-append}
+use Rattle.std.proofs.Common.{ℕ, zero, suc, ◌+◌, ◌-◌, ◌<◌, ◌≤◌, arith, ◌≡◌, refl, ap, sym, ◌∙◌, List, [], ◌∷◌, map, length, get_or, length-append}
+use lib.ListN.{length-map, get_or-append}
 use lib.Seq.{get_or-append_seam}
 use Rattle.ac.specs.Values.{Binding}
 use Rattle.ac.proofs.Places.{get_or-map}

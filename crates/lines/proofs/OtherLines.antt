@@ -1,15 +1,12 @@
 -- The lines that document 01's example does not have, as the documents print them.
-use Prim.Native.Nat.{ℕ}
-use mathlib.Core.Path.{◌≡◌, refl}
-use mathlib.Core.Bool.{true, false}
-use mathlib.Core.List.{List, [], ◌∷◌, ◌++◌}
+use Rattle.std.proofs.Common.{ℕ, ◌≡◌, refl, true, false, List, [], ◌∷◌, ◌++◌, None, Some}
 use Rattle.ac.specs.Values.{Binding}
 use Rattle.text.specs.Ascii.{ascii}
 use Rattle.text.specs.Decimal.{decimal}
 use Rattle.pair.specs.declared.ways.Way.TheVariants.{Unifying}
 use Rattle.tally.specs.Counts.{totals, closing_of}
 use Rattle.tally.specs.declared.Line.{Line}
-use Rattle.tally.specs.declared.Line.TheVariants.{Listed, Counted, Refused, RefusedNaming}
+use Rattle.tally.specs.declared.Line.TheVariants.{Listed, Counted, Refused}
 use Rattle.tally.specs.declared.Totals.{Totals}
 use Rattle.tally.specs.declared.Report.TheVariants.{Listing, Census}
 use Rattle.lines.specs.Lines.{block_line, substitution_line, end_line, closing_lines}
@@ -47,16 +44,16 @@ unfolding decimal
 where_more_follow = refl
 
 -- Any other number gives `block P refused X`, and no page.
-pub where_refused : block_line 65_536 (Refused 16) ++ end_line (Refused 16) ≡ ascii "block 65536 refused 16\n"
+pub where_refused : block_line 65_536 (Refused 16 None) ++ end_line (Refused 16 None) ≡ ascii "block 65536 refused 16\n"
 unfolding decimal
 where_refused = refl
 
 -- Where it names an atom, the atom follows: `block P refused 10 v7` (document 02, R-2), and a constant is `c3`.
-pub where_named : block_line 3 (RefusedNaming 10 7) ++ end_line (RefusedNaming 10 7) ≡ ascii "block 3 refused 10 v7\n"
+pub where_named : block_line 3 (Refused 10 (Some 7)) ++ end_line (Refused 10 (Some 7)) ≡ ascii "block 3 refused 10 v7\n"
 unfolding decimal
 where_named = refl
 
-pub where_a_constant_is_named : block_line 0 (RefusedNaming 10 67) ≡ ascii "block 0 refused 10 c3\n"
+pub where_a_constant_is_named : block_line 0 (Refused 10 (Some 67)) ≡ ascii "block 0 refused 10 c3\n"
 unfolding decimal
 where_a_constant_is_named = refl
 

@@ -1,11 +1,7 @@
 -- Laws of texts of bounded length, put one after the other.
-use Prim.Native.Nat.{ℕ, ◌+◌, ◌≤◌}
-use native.Mathlib.Omega.{arith}
-use mathlib.Core.Path.{◌≡◌}
-use mathlib.Core.List.{List, [], ◌++◌}
-use lib.ListN.{length}
+use Rattle.std.proofs.Common.{ℕ, ◌+◌, ◌≤◌, arith, ◌≡◌, List, ◌++◌, length}
 use Rattle.buffer.specs.Put.{Put}
-use Rattle.buffer.proofs.Puts.{put_as, put_nothing, put_then}
+use Rattle.buffer.proofs.Puts.{put_as, put_then}
 use Rattle.lines.specs.Putting.{PutWithin}
 
 module _ {out after : List ℕ} {at next : ℕ} {text : List ℕ} where
@@ -23,12 +19,14 @@ module _ {out after : List ℕ} {at next : ℕ} {text : List ℕ} where
       → PutWithin most out at said next after
   within_as e p = record { put = put_as e p.put; within = p.within }
 
--- nothing takes no bytes
-pub within_nothing : (out : List ℕ) (at most : ℕ) → PutWithin most out at [] at out
-within_nothing out at most = record { put = put_nothing out at; within = omega arith }
-
 -- one text and then another take at most as many bytes as both
 pub within_then : {out mid after : List ℕ} {at k next m n : ℕ} {s t : List ℕ}
     → PutWithin m out at s k mid → PutWithin n mid k t next after → PutWithin (m + n) out at (s ++ t) next after
 within_then first second =
     record { put = put_then first.put second.put; within = omega (arith, first.within, second.within) }
+
+-- a text and then a last one take at most as many bytes as are lent
+pub within_end : {out mid after : List ℕ} {at k next m most : ℕ} {s t : List ℕ}
+    → PutWithin m out at s k mid → Put mid k t next after → m + length t ≤ most
+    → PutWithin most out at (s ++ t) next after
+within_end first last few = within_more (within_then first (within_length last)) few

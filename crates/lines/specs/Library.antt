@@ -22,7 +22,7 @@ use Rattle.tally.specs.Counts.{totals, closing_of}
 use Rattle.tally.specs.declared.Report.{Report}
 use Rattle.tally.specs.declared.Report.TheVariants.{Listing, Census}
 use Rattle.tally.specs.declared.Line.{Line}
-use Rattle.tally.specs.declared.Line.TheVariants.{Listed, Counted, NoUnifier, Refused, RefusedNaming}
+use Rattle.tally.specs.declared.Line.TheVariants.{Listed, Counted, NoUnifier, Refused}
 use Rattle.tally.specs.declared.Totals.{Totals}
 use Rattle.lines.specs.Lines.{block_lines, closing_lines}
 
@@ -100,22 +100,19 @@ abbrev pub is_listed : Line → Bool
 is_listed (Listed H K N more) = true
 is_listed (Counted N) = false
 is_listed NoUnifier = false
-is_listed (Refused X) = false
-is_listed (RefusedNaming X atom) = false
+is_listed (Refused X atom) = false
 
 abbrev pub is_none : Line → Bool
 is_none (Listed H K N more) = false
 is_none (Counted N) = false
 is_none NoUnifier = true
-is_none (Refused X) = false
-is_none (RefusedNaming X atom) = false
+is_none (Refused X atom) = false
 
 abbrev pub is_refused : Line → Bool
 is_refused (Listed H K N more) = false
 is_refused (Counted N) = false
 is_refused NoUnifier = false
-is_refused (Refused X) = true
-is_refused (RefusedNaming X atom) = true
+is_refused (Refused X atom) = true
 
 -- how many lines are of a kind
 abbrev pub how_many : (Line → Bool) → List Line → ℕ
@@ -126,8 +123,7 @@ abbrev pub unifiers_in : Line → ℕ
 unifiers_in (Listed H K N more) = 0
 unifiers_in (Counted N) = N
 unifiers_in NoUnifier = 0
-unifiers_in (Refused X) = 0
-unifiers_in (RefusedNaming X atom) = 0
+unifiers_in (Refused X atom) = 0
 
 -- T, "the sum over the blocks that were counted"
 abbrev pub total : List Line → ℕ

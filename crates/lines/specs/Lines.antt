@@ -1,12 +1,12 @@
 -- The lines of a listing (document 01, "The nightly program") and of a census (document 02, R-7). Numbers are decimal; a
 -- line ends in a line feed.
-use Rattle.std.specs.Prelude.{ℕ, Bool, cond, List, [], ◌∷◌, ◌++◌, map}
+use Rattle.std.specs.Prelude.{ℕ, Bool, if◌then◌else◌, None, Some, List, [], ◌∷◌, ◌++◌, map}
 use Rattle.ac.specs.Values.{Binding}
 use Rattle.text.specs.Ascii.{ascii}
 use Rattle.text.specs.Decimal.{decimal}
 use Rattle.text.specs.Text.{name, substitution}
 use Rattle.tally.specs.declared.Line.{Line}
-use Rattle.tally.specs.declared.Line.TheVariants.{Listed, Counted, NoUnifier, Refused, RefusedNaming}
+use Rattle.tally.specs.declared.Line.TheVariants.{Listed, Counted, NoUnifier, Refused}
 use Rattle.tally.specs.declared.Totals.{Totals}
 use Rattle.tally.specs.declared.LastLine.{LastLine}
 use Rattle.tally.specs.declared.LastLine.TheVariants.{NothingRead, Counts, Total}
@@ -44,8 +44,8 @@ abbrev pub block_line : ℕ → Line → List ℕ
 block_line P (Listed H K N more) = rows_line P H K
 block_line P (Counted N) = unifiers_line P N
 block_line P NoUnifier = none_line P
-block_line P (Refused X) = refused_line P X
-block_line P (RefusedNaming X atom) = naming_line P X atom
+block_line P (Refused X None) = refused_line P X
+block_line P (Refused X (Some atom)) = naming_line P X atom
 
 -- then the first page, one substitution a line
 abbrev pub substitution_line : List Binding → List ℕ
@@ -53,15 +53,14 @@ substitution_line bs = substitution bs ++ ascii "\n"
 
 -- then `end N` (lines printed) or `more`
 abbrev pub page_end : ℕ → Bool → List ℕ
-page_end N more = cond more (ascii "more\n") (labelled (ascii "end ") N ++ ascii "\n")
+page_end N more = if more then ascii "more\n" else labelled (ascii "end ") N ++ ascii "\n"
 
 -- where there is no page, nothing
 abbrev pub end_line : Line → List ℕ
 end_line (Listed H K N more) = page_end N more
 end_line (Counted N) = []
 end_line NoUnifier = []
-end_line (Refused X) = []
-end_line (RefusedNaming X atom) = []
+end_line (Refused X atom) = []
 
 -- the lines of a block at its place in the file, of which the page may have none
 abbrev pub block_lines : ℕ → Line → List (List Binding) → List (List ℕ)
@@ -88,7 +87,7 @@ last_line (Total T) = total_line T
 
 -- If input remains, the line `too long` stands before the last line.
 abbrev pub too_long : Bool → List ℕ
-too_long remains = cond remains (ascii "too long\n") []
+too_long remains = if remains then ascii "too long\n" else []
 
 abbrev pub closing_lines : Closing → List ℕ
 closing_lines c = too_long c.remains ++ last_line c.last

@@ -64,7 +64,7 @@ fn put_refusal(out: &mut [u8], at: usize, place: u64, number: u8) -> usize
     ensures { PutWithin 64 out.old at (refusal place number) result out.new }
 {
     let next = put_labelled(out, at, b"block ", place);
-    put_labelled(out, next, b" refused ", number as u64)
+    put_labelled(out, next, b" refused ", u64::from(number))
 }
 
 // `block P refused X`.
@@ -104,13 +104,15 @@ pub fn put_block_line(out: &mut [u8], at: usize, place: u64, line: Line) -> usiz
         Line::Listed {
             balanced,
             of_constants,
-            lines: _,
-            more: _,
+            ..
         } => put_rows(out, at, place, balanced, of_constants),
         Line::Counted(unifiers) => put_unifiers(out, at, place, unifiers),
         Line::NoUnifier => put_none(out, at, place),
-        Line::Refused(number) => put_refused(out, at, place, number),
-        Line::RefusedNaming { number, atom } => put_naming(out, at, place, number, atom),
+        Line::Refused { number, atom: None } => put_refused(out, at, place, number),
+        Line::Refused {
+            number,
+            atom: Some(atom),
+        } => put_naming(out, at, place, number, atom),
     }
 }
 
@@ -132,16 +134,8 @@ pub fn put_end_line(out: &mut [u8], at: usize, line: Line) -> usize
     ensures { PutWithin 128 out.old at (end_line line) result out.new }
 {
     match line {
-        Line::Listed {
-            balanced: _,
-            of_constants: _,
-            lines,
-            more,
-        } => put_page_end(out, at, lines, more),
-        Line::Counted(_) => at,
-        Line::NoUnifier => at,
-        Line::Refused(_) => at,
-        Line::RefusedNaming { number: _, atom: _ } => at,
+        Line::Listed { lines, more, .. } => put_page_end(out, at, lines, more),
+        _ => at,
     }
 }
 
@@ -195,8 +189,7 @@ pub fn put_closing(out: &mut [u8], at: usize, closing: Closing) -> usize
     ensures { PutWithin 128 out.old at (closing_lines closing) result out.new }
 {
     let next = put_too_long(out, at, closing.remains);
-    let last = closing.last;
-    put_last(out, next, last)
+    put_last(out, next, closing.last)
 }
 
 // The line of a substitution, from the bytes of Values.

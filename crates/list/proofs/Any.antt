@@ -1,7 +1,6 @@
 -- Laws of "some number below n passes" and "every number below n passes".
 use Prim.Native.Nat.{ℕ, zero, suc, ◌+◌, ◌<◌, ◌≤◌}
 use native.Mathlib.Omega.{arith}
-use native.Mathlib.Numerals.{add-one}
 use native.Mathlib.Decide.{dec_lt}
 use mathlib.Core.Path.{◌≡◌, refl, sym, ◌∙◌, ap, ap₂, subst}
 use mathlib.Core.Bool.{Bool, true, false, ◌||◌, ◌&&◌, false≢true, or-false, or_assoc}
@@ -31,10 +30,6 @@ any_found (suc n) i test h e = go (dec_lt i n) (λ g. any_found n i test g e)
     go (no g) rec =
         let same : i ≡ n = omega arith in
         ap (λ b. any n test || b) (subst (λ k. test k ≡ true) same e) ∙ or_true (any n test)
-
--- where none passed so far and this one does not, none passed with this one
-pub any-more : (i : ℕ) (test : ℕ → Bool) → any i test ≡ false → test i ≡ false → any (i + 1) test ≡ false
-any-more i test e f = ap (λ n. any n test) (add-one i) ∙ ap₂ (λ a b. a || b) e f
 
 -- where one passes, there is one that does
 pub any_some : (n : ℕ) (test : ℕ → Bool) → any n test ≡ true → (i : ℕ) × (i < n) × (test i ≡ true)

@@ -1,27 +1,21 @@
--- A shift and a mask as arithmetic: one law for a field of any width at any place; the bits that two masks have
+-- What a shift and a mask tell of a key; the bits that two masks have
 -- in common, and the lowest one of a mask.
-use Prim.Native.Nat.{ℕ, zero, suc, ◌+◌, ◌/◌, ◌%◌, ◌^◌, ◌-◌, ◌*◌, ◌<◌, ◌≤◌}
+use Prim.Native.Nat.{ℕ, ◌/◌, ◌%◌, ◌^◌, ◌-◌, ◌*◌, ◌<◌, ◌≤◌}
 use native.Mathlib.Omega.{arith}
 use native.Mathlib.Nat.{div-lt_iff_lt-mul}
 use native.Mathlib.Decide.{dec_lt}
 use mathlib.Core.Path.{◌≡◌, refl, sym, ◌∙◌, ap}
-use mathlib.Core.Bool.{Bool, true, false, ◌&&◌, false≢true, and_comm}
-use borrow.Author.Tests.{lt-ltb, le-ltb}
+use mathlib.Core.Bool.{Bool, true, false, ◌&&◌, not, false≢true, and_comm}
+use borrow.Author.Tests.{eq-eqb, ne_eqb}
 use lib.Bits.{bit_and, and_mask, mask_lt, and_le_r}
-use lib.Count.{count_trailing_zeros, under}
-use lib.Dec.{ltb, eqb}
-use lib.Pow.{pow_pos, shr-shr}
+use Rattle.std.specs.Int.{trailing_zeros, w64}
+use Rattle.std.proofs.lemmas.Nat.Bits.{bit_at-trailing_zeros}
+use lib.Dec.{eqb}
+use lib.Pow.{pow_pos}
 use Rattle.ac.specs.Keys.{bit}
 use Rattle.table.proofs.Bits.{bit_of_low, no_bit_from, bit-bit_and, no_bit_zero}
 use Rattle.list.specs.Reach.{takes_any, NoRowBelow}
 use Rattle.list.proofs.Any.{any_some, any_none}
-
--- the field of the given width that begins at bit `at`
-pub field_at : (key at width : ℕ) → bit_and (key / 2 ^ at) (2 ^ width - 1) ≡ key / 2 ^ at % 2 ^ width
-field_at key at width = and_mask (key / 2 ^ at) width
-
-pub field_below : (key at width : ℕ) → bit_and (key / 2 ^ at) (2 ^ width - 1) < 2 ^ width
-field_below key at width = mask_lt (key / 2 ^ at) width
 
 -- what a shift by n leaves of the low bits tells whether they are below 2 ^ n
 pub nothing_beyond : (key width n : ℕ) → bit_and key (2 ^ width - 1) / 2 ^ n ≤ 0 → key % 2 ^ width < 2 ^ n
@@ -39,7 +33,7 @@ something_beyond key width n h = go (dec_lt (key % 2 ^ width) (2 ^ n))
     go (no high) = omega arith
 
 -- that a mask and the low 16 bits have a bit in common tells whether the key takes one of its rows
-pub takes_common : (rows key : ℕ) → ltb 0 (bit_and rows (bit_and key 65535)) ≡ takes_any rows key
+pub takes_common : (rows key : ℕ) → not (eqb (bit_and rows (bit_and key 65535)) 0) ≡ takes_any rows key
 unfolding takes_any
 takes_common rows key = go (takes_any rows key) refl
   where
@@ -55,32 +49,21 @@ takes_common rows key = go (takes_any rows key) refl
     small : common < 2 ^ 16
     small = omega (arith, and_le_r rows (bit_and key 65535), mask_lt key 16)
 
-    go : (b : Bool) → takes_any rows key ≡ b → ltb 0 common ≡ b
+    go : (b : Bool) → takes_any rows key ≡ b → not (eqb common 0) ≡ b
     go true e =
         let some = any_some 16 (λ i. bit key i && bit rows i) e in
-        lt-ltb 0 common (above (dec_lt 0 common) some.0 (bits some.1 ∙ some.2))
+        ap not (ne_eqb common 0 (λ nothing. false≢true (sym (none nothing some.0) ∙ bits some.1 ∙ some.2)))
       where
-        above : Dec (0 < common) → (i : ℕ) → bit common i ≡ true → 0 < common
-        above (yes h) i set = h
-        above (no h) i set =
-            let none : common < 2 ^ 0 = omega arith in
-            absurd (false≢true (sym (no_bit_from {n = common} {w = 0} {i = i} none (omega arith)) ∙ set))
+        none : common ≡ 0 → (i : ℕ) → bit common i ≡ false
+        none nothing i = no_bit_from {n = common} {w = 0} {i = i} (omega arith) (omega arith)
     go false e =
-        let nothing = no_bit_zero 16 common small
-        (λ i h. bits h ∙ any_none {n = 16} (λ j. bit key j && bit rows j) e h) in
-        le-ltb 0 common (omega (arith, nothing))
+        ap not (eq-eqb common 0 (no_bit_zero 16 common small
+        (λ i h. bits h ∙ any_none {n = 16} (λ j. bit key j && bit rows j) e h)))
 
 -- below the zeros at its end a mask has no row
-pub no_row_below : (k rows : ℕ) → NoRowBelow rows (count_trailing_zeros k rows)
-unfolding count_trailing_zeros
-no_row_below zero rows i h = absurd (omega arith)
-no_row_below (suc k) rows i h = go (rows % 2) refl (no_row_below k (rows / 2)) i h
+pub no_row_below : (rows : ℕ) → rows < 2 ^ 64 → NoRowBelow rows (trailing_zeros w64 rows)
+no_row_below rows fits i h = go (dec_lt 0 rows)
   where
-    go : (digit : ℕ) → rows % 2 ≡ digit → NoRowBelow (rows / 2) (count_trailing_zeros k (rows / 2))
-        → NoRowBelow rows (under digit (count_trailing_zeros k (rows / 2)))
-    go (suc d) e rest i h = absurd (omega arith)
-    go zero e rest zero h = ap (λ n. eqb n 1) (let z : rows / 1 % 2 ≡ 0 = omega arith in z)
-    go zero e rest (suc i) h =
-        ap (λ n. eqb (n % 2) 1)
-        (ap (λ (j : ℕ). rows / 2 ^ j) (let z : suc i ≡ 1 + i = omega arith in z) ∙ sym (shr-shr rows 1 i))
-        ∙ rest i (omega arith)
+    go : Dec (0 < rows) → bit rows i ≡ false
+    go (yes some) = ap (λ n. eqb n 1) ((bit_at-trailing_zeros w64 rows some fits).2 i h)
+    go (no none) = no_bit_from {n = rows} {w = 0} {i = i} (omega arith) (omega arith)

@@ -47,12 +47,6 @@ block_end_inside key {inner} {outer} h =
         ∙ ap (λ (n : ℕ). (key / 2 ^ outer + 1) * n) (pow-add 2 (outer - inner) inner)
         ∙ sym (mul_assoc (key / 2 ^ outer + 1) (2 ^ (outer - inner)) (2 ^ inner))
 
--- the last block ends with the keys
-pub block_end_within : (key bits : ℕ) → key < 2 ^ 32 → bits ≤ 32 → block_end key bits ≤ 2 ^ 32
-block_end_within key bits fits within =
-    let first : key / 2 ^ 32 ≡ 0 = omega arith in
-    omega (arith, block_end_inside key within)
-
 -- within a block a field that reaches up to the block's width does not fall
 pub field_rises : {key other : ℕ} (at width : ℕ) → key ≤ other → other / 2 ^ (at + width) ≡ key / 2 ^ (at + width)
     → key / 2 ^ at % 2 ^ width ≤ other / 2 ^ at % 2 ^ width

@@ -27,10 +27,6 @@ pub record Read (sizes : List ℕ) (unbalanced key g tuple : ℕ) : Type 0 where
       → tuple_rank tuple (drop g G.constants) (drop g (selection_at layout G key).indexes)
       ≡ tuple_rank 0 G.constants (selection_at layout G key).indexes
 
-module _ (sizes : List ℕ) (unbalanced key : ℕ) where
-  pub read_none : Read sizes unbalanced key 0 0
-  read_none = record { not_too_many = omega arith; small = omega arith; the_rest = λ G sized fits. refl }
-
 module _ {sizes : List ℕ} {unbalanced key g tuple : ℕ} (read : Read sizes unbalanced key g tuple) where
   -- one more
   pub read_next : {index : ℕ} → g < unbalanced → ((h : ℕ) → get_or sizes h 0 ≤ most_rows h) → index ≡ field_at layout key g

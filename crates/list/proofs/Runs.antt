@@ -31,14 +31,6 @@ in_turn_after n i first second =
     ∙ ap second (let e : n + i - n ≡ i = omega arith in e)
 
 -- a run of a constant, and one of a balanced row
-module _ (rows : List ℕ) (s : KeyedSelection) (place : ℕ) {run : ℕ} where
-  pub times_constant : run < s.unbalanced → times_at rows s place run ≡ constant_times rows s.key place run
-  times_constant h = in_turn_first (constant_times rows s.key place) (balanced_times rows s.key place) h
-
-  pub times_balanced : s.unbalanced ≤ run
-      → times_at rows s place run ≡ balanced_times rows s.key place (run - s.unbalanced)
-  times_balanced h = in_turn_second (constant_times rows s.key place) (balanced_times rows s.key place) h
-
 module _ (s : KeyedSelection) {run : ℕ} where
   pub atom_constant : run < s.unbalanced → atom_of s run ≡ get_or s.constants run 0
   atom_constant h = in_turn_first (λ g. get_or s.constants g 0) (λ i. layout.new + i) h

@@ -4,18 +4,18 @@ use Prim.Native.Nat.{ℕ, ◌+◌, ◌-◌, ◌*◌, ◌/◌, ◌^◌, ◌<◌, 
 use native.Mathlib.Omega.{arith}
 use native.Mathlib.Nat.{div-lt_iff_lt-mul}
 use native.Mathlib.Decide.{dec_lt}
-use mathlib.Core.Path.{◌≡◌, ap, subst}
-use mathlib.Core.Bool.{Bool, false}
+use mathlib.Core.Path.{◌≡◌, ap}
+use mathlib.Core.Bool.{false}
 use mathlib.Core.List.{List}
 use lib.Bits.{bit_and, and_mask}
 use lib.Pow.{pow_pos, pow_mono}
 use Rattle.ac.specs.Rows.{Groups}
-use Rattle.ac.specs.Keys.{layout, Fits}
-use Rattle.table.specs.Masks.{Marked}
+use Rattle.table.specs.Masks.{Sized}
+use Rattle.table.specs.declared.masks.Masks.{Masks}
+use lib.ListN.{length, get_or}
 use Rattle.list.specs.Reach.{InTuple, Weighs}
-use Rattle.list.specs.Candidates.{admits, LeastWithin, found, nothing}
-use Rattle.list.specs.declared.NextKey.{NextKey}
-use Rattle.list.specs.declared.NextKey.TheVariants.{Key, None}
+use Rattle.list.specs.Candidates.{admits, LeastWithin, OfTheirGroups, found, nothing}
+use Rattle.std.specs.Prelude.{Option, Some, None}
 
 -- what a shift leaves of a mask tells whether it has a bit beyond the balanced rows
 pub no_bit_left : (mask balanced : ℕ) → mask / 2 ^ balanced ≡ 0 → mask < 2 ^ balanced
@@ -47,46 +47,38 @@ mask_on tuple mask {key} packed small within =
     let same : key / 65536 ≡ tuple = omega arith in
     omega (arith, within.0, within.1, same, ap (λ (n : ℕ). n * 65536) same)
 
--- a key begins with its own tuple and mask
-pub from_key : (passes : ℕ → Bool) (key end : ℕ) {next : NextKey}
-    → LeastWithin passes (key / 65536 * 65536 + bit_and key 65535) end next → LeastWithin passes key end next
-from_key passes key end {next} tried =
-    let begins : key / 65536 * 65536 + bit_and key 65535 ≡ key = omega (arith, and_mask key 16) in
-    subst (λ (n : ℕ). LeastWithin passes n end next) begins tried
+-- as many sets as the balanced rows have
+all_balanced : {sizes : List ℕ} {unbalanced : ℕ} {G : Groups} → Sized sizes unbalanced G
+    → 2 ^ length G.balanced ≡ 2 ^ get_or sizes 0 0
+all_balanced sized = ap (λ (n : ℕ). 2 ^ n) (sized.a_size_each 0 (omega arith))
 
-module _ (reaching : List ℕ) (unbalanced places must balanced tuple from : ℕ) where
-  -- it is so of all groups that the masks are of
-  abbrev OfTheirGroups : (Groups → Type 0) → Type 0
-  OfTheirGroups So =
-      (G : Groups) → Marked reaching unbalanced places G → Fits layout G → So G
-
-  -- the masks from the first on to before this one lack a row or miss a place
+module _ (m : Masks) (key : ℕ) where
+  -- the masks from the key's on to before this one lack a row or miss a place
   abbrev pub Missed : ℕ → Type 0
-  Missed mask = OfTheirGroups (λ G. (other : ℕ) → tuple * 65536 + from ≤ other → other < tuple * 65536 + mask
-      → admits G places must other ≡ false)
+  Missed mask = OfTheirGroups m (λ G. (other : ℕ) → key ≤ other → other < key / 65536 * 65536 + mask
+      → admits G m.places m.must other ≡ false)
 
-  -- what was tried of a tuple
-  abbrev Tried : NextKey → Type 0
-  Tried next = OfTheirGroups (λ G. LeastWithin (admits G places must) (tuple * 65536 + from)
-      (tuple * 65536 + 2 ^ balanced) next)
+  -- what was tried of the key's tuple
+  abbrev Tried : Option ℕ → Type 0
+  Tried next = OfTheirGroups m (λ G. LeastWithin (admits G m.places m.must) key
+      (key / 65536 * 65536 + 2 ^ length G.balanced) next)
 
-  pub missed_none : Missed from
-  missed_none G marked fits other above below = absurd (omega arith)
-
-  module _ (mask : ℕ) {key first : ℕ} (missed : Missed mask) (packed : key ≡ tuple * 65536 + mask)
-      (weighed : OfTheirGroups (λ G. Weighs (admits G places must) key first)) where
+  module _ (mask : ℕ) {tried first : ℕ} (missed : Missed mask) (packed : tried ≡ key / 65536 * 65536 + mask)
+      (weighed : OfTheirGroups m (λ G. Weighs (admits G m.places m.must) tried first)) where
     -- those that are passed over do so too
-    pub missed_more : key ≤ first → Missed (mask + (first - key))
-    missed_more from_on G marked fits other above below = go (dec_lt other (tuple * 65536 + mask))
+    pub missed_more : tried ≤ first → Missed (mask + (first - tried))
+    missed_more from_on G sized marked fits other above below = go (dec_lt other (key / 65536 * 65536 + mask))
       where
-        go : Dec (other < tuple * 65536 + mask) → admits G places must other ≡ false
-        go (yes before) = missed G marked fits other above before
-        go (no beyond) = (weighed G marked fits).none_before other (omega arith) (omega arith)
+        go : Dec (other < key / 65536 * 65536 + mask) → admits G m.places m.must other ≡ false
+        go (yes before) = missed G sized marked fits other above before
+        go (no beyond) = (weighed G sized marked fits).none_before other (omega arith) (omega arith)
 
-    pub missed_found : first ≡ key → mask < 2 ^ balanced → from ≤ mask → Tried (Key key)
-    missed_found itself low above G marked fits =
-        found {key = key} (omega arith) (omega arith) ((weighed G marked fits).itself itself)
-        (λ other from_on before. missed G marked fits other from_on (omega (arith, before)))
+    pub missed_found : first ≡ tried → mask < 2 ^ get_or m.sizes 0 0 → bit_and key 65535 ≤ mask → Tried (Some tried)
+    missed_found itself low above G sized marked fits =
+        found {key = tried} (omega (arith, and_mask key 16)) (omega (arith, all_balanced sized))
+        ((weighed G sized marked fits).itself itself)
+        (λ other from_on before. missed G sized marked fits other from_on (omega (arith, before)))
 
-  pub missed_all : {mask : ℕ} → Missed mask → 2 ^ balanced ≤ mask → Tried None
-  missed_all missed end G marked fits = nothing (λ other above below. missed G marked fits other above (omega arith))
+  pub missed_all : {mask : ℕ} → Missed mask → 2 ^ get_or m.sizes 0 0 ≤ mask → Tried None
+  missed_all missed end G sized marked fits =
+      nothing (λ other above below. missed G sized marked fits other above (omega (arith, all_balanced sized)))

@@ -16,15 +16,12 @@ use Rattle.ac.specs.Pages.{LeastFrom, NoneFrom}
 use Rattle.ac.proofs.Taken.{admissible_reaches, admissible_takes}
 use Rattle.ac.proofs.AllTaken.{candidate_full}
 use Rattle.ac.proofs.Listed.{listed_candidates, keys_below}
-use Rattle.table.specs.Table.{groups_in, InRoom, TableOf}
-use Rattle.table.specs.Masks.{Sized, Marked, places_to_reach, rows_to_take, MasksOf, Coherent}
+use Rattle.table.specs.Table.{groups_in, TableOf}
+use Rattle.table.specs.Masks.{places_to_reach, rows_to_take, MasksOf}
 use Rattle.table.specs.declared.Table.{Table}
 use Rattle.table.specs.declared.masks.Masks.{Masks}
-use Rattle.list.specs.declared.KeyStanding.{KeyStanding}
-use Rattle.list.specs.declared.KeyStanding.TheVariants.{Candidate as IsCandidate, NoneBefore}
-use Rattle.list.specs.declared.NextKey.{NextKey}
-use Rattle.list.specs.declared.NextKey.TheVariants.{Key, None}
-use Rattle.list.specs.Candidates.{StandsAmong, on_candidate, between, fills, admits, NoneInBlock, LeastWithin}
+use Rattle.std.specs.Prelude.{Option, Some, None, is_some}
+use Rattle.list.specs.Candidates.{StandsAmong, on_candidate, between, fills, admits, NoneInBlock, LeastWithin, OfTheirGroups}
 use Rattle.list.specs.Candidates as within
 use Rattle.list.specs.Reach.{takes_all}
 use Rattle.list.specs.List.{OfTheirList, NextFrom, found, nothing}
@@ -37,9 +34,6 @@ use Rattle.list.proofs.Table.{table_fits}
 -- no listed key stands from the one number to before the other
 abbrev pub Passed : Masks → ℕ → ℕ → Type 0
 Passed m start at = OfTheirList m (λ keys. (other : ℕ) → Memᴰ other keys → start ≤ other → at ≤ other)
-
-pub passed_none : (m : Masks) (start : ℕ) → Passed m start start
-passed_none m start t its M L R of other mem h = h
 
 -- the walk from the one number has come to the other
 pub record Walked (m : Masks) (start at : ℕ) : Type 0 where
@@ -89,9 +83,10 @@ module _ {m : Masks} {t : Table} (its : MasksOf t m) {M : Mode} {L R : List ℕ}
   reached_listed candidate e =
       (listed_candidates (table_fits of.within) M L R).1 (candidate, admissible_admits candidate ∙ e)
 
--- it is so of the groups of every table that the masks are of
-abbrev OfTheirGroups : Masks → (Groups → Type 0) → Type 0
-OfTheirGroups m So = (t : Table) → MasksOf t m → InRoom t → So (groups_in t)
+-- it is so of the groups of the table
+of_the_table : {m : Masks} {t : Table} {So : Groups → Type 0} → MasksOf t m → {M : Mode} {L R : List ℕ}
+    → TableOf M L R t → OfTheirGroups m So → So (groups_in t)
+of_the_table {t = t} its of so = so (groups_in t) its.sized its.marked (table_fits of.within)
 
 module _ {m : Masks} {start at : ℕ} (passed : Passed m start at) where
   -- where no candidate before a later number is admissible, the walk goes on there
@@ -102,7 +97,7 @@ module _ {m : Masks} {start at : ℕ} (passed : Passed m start at) where
       go : Dec (other < later) → later ≤ other
       go (yes before) =
           let reached = listed_reached its of mem in
-          absurd (false≢true (sym (missed t its of.within other (passed t its M L R of other mem h) before
+          absurd (false≢true (sym (of_the_table its of missed other (passed t its M L R of other mem h) before
           reached.0) ∙ reached.1))
       go (no beyond) = omega arith
 
@@ -118,13 +113,13 @@ module _ {m : Masks} {start at : ℕ} (passed : Passed m start at) where
         keys_below (table_fits of.within) M L R mem,
       ))
 
-between_none : {m : Masks} {key later : ℕ} → StandsAmong m.sizes m.unbalanced key (NoneBefore later)
+between_none : (m : Masks) {key later : ℕ} → StandsAmong m.sizes m.unbalanced key (Some later)
     → (key < later) × OfTheirGroups m (λ G. (other : ℕ) → key ≤ other → other < later → Candidate layout G other → ⊥)
-between_none (between less none) = (less, λ t its within. none (groups_in t) its.sized (table_fits within))
+between_none m (between less none) = (less, λ G sized marked fits. none G sized fits)
 
-stands_candidate : {m : Masks} {key : ℕ} → StandsAmong m.sizes m.unbalanced key IsCandidate
+stands_candidate : (m : Masks) {key : ℕ} → StandsAmong m.sizes m.unbalanced key None
     → OfTheirGroups m (λ G. Candidate layout G key)
-stands_candidate (on_candidate candidate) t its within = candidate (groups_in t) its.sized (table_fits within)
+stands_candidate m (on_candidate candidate) G sized marked fits = candidate G sized fits
 
 -- a candidate's tuple of row indexes makes a candidate with every set of balanced rows
 same_tuple : {G : Groups} {key : ℕ} → Fits layout G → Candidate layout G key → (mask : ℕ)
@@ -143,115 +138,98 @@ same_tuple {G} {key} fits candidate mask low =
           candidate.no_bit_above in let z : key / 65536 * 65536 + mask < 4294967296 = omega arith in z;
     }
 
-none_within : {passes : ℕ → Bool} {from end : ℕ} {next : NextKey} → LeastWithin passes from end next → next ≡ None
-    → (other : ℕ) → from ≤ other → other < end → passes other ≡ false
-none_within {passes} {from} {end} told e = of_none (subst (LeastWithin passes from end) e told)
-  where
-    of_none : LeastWithin passes from end None → (other : ℕ) → from ≤ other → other < end → passes other ≡ false
-    of_none (within.nothing missed) = missed
-
-found_within : {passes : ℕ → Bool} {from end key : ℕ} {next : NextKey} → LeastWithin passes from end next
-    → next ≡ Key key
-    → (from ≤ key) × (key < end) × (passes key ≡ true)
-    × ((other : ℕ) → from ≤ other → other < key → passes other ≡ false)
-found_within {passes} {from} {end} {key} told e = of_key (subst (LeastWithin passes from end) e told)
-  where
-    of_key : LeastWithin passes from end (Key key)
-        → (from ≤ key) × (key < end) × (passes key ≡ true)
-        × ((other : ℕ) → from ≤ other → other < key → passes other ≡ false)
-    of_key (within.found low high passed before) = (low, high, passed, before)
+-- where nothing was found, none passes
+none_within : {passes : ℕ → Bool} {from end : ℕ} {next : Option ℕ} → LeastWithin passes from end next
+    → is_some next ≡ false → (other : ℕ) → from ≤ other → other < end → passes other ≡ false
+none_within (within.nothing missed) e = missed
+none_within (within.found low high passed before) e = cc e
 
 -- One step of the walk, from what was told of the number that it has come to.
-module _ {m : Masks} {start at : ℕ} (walked : Walked m start at) {standing : KeyStanding}
-    (stood : StandsAmong m.sizes m.unbalanced at standing) where
-  pub step_between : {later : ℕ} → standing ≡ NoneBefore later → (at < later) × Walked m start later
+module _ {m : Masks} {start at : ℕ} (walked : Walked m start at) {gap : Option ℕ}
+    (stood : StandsAmong m.sizes m.unbalanced at gap) where
+  pub step_between : {later : ℕ} → gap ≡ Some later → (at < later) × Walked m start later
   step_between {later} e =
-      let h = between_none {m = m} (subst (StandsAmong m.sizes m.unbalanced at) e stood) in (
+      let h = between_none m (subst (StandsAmong m.sizes m.unbalanced at) e stood) in (
         h.0,
         record {
           above = omega (arith, walked.above, h.0);
           passed = passed_over walked.passed
-              (λ t its within other low high candidate. absurd (h.1 t its within other low high candidate));
+              (λ G sized marked fits other low high candidate. absurd (h.1 G sized marked fits other low high candidate));
         },
       )
 
   -- A candidate's tuple was tried from its mask on.
-  module _ (e : standing ≡ IsCandidate) {next : NextKey}
-      (tried : (G : Groups) → Marked m.reaching m.unbalanced m.places G → Fits layout G
-      → LeastWithin (admits G m.places m.must) at (at / 65536 * 65536 + 2 ^ get_or m.sizes 0 0) next) where
-    least : OfTheirGroups m (λ G. LeastWithin (admits G m.places m.must) at
-        (at / 65536 * 65536 + 2 ^ length G.balanced) next)
-    least t its within =
-        subst (λ (n : ℕ). LeastWithin (admits (groups_in t) m.places m.must) at (at / 65536 * 65536 + 2 ^ n) next)
-        (sym (its.sized.a_size_each 0 (omega arith))) (tried (groups_in t) its.marked (table_fits within))
-
+  module _ (e : gap ≡ None) {next : Option ℕ}
+      (tried : OfTheirGroups m (λ G. LeastWithin (admits G m.places m.must) at
+      (at / 65536 * 65536 + 2 ^ length G.balanced) next)) where
     -- Its masks all lack a row or miss a place: the walk goes on with the next tuple, since a larger mask has a bit beyond
     -- the balanced rows; or after a wider block that has none either.
-    pub step_over : {bits : ℕ} → next ≡ None → 16 ≤ bits
-        → ((G : Groups) → Sized m.sizes m.unbalanced G → Marked m.reaching m.unbalanced m.places G
-        → Fits layout G → 16 < bits → NoneInBlock G m.places at bits)
-        → Walked m start (block_end at bits)
+    pub step_over : {bits : ℕ} → is_some next ≡ false → 16 ≤ bits
+        → (16 < bits → OfTheirGroups m (λ G. NoneInBlock G m.places at bits)) → Walked m start (block_end at bits)
     step_over {bits} none whole left =
         record {
           above = omega (arith, walked.above, below_block_end at bits);
           passed = passed_over walked.passed
-              (λ t its within other low high candidate. missed t its within other low high candidate (dec_lt 16 bits));
+              (λ G sized marked fits other low high candidate. missed G sized marked fits other low high candidate
+              (dec_lt 16 bits));
         }
       where
-        missed : (t : Table) → MasksOf t m → InRoom t → (other : ℕ) → at ≤ other
-            → other < block_end at bits → Candidate layout (groups_in t) other → Dec (16 < bits)
-            → admits (groups_in t) m.places m.must other ≡ false
-        missed t its within other low high candidate (yes wide) =
+        missed : OfTheirGroups m (λ G. (other : ℕ) → at ≤ other → other < block_end at bits
+            → Candidate layout G other → Dec (16 < bits) → admits G m.places m.must other ≡ false)
+        missed G sized marked fits other low high candidate (yes wide) =
             and_right_false (takes_all m.must other)
-            (left (groups_in t) its.sized its.marked (table_fits within) wide other (same_block bits low high) candidate)
-        missed t its within other low high candidate (no narrow) =
+            (left wide G sized marked fits other (same_block bits low high) candidate)
+        missed G sized marked fits other low high candidate (no narrow) =
             let tuple_only : bits ≡ 16 = omega arith in
             let same = same_block {key = at} {other = other} 16 low
             (subst (λ (n : ℕ). other < block_end at n) tuple_only high) in
-            none_within (least t its within) none other low (omega (arith, same, candidate.no_bit_beyond))
+            none_within (tried G sized marked fits) none other low (omega (arith, same, candidate.no_bit_beyond))
 
     -- The first that is admitted is the least listed key.
-    pub step_found : {key : ℕ} → next ≡ Key key → OfTheirList m (λ keys. NextFrom keys start (Key key))
-    step_found {key} is_key t its M L R of =
-        let h = found_within (least t its of.within) is_key in
-        found (record {
-          on_list = reached_listed its of (candidate h.0 h.1) h.2;
-          at_or_above = omega (arith, walked.above, h.0);
-          least = λ other mem above. before h other mem (walked.passed t its M L R of other mem above);
-        })
+    pub step_found : is_some next ≡ true → OfTheirList m (λ keys. NextFrom keys start next)
+    step_found some t its M L R of = first (of_the_table its of tried) some
       where
-        candidate : at ≤ key → key < at / 65536 * 65536 + 2 ^ length (groups_in t).balanced
-            → Candidate layout (groups_in t) key
-        candidate low high =
+        G : Groups
+        G = groups_in t
+
+        candidate : {key : ℕ} → at ≤ key → key < at / 65536 * 65536 + 2 ^ length G.balanced → Candidate layout G key
+        candidate {key} low high =
             let place : at / 65536 * 65536 + (key - at / 65536 * 65536) ≡ key = omega arith in
-            subst (Candidate layout (groups_in t)) place
-            (same_tuple (table_fits of.within)
-            (stands_candidate {m = m} (subst (StandsAmong m.sizes m.unbalanced at) e stood) t its of.within)
-            (key - at / 65536 * 65536) (omega (arith, pow_pos (length (groups_in t).balanced))))
+            let one = stands_candidate m (subst (StandsAmong m.sizes m.unbalanced at) e stood) in
+            subst (Candidate layout G) place
+            (same_tuple (table_fits of.within) (of_the_table its of one)
+            (key - at / 65536 * 65536) (omega (arith, pow_pos (length G.balanced))))
 
-        Found : Type 0
-        Found = (at ≤ key) × (key < at / 65536 * 65536 + 2 ^ length (groups_in t).balanced)
-            × (admits (groups_in t) m.places m.must key ≡ true)
-            × ((other : ℕ) → at ≤ other → other < key → admits (groups_in t) m.places m.must other ≡ false)
-
-        before : Found → (other : ℕ) → Memᴰ other (keys M layout L R (groups_in t)) → at ≤ other → key ≤ other
-        before h other mem low = go (dec_lt other key)
+        from_it : {key : ℕ} → ((other : ℕ) → at ≤ other → other < key → admits G m.places m.must other ≡ false)
+            → (other : ℕ) → Memᴰ other (keys M layout L R G) → at ≤ other → key ≤ other
+        from_it {key} before other mem low = go (dec_lt other key)
           where
             go : Dec (other < key) → key ≤ other
-            go (yes less) = absurd (false≢true (sym (h.3 other low less) ∙ (listed_reached its of mem).1))
+            go (yes less) = absurd (false≢true (sym (before other low less) ∙ (listed_reached its of mem).1))
             go (no more) = omega arith
+
+        first : {next : Option ℕ}
+            → LeastWithin (admits G m.places m.must) at (at / 65536 * 65536 + 2 ^ length G.balanced) next
+            → is_some next ≡ true → NextFrom (keys M layout L R G) start next
+        first (within.nothing missed) e = cc e
+        first (within.found low high passed before) e =
+            found (record {
+              on_list = reached_listed its of (candidate low high) passed;
+              at_or_above = omega (arith, walked.above, low);
+              least = λ other mem above. from_it before other mem (walked.passed t its M L R of other mem above);
+            })
 
 pub step_end : {m : Masks} {start at : ℕ} → Walked m start at → 2 ^ 32 ≤ at
     → OfTheirList m (λ keys. NextFrom keys start None)
 step_end walked end t its M L R of = nothing (passed_all walked.passed end t its M L R of)
 
 -- Where rows of all constants cannot reach together what balanced rows do not, nothing is listed.
-pub step_nothing : {m : Masks} {start : ℕ} → Coherent m → bit (get_or m.choices 0 0) m.unreached ≡ false
+pub step_nothing : (m : Masks) {start : ℕ} → bit (get_or m.choices 0 0) m.unreached ≡ false
     → OfTheirList m (λ keys. NextFrom keys start None)
-step_nothing {m} coherent cannot t its M L R of = nothing (λ other mem.
+step_nothing m cannot t its M L R of = nothing (λ other mem.
     let listed = listed_reached its of mem in
-    absurd (false≢true (sym (left_none m.reaching m.places m.unreached 0 coherent.constants_fit
-    coherent.sets (omega arith) (missing_all m.reaching m.places m.unreached 0) cannot its.sized its.marked
+    absurd (false≢true (sym (left_none m.reaching m.places m.unreached 0 m.constants_fit
+    m.sets (omega arith) (missing_all m.reaching m.places m.unreached 0) cannot its.sized its.marked
     (table_fits of.within) other (no_block listed.0.no_bit_above) listed.0)
     ∙ ((and-eq-true_iff (takes_all m.must other) (fills (groups_in t) m.places other)).0 listed.1).1)))
   where
@@ -259,14 +237,14 @@ step_nothing {m} coherent cannot t its M L R of = nothing (λ other mem.
     no_block small = omega arith
 
 -- What a next key tells.
-pub next_key : {keys : List ℕ} {bound key : ℕ} {next : NextKey} → NextFrom keys bound next → next ≡ Key key
+pub next_key : {keys : List ℕ} {bound key : ℕ} {next : Option ℕ} → NextFrom keys bound next → next ≡ Some key
     → LeastFrom keys bound key
 next_key {keys} {bound} told e = of_key (subst (NextFrom keys bound) e told)
   where
-    of_key : {key : ℕ} → NextFrom keys bound (Key key) → LeastFrom keys bound key
+    of_key : {key : ℕ} → NextFrom keys bound (Some key) → LeastFrom keys bound key
     of_key (found least) = least
 
-pub next_none : {keys : List ℕ} {bound : ℕ} {next : NextKey} → NextFrom keys bound next → next ≡ None
+pub next_none : {keys : List ℕ} {bound : ℕ} {next : Option ℕ} → NextFrom keys bound next → next ≡ None
     → NoneFrom keys bound
 next_none {keys} {bound} told e = of_none (subst (NextFrom keys bound) e told)
   where

@@ -1,14 +1,11 @@
 -- Weighing a key on the masks. Where it misses a place, so does every number before the next multiple of the bit
 -- of the lowest row that is above 0 there.
-use Prim.Native.Nat.{ℕ, suc, ◌+◌, ◌-◌, ◌*◌, ◌/◌, ◌%◌, ◌^◌, ◌<◌, ◌≤◌}
+use Prim.Native.Nat.{ℕ, ◌+◌, ◌*◌, ◌/◌, ◌%◌, ◌^◌, ◌<◌, ◌≤◌}
 use native.Mathlib.Omega.{arith}
-use native.Mathlib.Numerals.{add-one}
 use native.Mathlib.Decide.{dec_lt}
 use mathlib.Core.Path.{◌≡◌, sym, ◌∙◌, ap, ap₂, subst}
-use mathlib.Core.Bool.{Bool, true, false, ◌||◌, ◌&&◌, and-false, and-true, and_assoc}
+use mathlib.Core.Bool.{Bool, false, ◌||◌, ◌&&◌, and-false}
 use mathlib.Core.List.{List}
-use borrow.Author.Tests.{le-leb, lt-leb}
-use lib.Bits.{bit_and, and_mask}
 use lib.Dec.{eqb}
 use lib.ListN.{get_or}
 use Rattle.ac.specs.Rows.{Groups}
@@ -17,7 +14,7 @@ use Rattle.table.specs.Masks.{Marked}
 use Rattle.table.proofs.Bits.{high_part}
 use Rattle.list.specs.Reach.{all, takes_any, takes_all, reaches, NoRowBelow, InTuple, Weighs}
 use Rattle.list.specs.Candidates.{admits}
-use Rattle.list.proofs.Any.{and_left_false, and_right_false, any_same}
+use Rattle.list.proofs.Any.{any_same}
 use Rattle.list.proofs.Reach.{fills_reaches}
 use Rattle.list.proofs.Candidates.{block_end, below_block_end, same_block, block_end_inside}
 
@@ -40,16 +37,9 @@ same_taken rows key other {bits} none same =
     go i (no above) =
         ap (λ b. b && bit rows i) (ap (λ n. eqb (n % 2) 1) (high_part other key (omega arith) same))
 
--- the key itself, and the end of a block that lies in its tuple
-pub in_tuple_itself : (key : ℕ) → InTuple key key
-in_tuple_itself key = (omega arith, omega (arith, below_block_end key 16))
-
+-- the end of a block that lies in its tuple
 pub in_tuple_block : (key : ℕ) {bits : ℕ} → bits ≤ 16 → InTuple key (block_end key bits)
 in_tuple_block key {bits} low = (omega (arith, below_block_end key bits), block_end_inside key low)
-
--- a key that reaches the place weighs as itself
-pub weighs_itself : {passes : ℕ → Bool} {key : ℕ} → passes key ≡ true → Weighs passes key key
-weighs_itself e = record { itself = λ same. e; none_before = λ other low high. absurd (omega arith) }
 
 -- The jump: every number from one that misses the place on misses it, up to the end of the block.
 pub weighs_jump : (reaching : List ℕ) (unbalanced place : ℕ) {key bits : ℕ} → bits ≤ 16
@@ -71,22 +61,6 @@ weighs_jump reaching unbalanced place {key} {bits} low none missed =
         (λ g h. ap (bit (get_or reaching (6 * (g + 1) + place) 0)) (same_index key other g low same)))
         (same_taken (get_or reaching place 0) key other none same)
 
--- Two tests together: the farther of the two numbers.
-module _ {f g : ℕ → Bool} {key first next : ℕ} (before : Weighs f key first) (here : Weighs g key next) where
-  weighs_farther : key ≤ first → first < next → Weighs (λ k. f k && g k) key next
-  weighs_farther from_on less =
-      record {
-        itself = λ same. absurd (omega arith);
-        none_before = λ other low high. and_right_false (f other) (here.none_before other low high);
-      }
-
-  weighs_kept : key ≤ next → next ≤ first → Weighs (λ k. f k && g k) key first
-  weighs_kept from_on less =
-      record {
-        itself = λ same. ap₂ (λ a b. a && b) (before.itself same) (here.itself (omega arith));
-        none_before = λ other low high. and_left_false (g other) (before.none_before other low high);
-      }
-
 -- the same test in other words
 weighs_same : {f g : ℕ → Bool} {key first : ℕ} → ((k : ℕ) → f k ≡ g k) → Weighs f key first → Weighs g key first
 weighs_same {key = key} same weighed =
@@ -95,49 +69,10 @@ weighs_same {key = key} same weighed =
       none_before = λ other low high. sym (same other) ∙ weighed.none_before other low high;
     }
 
--- The rows that must be taken: the key takes them where its mask is large enough.
-module _ (must key : ℕ) where
-  pub taking_itself : must ≤ bit_and key 65535 → InTuple key key × Weighs (takes_all must) key key
-  taking_itself enough =
-      (in_tuple_itself key, weighs_itself (le-leb must (key % 65536) (omega (arith, and_mask key 16))))
-
-  -- else the first number that does is the tuple's with their mask
-  pub taking_later : must < 65536 → bit_and key 65535 < must
-      → InTuple key (key + (must - bit_and key 65535)) × Weighs (takes_all must) key (key + (must - bit_and key 65535))
-  taking_later small lacks =
-      let low = and_mask key 16 in (
-        (omega arith, omega (arith, low)),
-        record {
-          itself = λ same. absurd (omega arith);
-          none_before = λ other above below. lt-leb must (other % 65536) (omega (arith, low));
-        },
-      )
-
 -- The rows that must be taken, and the places one after the other.
 module _ (reaching : List ℕ) (unbalanced must key : ℕ) where
   abbrev pub WeighsTo : ℕ → ℕ → Type 0
   WeighsTo n first = Weighs (λ k. takes_all must k && all n (λ p. reaches reaching unbalanced p k)) key first
-
-  pub places_none : {first : ℕ} → Weighs (takes_all must) key first → WeighsTo 0 first
-  places_none = weighs_same (λ k. sym (and-true (takes_all must k)))
-
-  module _ (place : ℕ) {first next : ℕ} (before : WeighsTo place first)
-      (here : Weighs (reaches reaching unbalanced place) key next) where
-    one_more : (k : ℕ)
-        → (takes_all must k && all place (λ p. reaches reaching unbalanced p k) && reaches reaching unbalanced place k)
-        ≡ (takes_all must k && all (suc place) (λ p. reaches reaching unbalanced p k))
-    one_more k =
-        and_assoc (takes_all must k) (all place (λ p. reaches reaching unbalanced p k)) (reaches reaching unbalanced place k)
-
-    pub places_farther : key ≤ first → first < next → WeighsTo (place + 1) next
-    places_farther from_on less =
-        subst (λ (n : ℕ). WeighsTo n next) (sym (add-one place))
-        (weighs_same one_more (weighs_farther before here from_on less))
-
-    pub places_kept : key ≤ next → next ≤ first → WeighsTo (place + 1) first
-    places_kept from_on less =
-        subst (λ (n : ℕ). WeighsTo n first) (sym (add-one place))
-        (weighs_same one_more (weighs_kept before here from_on less))
 
   -- all places, of the groups that the masks are of
   pub places_all : (place : ℕ) {places first : ℕ} → WeighsTo place first → place ≡ places → (G : Groups)

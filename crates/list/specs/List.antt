@@ -1,5 +1,5 @@
 -- The list of the pair that a table, or masks, are of, the next key on it, and whether a key is on it.
-use Rattle.std.specs.Prelude.{ℕ}
+use Rattle.std.specs.Prelude.{ℕ, Option, Some, None, Result, Ok, Err}
 use mathlib.Core.List.{List, Memᴰ}
 use Rattle.ac.specs.Pair.{Mode}
 use Rattle.ac.specs.Keys.{layout, keys, after}
@@ -13,10 +13,6 @@ use Rattle.table.specs.Masks.{MasksOf}
 use Rattle.table.specs.declared.Table.{Table}
 use Rattle.table.specs.declared.masks.Masks.{Masks}
 use Rattle.list.specs.Given.{ListGiven}
-use Rattle.list.specs.declared.NextKey.{NextKey}
-use Rattle.list.specs.declared.NextKey.TheVariants.{Key, None}
-use Rattle.list.specs.declared.Lookup.{Lookup}
-use Rattle.list.specs.declared.Lookup.TheVariants.{Listed, Refused}
 
 -- It is so of every pair that the table is of; it is so of the list of every such pair.
 abbrev pub OfItsPair : Table → (Mode → List ℕ → List ℕ → Type 0) → Type 0
@@ -30,12 +26,12 @@ abbrev pub OfTheirList : Masks → (List ℕ → Type 0) → Type 0
 OfTheirList masks So = (table : Table) → MasksOf table masks → OfItsList table So
 
 -- the least key of the list from a number on, or that the list has none
-pub data NextFrom (keys : List ℕ) (from : ℕ) : NextKey → Type 0 where
-  found : {key : ℕ} → LeastFrom keys from key → NextFrom keys from (Key key)
+pub data NextFrom (keys : List ℕ) (from : ℕ) : Option ℕ → Type 0 where
+  found : {key : ℕ} → LeastFrom keys from key → NextFrom keys from (Some key)
   nothing : NoneFrom keys from → NextFrom keys from None
 
 -- that the key is on the list, or 13 or 14
-pub data LookedUp (listed : List ℕ) (key : ℕ) : Lookup → Type 0 where
-  is_listed : Memᴰ key listed → LookedUp listed key Listed
+pub data LookedUp (listed : List ℕ) (key : ℕ) : Result (Unit {0}) Refusal → Type 0 where
+  is_listed : Memᴰ key listed → LookedUp listed key (Ok tt)
   is_refused : {why : Refusal} → First (ListGiven listed (after key)) key_numbers (number_of why)
-      → LookedUp listed key (Refused why)
+      → LookedUp listed key (Err why)

@@ -5,21 +5,19 @@
 
 pub mod rank;
 
-ghost use Rattle.std.specs.Prelude.{◌≡◌, List, ℕ, ◌+◌, ◌*◌, ◌/◌, ◌^◌, ◌<◌, ◌≤◌, get_or};
+ghost use Rattle.std.specs.Prelude.{◌≡◌, List, ℕ, ◌+◌, ◌*◌, ◌/◌, ◌^◌, ◌<◌, ◌≤◌, length, get_or};
 ghost use Rattle.ac.specs.Limits.{limits};
 ghost use Rattle.ac.specs.Rows.{Groups};
 ghost use Rattle.ac.specs.Keys.{layout, bit, field_at, Fits};
-ghost use Rattle.table.specs.Masks.{Sized, Marked, SetsOf, Coherent};
-ghost use Rattle.list.specs.Candidates.{StandsAmong, field_limit, admits, NoneInBlock, LeastWithin};
+ghost use Rattle.list.specs.Candidates.{StandsAmong, field_limit, admits, NoneInBlock, LeastWithin, OfTheirGroups};
 ghost use Rattle.list.specs.List.{OfTheirList, NextFrom, LookedUp};
 ghost use Rattle.list.specs.Reach.{takes_any, takes_all, reaches, NoRowBelow, InTuple, Weighs};
 ghost use Rattle.list.specs.Runs.{selection_in, Fit, run_count, times_at};
 
-use buffer::wide;
 use numbers::Refusal;
 use numbers::limits::{CONSTANTS, VARIABLES};
-use table::masks::{MASKS, Masks, has_bit, missed_by};
-use table::{GROUPS, ROWS, Table, row_start};
+use table::masks::{Masks, has_bit, missed_by};
+use table::{ROWS, Table, row_start};
 
 // What a selection is named by: 16 low bits for the balanced rows, and above them 4 fields of 4 bits; the lowest
 // constant's stands highest.
@@ -41,7 +39,7 @@ fn takes(key: Key, i: usize) -> bool
     requires { i < layout.rows }
     ensures { result ≡ bit key i }
 {
-    key >> i & 1 == 1
+    has_bit(u64::from(key), i)
 }
 
 // The row index of constant number `g`: bits 28 to 31 for the lowest, for the next 24 to 27, then 20 to 23
@@ -76,10 +74,9 @@ pub struct KeyedSelection {
 pub fn selection_of(table: Table, key: Key) -> KeyedSelection
     ensures { result ≡ selection_in table key }
 {
-    let constants = table.constants;
     KeyedSelection {
         key,
-        constants,
+        constants: table.constants,
         unbalanced: table.unbalanced,
         balanced: table.sizes[0],
     }
@@ -94,11 +91,11 @@ pub fn times(rows: &[u8; ROWS], selection: KeyedSelection, place: usize, run: us
 {
     if run < selection.unbalanced {
         let index = index_at(selection.key, run);
-        return wide(rows[row_start(run + 1, index) + place]);
+        return usize::from(rows[row_start(run + 1, index) + place]);
     }
     let row = run - selection.unbalanced;
     if takes(selection.key, row) {
-        wide(rows[row_start(0, row) + place])
+        usize::from(rows[row_start(0, row) + place])
     } else {
         0
     }
@@ -109,48 +106,39 @@ pub fn times(rows: &[u8; ROWS], selection: KeyedSelection, place: usize, run: us
 fn takes_any(rows: u64, key: Key) -> bool
     ensures { result ≡ takes_any rows key }
 {
-    rows & (key & LOW_MASK) as u64 > 0
+    rows & u64::from(key & LOW_MASK) != 0
 }
 
 // Whether a row that the key takes is above 0 at the place: that of one of the constants, or a balanced one.
-fn reached(reaching: &[u64; MASKS], unbalanced: usize, place: usize, key: Key) -> bool
-    requires { (unbalanced ≤ limits.constants) × (place < limits.variables) }
-    ensures { result ≡ reaches reaching.now unbalanced place key }
+fn reached(masks: &Masks, place: usize, key: Key) -> bool
+    requires { place < limits.variables }
+    ensures { result ≡ reaches masks.now.reaching masks.now.unbalanced place key }
 {
-    let mut g: usize = 0;
-    while g < unbalanced {
-        let index = index_at(key, g);
-        if has_bit(reaching[VARIABLES * (g + 1) + place], index) {
-            return true;
-        }
-        g += 1;
-    }
-    takes_any(reaching[place], key)
+    let by_constant = (0..masks.unbalanced).any(|g| has_bit(
+        masks.reaching[VARIABLES * (g + 1) + place],
+        index_at(key, g),
+    ));
+    by_constant || takes_any(masks.reaching[place], key)
 }
 
 // The lowest row of a mask of balanced rows, or 16 if it has none.
 fn lowest_row(rows: u64) -> usize
     ensures { (result ≤ layout.rows) × NoRowBelow rows result }
 {
-    let lowest = u64::trailing_zeros(rows) as usize;
-    if lowest < MASK_BITS {
-        lowest
-    } else {
-        MASK_BITS
-    }
+    (rows.trailing_zeros() as usize).min(MASK_BITS)
 }
 
 // The first number from the key on that may reach the place. Where the key does not, no number before the next
 // multiple of the bit of the lowest balanced row above 0 there does: the bits of all such rows stay as they are.
-fn first_reaching(reaching: &[u64; MASKS], unbalanced: usize, place: usize, key: Key) -> u64
-    requires { (unbalanced ≤ limits.constants) × (place < limits.variables) }
+fn first_reaching(masks: &Masks, place: usize, key: Key) -> u64
+    requires { place < limits.variables }
     ensures in_tuple { InTuple key result }
-    ensures weighs { Weighs (reaches reaching.now unbalanced place) key result }
+    ensures weighs { Weighs (reaches masks.now.reaching masks.now.unbalanced place) key result }
 {
-    if reached(reaching, unbalanced, place, key) {
-        return key as u64;
+    if reached(masks, place, key) {
+        return u64::from(key);
     }
-    block_end(key, lowest_row(reaching[place]))
+    block_end(key, lowest_row(masks.reaching[place]))
 }
 
 // The first number from the key on that may take all rows that must be taken: those are none or all balanced rows, so
@@ -160,41 +148,35 @@ fn first_taking(must: u64, key: Key) -> u64
     ensures in_tuple { InTuple key result }
     ensures weighs { Weighs (takes_all must) key result }
 {
-    let taken = (key & LOW_MASK) as u64;
-    if taken < must {
-        key as u64 + (must - taken)
-    } else {
-        key as u64
-    }
+    let taken = u64::from(key & LOW_MASK);
+    u64::from(key) + must.saturating_sub(taken)
 }
 
 // The first number from the key on that may be admissible, of candidates: the key itself if it is, for it takes the
 // rows that must be taken and each place is above 0 in at least one taken row. Else it is the farthest that a row or a
 // missed place sends to.
-fn weigh(reaching: &[u64; MASKS], unbalanced: usize, places: usize, must: u64, key: Key) -> u64
-    requires { (unbalanced ≤ limits.constants) × (places ≤ limits.variables) × (must < 2 ^ layout.rows) }
+fn weigh(masks: &Masks, key: Key) -> u64
     ensures in_tuple { InTuple key result }
-    ensures weighs { (G : Groups) → Marked reaching.now unbalanced places G → Fits layout G → Weighs (admits G places must) key result }
+    ensures weighs { OfTheirGroups masks.now (λ G. Weighs (admits G masks.now.places masks.now.must) key result) }
 {
-    let mut first = first_taking(must, key);
-    let mut place: usize = 0;
-    while place < places {
-        let next = first_reaching(reaching, unbalanced, place, key);
-        if first < next {
-            first = next;
-        }
-        place += 1;
+    let mut first = first_taking(masks.must, key);
+    for place in 0..masks.places {
+        first = first.max(first_reaching(masks, place, key));
     }
     first
 }
 
 // How many values the field of constant number `g` may have: one for each of its rows; where there is no such
 // constant only 0.
-fn field_limit(sizes: &[usize; GROUPS], unbalanced: usize, g: usize) -> usize
+fn field_limit(masks: &Masks, g: usize) -> usize
     requires { g < layout.constants }
-    ensures { result ≡ field_limit sizes.now unbalanced g }
+    ensures { result ≡ field_limit masks.now.sizes masks.now.unbalanced g }
 {
-    if g < unbalanced { sizes[g + 1] } else { 1 }
+    if g < masks.unbalanced {
+        masks.sizes[g + 1]
+    } else {
+        1
+    }
 }
 
 // The end of the block of 2 to the power of `bits` numbers in which the key stands. It may be past the highest key.
@@ -202,99 +184,56 @@ fn block_end(key: Key, bits: usize) -> u64
     requires { bits ≤ 32 }
     ensures { result ≡ (key / 2 ^ bits + 1) * 2 ^ bits }
 {
-    (key as u64 >> bits) + 1 << bits
+    (u64::from(key) >> bits) + 1 << bits
 }
 
-// Where a number stands: on a candidate, or where no candidate comes before a later number.
-#[derive(Clone, Copy)]
-enum KeyStanding {
-    Candidate,
-    NoneBefore(u64),
-}
-
-// Where the key stands. Up to the end of its block a field only grows, so that one which is too large stays
-// so, and the block is left.
-fn stands(sizes: &[usize; GROUPS], unbalanced: usize, key: Key) -> KeyStanding
-    requires { (unbalanced ≤ layout.constants) × (get_or sizes.now 0 0 ≤ layout.rows) }
-    ensures { StandsAmong sizes.now unbalanced key result }
+// The end of the gap between candidates in which the key stands: none comes before it from the key on. A candidate
+// stands in no gap. Up to the end of its block a field only grows, so that one which is too large stays so.
+fn gap_end(masks: &Masks, key: Key) -> Option<u64>
+    ensures { StandsAmong masks.now.sizes masks.now.unbalanced key result }
 {
-    let mut g: usize = 0;
-    while g < CONSTANTS {
-        let index = index_at(key, g);
-        if index >= field_limit(sizes, unbalanced, g) {
-            return KeyStanding::NoneBefore(block_end(
-                key,
-                MASK_BITS + INDEX_BITS * (CONSTANTS - g),
-            ));
+    for g in 0..CONSTANTS {
+        if index_at(key, g) >= field_limit(masks, g) {
+            return Some(block_end(key, MASK_BITS + INDEX_BITS * (CONSTANTS - g)));
         }
-        g += 1;
     }
-    let mask = key & LOW_MASK;
-    if mask >> sizes[0] > 0 {
-        return KeyStanding::NoneBefore(block_end(key, MASK_BITS));
+    if (key & LOW_MASK) >> masks.sizes[0] > 0 {
+        return Some(block_end(key, MASK_BITS));
     }
-    KeyStanding::Candidate
-}
-
-// The next key of the list, if there is one.
-#[derive(Clone, Copy)]
-pub enum NextKey {
-    Key(Key),
-    None,
+    None
 }
 
 // The least admissible key from a key on that has its row indexes: the sets of balanced rows are taken in the
 // order of their masks, and those that lack a row or miss a place are passed over.
-fn least_of_tuple(
-    reaching: &[u64; MASKS],
-    unbalanced: usize,
-    places: usize,
-    must: u64,
-    balanced: usize,
-    key: Key,
-) -> NextKey
-    requires { (unbalanced ≤ limits.constants) × (places ≤ limits.variables) × (must < 2 ^ layout.rows) × (balanced ≤ layout.rows) }
-    ensures { (G : Groups) → Marked reaching.now unbalanced places G → Fits layout G
-        → LeastWithin (admits G places must) key (key / 2 ^ layout.rows * 2 ^ layout.rows + 2 ^ balanced) result }
+fn least_of_tuple(masks: &Masks, key: Key) -> Option<Key>
+    ensures { OfTheirGroups masks.now (λ G. LeastWithin (admits G masks.now.places masks.now.must) key
+        (key / 2 ^ layout.rows * 2 ^ layout.rows + 2 ^ length G.balanced) result) }
 {
     let tuple = key >> MASK_BITS;
     let mut mask = key & LOW_MASK;
-    while mask >> balanced == 0 {
+    while mask >> masks.sizes[0] == 0 {
         let tried = pack(tuple, mask);
-        let first = weigh(reaching, unbalanced, places, must, tried);
-        if first == tried as u64 {
-            return NextKey::Key(tried);
+        let passed_over = weigh(masks, tried) - u64::from(tried);
+        if passed_over == 0 {
+            return Some(tried);
         }
-        mask += (first - tried as u64) as Key;
+        mask += passed_over as Key;
     }
-    NextKey::None
+    None
 }
 
 // How many bits the widest block has that is left with the key's tuple. The row indexes are fixed one after the
 // other: once rows of the later constants cannot reach together what is still missing, no key with the indexes so
 // far is admissible.
-fn left_bits<'a>(
-    reaching: &'a [u64; MASKS],
-    choices: &'a [u64; GROUPS],
-    unbalanced: usize,
-    places: usize,
-    unreached: usize,
-    key: Key,
-) -> usize
-    requires { (unbalanced ≤ limits.constants) × (places ≤ limits.variables) × (unreached < 64) }
+fn left_bits(masks: &Masks, key: Key) -> usize
     ensures lower_bound { (layout.rows ≤ result) × (result ≤ 32) }
-    ensures by_index { (sizes : List ℕ) → SetsOf reaching.now sizes unbalanced places unreached choices.now
-        → (G : Groups) → Sized sizes unbalanced G → Marked reaching.now unbalanced places G → Fits layout G
-        → layout.rows < result → NoneInBlock G places key result }
+    ensures by_index { layout.rows < result → OfTheirGroups masks.now (λ G. NoneInBlock G masks.now.places key result) }
 {
-    let mut missing = unreached;
-    let mut g: usize = 0;
-    while g < unbalanced {
-        let index = index_at(key, g);
-        missing &= missed_by(reaching, places, g + 1, 1 << index);
-        g += 1;
-        if !has_bit(choices[g], missing) {
-            return MASK_BITS + INDEX_BITS * (CONSTANTS - g);
+    let mut missing = masks.unreached;
+    for g in 0..masks.unbalanced {
+        missing &= missed_by(&masks.reaching, masks.places, g + 1, 1 << index_at(key, g));
+        if !has_bit(masks.choices[g + 1], missing) {
+            return MASK_BITS + INDEX_BITS * (CONSTANTS - (g + 1));
         }
     }
     MASK_BITS
@@ -302,74 +241,36 @@ fn left_bits<'a>(
 
 // The least key on the list from a number on. Where rows of all constants cannot reach together what balanced rows
 // do not, nothing is listed. The highest key may be listed, so that the number after it needs 64 bits.
-pub fn least_listed(masks: Masks, from: u64) -> NextKey
-    requires { Coherent masks }
-    ensures { OfTheirList masks (λ keys. NextFrom keys from result) }
+pub fn least_listed(masks: &Masks, from: u64) -> Option<Key>
+    ensures { OfTheirList masks.now (λ keys. NextFrom keys from result) }
 {
-    let sets = masks.choices[0];
-    let unreached = masks.unreached;
-    if !has_bit(sets, unreached) {
-        return NextKey::None;
+    if !has_bit(masks.choices[0], masks.unreached) {
+        return None;
     }
-    let places = masks.places;
-    let must = masks.must;
-    let unbalanced = masks.unbalanced;
-    let balanced = masks.sizes[0];
     let mut at = from;
     while at < KEYS {
         let key = at as Key;
-        let standing = stands(&masks.sizes, unbalanced, key);
-        match standing {
-            KeyStanding::NoneBefore(later) => {
-                at = later;
-            }
-            KeyStanding::Candidate => {
-                let next = least_of_tuple(&masks.reaching, unbalanced, places, must, balanced, key);
-                if let NextKey::Key(found) = next {
-                    return NextKey::Key(found);
-                }
-                let bits = left_bits(
-                    &masks.reaching,
-                    &masks.choices,
-                    unbalanced,
-                    places,
-                    unreached,
-                    key,
-                );
-                at = block_end(key, bits);
-            }
+        if let Some(end) = gap_end(masks, key) {
+            at = end;
+            continue;
         }
+        let least = least_of_tuple(masks, key);
+        if least.is_some() {
+            return least;
+        }
+        at = block_end(key, left_bits(masks, key));
     }
-    NextKey::None
+    None
 }
 
-// Whether a key is on the list, or why not.
-#[derive(Clone, Copy)]
-pub enum Lookup {
-    Listed,
-    Refused(Refusal),
-}
-
-// A key is listed if the least listed key from it on is itself. Else it is 14, or 13 where nothing is listed.
-pub fn find_key(masks: Masks, key: Key) -> Lookup
-    requires { Coherent masks }
-    ensures { OfTheirList masks (λ listed. LookedUp listed key result) }
+// Whether a key is on the list, or why not: a key is listed if the least listed key from it on is itself. Else it is 14,
+// or 13 where nothing is listed.
+pub fn find_key(masks: &Masks, key: Key) -> Result<(), Refusal>
+    ensures { OfTheirList masks.now (λ listed. LookedUp listed key result) }
 {
-    let least = least_listed(masks, key as u64);
-    match least {
-        NextKey::Key(found) => {
-            if found == key {
-                Lookup::Listed
-            } else {
-                Lookup::Refused(Refusal::NotListed)
-            }
-        }
-        NextKey::None => {
-            let first = least_listed(masks, 0);
-            match first {
-                NextKey::Key(_) => Lookup::Refused(Refusal::NotListed),
-                NextKey::None => Lookup::Refused(Refusal::NoUnifier),
-            }
-        }
+    match least_listed(masks, u64::from(key)) {
+        Some(least) if least == key => Ok(()),
+        None if least_listed(masks, 0).is_none() => Err(Refusal::NoUnifier),
+        _ => Err(Refusal::NotListed),
     }
 }

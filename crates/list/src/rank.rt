@@ -15,15 +15,11 @@ pub fn rank(sizes: &[usize; GROUPS], unbalanced: usize, must: u64, key: Key) -> 
     ensures { RankIn sizes.now unbalanced must key result }
 {
     let mut tuple: u64 = 0;
-    let mut g: usize = 0;
-    while g < unbalanced {
-        let index = index_at(key, g);
-        g += 1;
-        tuple = tuple * sizes[g] as u64 + index as u64;
+    for g in 0..unbalanced {
+        tuple = tuple * sizes[g + 1] as u64 + index_at(key, g) as u64;
     }
     if must > 0 {
         return tuple + 1;
     }
-    let mask = key & LOW_MASK;
-    (tuple << sizes[0]) + mask as u64 + 1
+    (tuple << sizes[0]) + u64::from(key & LOW_MASK) + 1
 }

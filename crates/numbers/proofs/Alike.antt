@@ -1,9 +1,7 @@
 -- Two questions that agree: what meets the promise of the one meets that of the other, and whatever meets the two is
 -- identical.
-use Prim.Native.Nat.{ℕ}
-use mathlib.Core.Path.{◌≡◌}
-use mathlib.Core.Logic.{◌↔◌}
-use mathlib.Core.List.{List, Memᴰ}
+use Rattle.std.proofs.Common.{ℕ, ◌≡◌, ◌↔◌, List}
+use mathlib.Core.List.{Memᴰ}
 use mathlib.Core.Option.{Option}
 use Rattle.numbers.specs.Outcome.{Said, Outcome, Beside, an_atom, nothing, Refuses, Promise, is_refused, is_given}
 use Rattle.numbers.proofs.Carried.{first_carried, none_carried}

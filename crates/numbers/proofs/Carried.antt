@@ -1,20 +1,15 @@
 -- The answer to a question's list of numbers, carried from one table to another and past numbers that are not
 -- given.
-use Prim.Native.Nat.{ℕ}
-use native.Mathlib.Omega.{arith}
-use mathlib.Core.Path.{◌≡◌, refl, subst}
-use mathlib.Core.Bool.{Bool, true, false, not, ◌&&◌}
-use mathlib.Core.Logic.{◌↔◌}
+use Rattle.std.proofs.Common.{ℕ, ◌≡◌, refl, subst, Bool, true, false, not, ◌&&◌, ◌↔◌, List, [], ◌∷◌, ◌++◌, eqb-true, eqb}
 use mathlib.Core.List.Memᴰ
-use mathlib.Core.List.{List, [], ◌∷◌, ◌++◌, Memᴰ}
-use borrow.Author.Tests.{eqb-true, eqb-false, not-true}
-use lib.Dec.{eqb}
+use mathlib.Core.List.{Memᴰ}
+use borrow.Author.Tests.{eqb-false, not-true}
 use Rattle.numbers.specs.First.{First, NoneOf, here, later, end, also}
 
 -- where two truth values are true together, each is
 pub and_true : (a b : Bool) → (a && b) ≡ true → (a ≡ true) × (b ≡ true)
 and_true true b e = (refl, e)
-and_true false b e = absurd (let z : ◌≡◌ {A = ℕ} 0 1 = cc e in omega arith)
+and_true false b e = absurd (cc e)
 
 -- a number is none of the list's, by a test that computes
 abbrev pub elsewhere : ℕ → List ℕ → Bool
@@ -31,7 +26,7 @@ not_elsewhere {n} (m ∷ ms) e (Memᴰ.tail mem) =
 
 -- a number that is not elsewhere is a member
 pub its_member : {n : ℕ} (ms : List ℕ) → elsewhere n ms ≡ false → Memᴰ n ms
-its_member [] e = absurd (let z : ◌≡◌ {A = ℕ} 0 1 = cc e in omega arith)
+its_member [] e = absurd (cc e)
 its_member {n} (m ∷ ms) e = go (eqb n m) refl (its_member ms)
   where
     go : (b : Bool) → eqb n m ≡ b → (elsewhere n ms ≡ false → Memᴰ n ms) → Memᴰ n (m ∷ ms)

@@ -1,9 +1,7 @@
 -- Where each number of a list is given or not, the list has a first one that is, or none of it is given.
-use Prim.Native.Nat.{ℕ}
-use mathlib.Core.Path.{refl, subst}
-use mathlib.Core.Logic.{◌⊎◌, inl, inr, ⊎_elim}
+use Rattle.std.proofs.Common.{ℕ, refl, subst, ◌⊎◌, inl, inr, ⊎_elim, List, [], ◌∷◌}
 use mathlib.Core.List.Memᴰ
-use mathlib.Core.List.{List, [], ◌∷◌, Memᴰ}
+use mathlib.Core.List.{Memᴰ}
 use Rattle.numbers.specs.First.{First, NoneOf, here, later, end, also}
 
 -- every number of a list is decided

@@ -1,7 +1,5 @@
 -- A number that is never given changes no promise: it may stand in a question's list or not.
-use Prim.Native.Nat.{ℕ}
-use mathlib.Core.Logic.{◌↔◌}
-use mathlib.Core.List.{List, [], ◌∷◌, ◌++◌}
+use Rattle.std.proofs.Common.{ℕ, ◌↔◌, List, [], ◌∷◌, ◌++◌}
 use Rattle.numbers.specs.First.{First, NoneOf, here, later, also}
 use Rattle.numbers.specs.Outcome.{Outcome, Promise, is_refused, is_given}
 use Rattle.numbers.proofs.Said.{refuses_carried}

@@ -7,3 +7,4 @@ pub mod Verdicts
 pub mod Decided
 pub mod Dropped
 pub mod Alike
+pub mod Told

@@ -1,10 +1,7 @@
 -- The table of a question on two sides, by what its rows speak of: the numbers that the sides decide, those
 -- that the list decides, and 16 of a lent buffer. "Order: 16 first, then by number."
-use Prim.Native.Nat.{ℕ, ◌<◌, ◌≤◌}
-use native.Mathlib.Omega.{arith}
-use mathlib.Core.Path.{◌≡◌, refl}
-use mathlib.Core.Logic.{◌↔◌}
-use mathlib.Core.List.{List, [], ◌∷◌, ◌++◌, Memᴰ}
+use Rattle.std.proofs.Common.{ℕ, ◌<◌, ◌≤◌, arith, ◌≡◌, refl, ◌↔◌, Result, Err, List, [], ◌∷◌, ◌++◌}
+use mathlib.Core.List.{Memᴰ}
 use Rattle.numbers.specs.First.{First, NoneOf, here, later, also}
 use Rattle.numbers.specs.Numbers.{said_of}
 use Rattle.numbers.specs.Order.{sides_numbers, beginning_numbers}
@@ -12,8 +9,6 @@ use Rattle.numbers.specs.Outcome.{refused, Promise, is_refused}
 use Rattle.numbers.specs.Verdict.{Decides}
 use Rattle.numbers.specs.declared.Refusal.{Refusal}
 use Rattle.numbers.specs.declared.Refusal.TheVariants.{ShortBuffer}
-use Rattle.numbers.specs.declared.Verdict.{Verdict}
-use Rattle.numbers.specs.declared.Verdict.TheVariants.{Refused}
 use Rattle.numbers.proofs.Said.{refuses_carried, refuses_alone}
 use Rattle.numbers.proofs.Carried.{not_both, first_carried, none_carried, first_before, first_after, none_after}
 
@@ -99,8 +94,8 @@ module _ {Given Names OfSides OfList : ℕ → Type 0} {size room : ℕ}
   short_promised short =
       is_refused (refuses_carried (first_before _) (refuses_alone {numbers = 16 ∷ []} refl ShortBuffer (first_short made short)))
 
-  module _ (enough : room ≤ size) {So : Type 0} {verdict : Verdict}
-      (decided : Decides OfSides Names sides_numbers So verdict) where
-    pub verdict_promised : (others : List ℕ) {why : Refusal} → verdict ≡ Refused why
+  module _ (enough : room ≤ size) {A : Type 0} {So : A → Type 0} {answer : Result A Refusal}
+      (decided : Decides OfSides Names sides_numbers So answer) where
+    pub verdict_promised : (others : List ℕ) {why : Refusal} → answer ≡ Err why
         → Promise Given Names (16 ∷ (sides_numbers ++ others)) Gives entry (refused (said_of why)) entry
     verdict_promised others e = is_refused (refuses_carried (first_of_sides made enough others) (decided.refused _ e))

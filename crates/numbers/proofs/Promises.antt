@@ -1,9 +1,7 @@
 -- Laws of what every question promises: an outcome and the buffers are determined, and so is an answer that
 -- tells its outcome one-to-one.
-use Prim.Native.Nat.{ℕ}
-use native.Mathlib.Omega.{arith}
-use mathlib.Core.Path.{◌≡◌, refl, sym, ap, subst, ◌∙◌}
-use mathlib.Core.List.{List, Memᴰ}
+use Rattle.std.proofs.Common.{ℕ, ◌≡◌, refl, sym, ap, subst, ◌∙◌, List}
+use mathlib.Core.List.{Memᴰ}
 use Rattle.numbers.specs.First.{First, NoneOf}
 use mathlib.Core.Option.{Option, some}
 use mathlib.Core.Option as option
@@ -13,7 +11,7 @@ use Rattle.numbers.proofs.Laws.{first_unique, first_not_none, first_member}
 -- an outcome is refused or given, and says one thing
 module _ {Values : Type 0} where
   pub refused_not_given : {said : Said} {values : Values} → refused said ≡ given values → ⊥
-  refused_not_given e = let z : ◌≡◌ {A = ℕ} 0 1 = cc e in omega arith
+  refused_not_given e = cc e
 
   pub same_values : {values values' : Values} → given values ≡ given values' → values ≡ values'
   same_values e = cc e

@@ -1,12 +1,9 @@
 -- How it is shown that what a refusal says is right: the first number that is given, and what stands beside it.
-use Prim.Native.Nat.{ℕ}
+use Rattle.std.proofs.Common.{ℕ, ◌≡◌, refl, subst, true, false, List, eqb}
 use native.Mathlib.Decide.{ℕ_discrete}
-use mathlib.Core.Path.{◌≡◌, refl, subst}
-use mathlib.Core.Bool.{true, false}
-use mathlib.Core.List.{List, Memᴰ}
+use mathlib.Core.List.{Memᴰ}
 use mathlib.Core.Option.{none}
 use borrow.Author.Tests.{eqb-false}
-use lib.Dec.{eqb}
 use Rattle.numbers.specs.First.{First}
 use Rattle.numbers.specs.Numbers.{number_of, atom_of, said_of}
 use Rattle.numbers.specs.Outcome.{Said, Beside, an_atom, nothing, Refuses}

@@ -4,3 +4,4 @@ pub mod Order
 pub mod Outcome
 pub mod Verdict
 pub mod Tells
+pub mod Told

@@ -1,16 +1,10 @@
 -- Laws of how far a text has been printed.
-use Prim.Native.Nat.{ℕ, ◌+◌, ◌≤◌}
-use native.Mathlib.Omega.{arith}
-use mathlib.Core.Path.{◌≡◌, refl, ap, sym, subst, ◌∙◌}
-use mathlib.Core.List.{List, [], ◌++◌, append_assoc, append-nil}
-use lib.ListN.{length, take, length-append}
-use lib.Seq.{sets-eq, take_at, length-take-le}
+use Rattle.std.proofs.Common.{ℕ, ◌+◌, ◌≤◌, arith, ◌≡◌, refl, ap, sym, subst, ◌∙◌, List, [], ◌++◌, append_assoc, append-nil, length, take, length-append, take_at, length-take-le, ℤ, Result, Ok}
+use lib.Seq.{sets-eq}
 use Rattle.buffer.specs.Put.{Put}
 use Rattle.output.specs.Step.{lines_joined, left_from, Steps}
 use Rattle.output.specs.Room.{HasRoom, MakesRoom, stays, emptied, failed, StillHeld}
 use Rattle.output.specs.declared.Progress.{Progress}
-use Rattle.output.specs.declared.Place.{Place}
-use Rattle.output.specs.declared.Place.TheVariants.{At}
 
 -- what stands before the place after a text that was put is what stood before the place, and the text
 pub put_before : {out after text : List ℕ} {at next : ℕ} → Put out at text next after → next ≤ length out
@@ -23,10 +17,10 @@ put_before {out} {after} {text} {at} {next} put room =
     ∙ take_at (take at out ++ text) _ next stood
 
 -- the place has room for a line behind it
-pub roomy : {size at next : ℕ} {p : Place} → MakesRoom size at p → p ≡ At next → HasRoom size next
+pub roomy : {size at next : ℕ} {p : Result ℕ ℤ} → MakesRoom size at p → p ≡ Ok next → HasRoom size next
 roomy {at = at} {next = next} (stays room) e = let same : at ≡ next = cc e in omega arith
 roomy {next = next} (emptied full room) e = let same : 0 ≡ next = cc e in omega arith
-roomy (failed full) e = absurd (let z : ◌≡◌ {A = ℕ} 0 1 = cc e in omega arith)
+roomy (failed full) e = cc e
 
 -- four lists in a row, taken together in another way
 regroup : (a b c d : List ℕ) → (a ++ b) ++ (c ++ d) ≡ (a ++ (b ++ c)) ++ d
@@ -54,8 +48,8 @@ module _ {text out : List ℕ} {at : ℕ} where
   holds_step holds step room = holds_put (holds_as step.in_order holds) step.stands room
 
   -- room was made
-  pub holds_room : {left : List ℕ} {size next : ℕ} {p : Place} → StillHeld text out at left → MakesRoom size at p
-      → p ≡ At next → StillHeld text out next left
+  pub holds_room : {left : List ℕ} {size next : ℕ} {p : Result ℕ ℤ} → StillHeld text out at left → MakesRoom size at p
+      → p ≡ Ok next → StillHeld text out next left
   holds_room {left} {next = next} holds (stays room) e =
       let same : at ≡ next = cc e in
       subst (λ (k : ℕ). StillHeld text out k left) same holds
@@ -66,7 +60,7 @@ module _ {text out : List ℕ} {at : ℕ} where
         gone = holds.gone ++ take at out;
         whole = holds.whole ∙ ap (λ (l : List ℕ). l ++ left) (sym (append-nil (holds.gone ++ take at out)));
       })
-  holds_room holds (failed full) e = absurd (let z : ◌≡◌ {A = ℕ} 0 1 = cc e in omega arith)
+  holds_room holds (failed full) e = cc e
 
   -- more text is left
   pub holds_more : {left : List ℕ} (more : List ℕ) → StillHeld text out at left → StillHeld (text ++ more) out at (left ++ more)

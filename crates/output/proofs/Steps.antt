@@ -1,13 +1,7 @@
 -- Laws of lines that are put one after the other in a step.
-use Prim.Native.Nat.{ℕ, ◌+◌, ◌<◌, ◌≤◌}
-use native.Mathlib.Omega.{arith}
-use native.Mathlib.Numerals.{add-one}
+use Rattle.std.proofs.Common.{ℕ, ◌+◌, ◌<◌, ◌≤◌, arith, add-one, inl, inr, ◌≡◌, refl, ap, sym, ◌∙◌, List, [], ◌++◌, append_assoc, length, get_or, drop-cons}
 use native.Mathlib.Decide.{dec_lt}
-use mathlib.Core.Logic.{inl, inr}
-use mathlib.Core.Path.{◌≡◌, refl, ap, sym, ◌∙◌}
-use mathlib.Core.List.{List, [], ◌++◌, append_assoc}
-use lib.ListN.{length, get_or}
-use lib.Seq.{drop-cons, drop-length}
+use lib.Seq.{drop-length}
 use Rattle.buffer.specs.Put.{Put}
 use Rattle.buffer.proofs.Puts.{put_nothing, put_then}
 use Rattle.output.specs.Step.{lines_joined, left_from, Steps, Stepped, done, step, Goes}

@@ -2,7 +2,7 @@
 // program says so if it is asked to.
 ghost use Rattle.std.specs.Prelude.{◌≤◌, length};
 
-use crate::{Written, write_out};
+use crate::write_out;
 use std::env::FillError;
 use std::io::{Eprint, Error, Write};
 use std::rt::Env;
@@ -17,10 +17,9 @@ const BROKEN_PIPE: i32 = 32;
 pub fn write_last<W: Write>(to: &mut W, rt: &impl Eprint, output: &[u8], at: usize) -> bool
     requires { at ≤ length output.now }
 {
-    let written = write_out(to, output, at);
-    match written {
-        Written::All => true,
-        Written::Failed(error) => {
+    match write_out(to, output, at) {
+        Ok(()) => true,
+        Err(error) => {
             tell_unwritten(rt, error);
             false
         }
@@ -55,16 +54,9 @@ pub fn give_verdict(rt: &impl Env) {
 // Whether the program's only argument is `verdict`.
 fn is_verdict_wanted(rt: &impl Env) -> bool {
     let mut word = [0u8; 8];
-    let first = rt.arg(1, &mut word);
-    let Ok(length) = first else {
+    let Ok(length) = rt.arg(1, &mut word) else {
         return false;
     };
-    if !check::same(&word[..length], b"verdict") {
-        return false;
-    }
-    let second = rt.arg(2, &mut word);
-    match second {
-        Err(FillError::NotPresent) => true,
-        _ => false,
-    }
+    &word[..length] == b"verdict".as_slice()
+        && matches!(rt.arg(2, &mut word), Err(FillError::NotPresent))
 }

@@ -15,7 +15,6 @@ ghost use Rattle.output.specs.Writing.{after_write, after_error};
 ghost use Rattle.output.specs.Room.{MakesRoom};
 
 use buffer::answer::answer_of;
-use buffer::least;
 use std::io::Write;
 
 // A line takes at most so many bytes.
@@ -34,26 +33,11 @@ pub struct Progress {
     pub at: usize,
 }
 
-// What follows from a write's answer: to go on from a place in the buffer, where an interrupted write may be tried
-// so often again; or that writing failed, with the error's number.
+// How writing goes on: from a place in the buffer, where an interrupted write may be tried so often again.
 #[derive(Clone, Copy)]
-pub enum Onward {
-    From { written: usize, tries: usize },
-    Failed(i32),
-}
-
-// How writing out ended: all of the bytes were taken, or writing failed, with the error's number.
-#[derive(Clone, Copy)]
-pub enum Written {
-    All,
-    Failed(i32),
-}
-
-// Where the next line goes, or that writing out failed, with the error's number.
-#[derive(Clone, Copy)]
-pub enum Place {
-    At(usize),
-    Failed(i32),
+pub struct Onward {
+    pub written: usize,
+    pub tries: usize,
 }
 
 // Whether there is room for a line behind the place.
@@ -64,76 +48,65 @@ pub fn has_room(out: &[u8], at: usize) -> bool
     ROOM <= out.len() - at
 }
 
-// What follows from the answer of a write of the bytes from one place to another, and its error. Bytes that were
-// taken are done with; an interrupted write is tried again; any other error is told, and an answer of 0, which
-// says that nothing will be taken, as the number 0.
-pub fn after_write(written: usize, filled: usize, tries: usize, answer: isize, error: i32) -> Onward
+// What follows from the answer of a write of the bytes from one place to another. Bytes that were taken are done
+// with; an interrupted write is tried again; any other error is told, and an answer of 0, which says that nothing will
+// be taken, as the number 0.
+pub fn after_write(
+    written: usize,
+    filled: usize,
+    tries: usize,
+    answered: Result<usize, i32>,
+) -> Result<Onward, i32>
     requires { written ≤ filled }
-    ensures { result ≡ after_write written filled tries answer error }
+    ensures { result ≡ after_write written filled tries answered }
 {
-    if answer < 0 {
-        return after_error(written, tries, error);
-    }
-    if answer == 0 {
-        return Onward::Failed(0);
-    }
-    Onward::From {
-        written: written + least(answer as usize, filled - written),
-        tries: TRIES,
+    match answered {
+        Ok(0) => Err(0),
+        Ok(taken) => Ok(Onward {
+            written: written + taken.min(filled - written),
+            tries: TRIES,
+        }),
+        Err(error) => after_error(written, tries, error),
     }
 }
 
 // An interrupted write is tried again from where it was, as often as is left; any other error is told.
-fn after_error(written: usize, tries: usize, error: i32) -> Onward
+fn after_error(written: usize, tries: usize, error: i32) -> Result<Onward, i32>
     ensures { result ≡ after_error written tries error }
 {
-    if error != INTERRUPTED {
-        return Onward::Failed(error);
+    if error != INTERRUPTED || tries == 0 {
+        return Err(error);
     }
-    if tries == 0 {
-        return Onward::Failed(error);
-    }
-    Onward::From {
+    Ok(Onward {
         written,
         tries: tries - 1,
-    }
+    })
 }
 
-// Writes out the first bytes of the buffer, up to the place where it is filled.
-pub fn write_out<W: Write>(to: &mut W, out: &[u8], filled: usize) -> Written
+// Writes out the first bytes of the buffer, up to the place where it is filled, or says with which error writing failed.
+pub fn write_out<W: Write>(to: &mut W, out: &[u8], filled: usize) -> Result<(), i32>
     requires { filled ≤ length out.now }
 {
-    let mut written = 0;
-    let mut tries = TRIES;
-    while written < filled {
-        let answer = answer_of(to.write(&out[written..filled]));
-        let next = after_write(written, filled, tries, answer.moved, answer.error);
-        match next {
-            Onward::From {
-                written: place,
-                tries: left,
-            } => {
-                written = place;
-                tries = left;
-            }
-            Onward::Failed(error) => return Written::Failed(error),
-        }
+    let mut onward = Onward {
+        written: 0,
+        tries: TRIES,
+    };
+    while onward.written < filled {
+        let answered = answer_of(to.write(&out[onward.written..filled]));
+        onward = after_write(onward.written, filled, onward.tries, answered)?;
     }
-    Written::All
+    Ok(())
 }
 
 // A place with room for a line: where the text ends or, once it is written out, the start.
-pub fn make_room<W: Write>(to: &mut W, out: &[u8], at: usize) -> Place
+pub fn make_room<W: Write>(to: &mut W, out: &[u8], at: usize) -> Result<usize, i32>
     requires at_in_bounds { at ≤ length out.now }
     requires in_bounds { 8192 ≤ length out.now }
     ensures { MakesRoom (length out.now) at result }
 {
     if has_room(out, at) {
-        return Place::At(at);
+        return Ok(at);
     }
-    let written = write_out(to, out, at);
-    match written {
-        Written::All => Place::At(0),
-        Written::Failed(error) => Place::Failed(error),
-    }
+    write_out(to, out, at)?;
+    Ok(0)
 }

@@ -1,5 +1,5 @@
 -- The block of a pair, put behind the others.
-use Rattle.std.proofs.Common.{◌≡◌, ℕ, ◌+◌, ◌-◌, ◌≤◌, List, [], ◌++◌, length, take, drop, sym, ap, ◌∙◌, subst, append_assoc, append-nil, arith, length-append, length-drop, length-take, length-take-le, take_at}
+use Rattle.std.proofs.Common.{◌≡◌, ℕ, ◌+◌, ◌-◌, ◌≤◌, List, [], ◌++◌, length, take, drop, sym, ap, ◌∙◌, subst, append_assoc, append-nil, arith, length-append, length-drop, length-take, length-take-le, take_at, ℤ, Result, Ok, Err}
 use borrow.Rule.Slice.PartMut.{put_mid, post_of, take_put}
 use lib.Seq.{drop-length}
 use Rattle.numbers.specs.Numbers.{said_of}
@@ -8,17 +8,12 @@ use Rattle.numbers.specs.declared.Refusal.{Refusal}
 use Rattle.numbers.proofs.Promises.{given_none, given_gives, refused_unchanged}
 use Rattle.writing.specs.Written.{block_of}
 use Rattle.writing.specs.Write.{WriteGives, written, told_write, WritePromise}
-use Rattle.writing.specs.declared.WriteAnswer.{WriteAnswer}
-use Rattle.writing.specs.declared.WriteAnswer.TheVariants.{Written, Refused}
 use Rattle.writing.proofs.Accepted.{accepted}
 use Rattle.writing.proofs.Sides.{block_length}
 use Rattle.output.specs.Room.{MakesRoom}
-use Rattle.output.specs.declared.Place.{Place}
-use Rattle.output.specs.declared.Place.TheVariants.{At}
 use Rattle.output.proofs.Held.{roomy, holds_room}
 use Rattle.pack.specs.Packing.{after_wrong, after_block, placed_at, Behind, WriteRefuses, PairGoes, made, refused}
 use Rattle.pack.specs.declared.packing.Packing.{Packing}
-use Rattle.pack.specs.declared.packing.Went.TheVariants as went
 
 -- a lent buffer of 512 bytes receives the block and nothing else
 received : {left right lent : List ℕ} {number : ℕ} {block : List ℕ} {nothing : Unit {0}} → length lent ≡ length (block_of number left right)
@@ -29,17 +24,15 @@ received {left} {right} {lent} {number = number} size written =
     ∙ append-nil (block_of number left right)
 
 -- what Write wrote into it is the block of the sides, ..
-written_block : {left right lent block : List ℕ} {number : ℕ} → length lent ≡ 512 → (answer : WriteAnswer)
-    → WritePromise left right number lent (told_write answer) block → answer ≡ Written → block ≡ block_of number left right
-written_block {left} {right} {lent} {block} {number} whole answer promise told =
-    let given = subst (λ a. WritePromise left right number lent (told_write a) block) told promise in
+written_block : {left right lent block : List ℕ} {number : ℕ} → length lent ≡ 512
+    → WritePromise left right number lent (told_write (Ok tt)) block → block ≡ block_of number left right
+written_block {number = number} whole given =
     received (whole ∙ sym (block_length (accepted (given_none given)).within number)) (given_gives given)
 
 -- .. or it refused them
-refused_pair : {left right lent block : List ℕ} {number : ℕ} {why : Refusal} → length lent ≡ 512 → (answer : WriteAnswer)
-    → WritePromise left right number lent (told_write answer) block → answer ≡ Refused why → WriteRefuses left right number
-refused_pair {left} {right} {lent} {block} {number} {why} whole answer promise told =
-    let refusing = subst (λ a. WritePromise left right number lent (told_write a) block) told promise in
+refused_pair : {left right lent block : List ℕ} {number : ℕ} (why : Refusal) → length lent ≡ 512
+    → WritePromise left right number lent (told_write (Err why)) block → WriteRefuses left right number
+refused_pair {left} {right} {lent} {number = number} why whole refusing =
     record {
       lent = lent;
       enough = omega (arith, whole);
@@ -48,8 +41,8 @@ refused_pair {left} {right} {lent} {block} {number} {why} whole answer promise t
           (refused_unchanged refusing) refusing;
     }
 
-module _ (out : List ℕ) (p : Packing) {place : ℕ} {made_at : Place} (makes : MakesRoom (length out) p.at made_at)
-    (is : made_at ≡ At place) where
+module _ (out : List ℕ) (p : Packing) {place : ℕ} {made_at : Result ℕ ℤ} (makes : MakesRoom (length out) p.at made_at)
+    (is : made_at ≡ Ok place) where
   -- where there is room for a line there is room for a block
   pub block_room : place + 512 ≤ length out
   block_room = let room = roomy makes is in omega arith
@@ -105,25 +98,23 @@ module _ (out : List ℕ) (p : Packing) {place : ℕ} {made_at : Place} (makes :
     abbrev lent : List ℕ
     lent = take (place + 512 - place) (drop place out)
 
-    pub block_is : {left right : List ℕ} {number : ℕ} (answer : WriteAnswer)
-        → WritePromise left right number lent (told_write answer) block → answer ≡ Written
+    pub block_is : {left right : List ℕ} {number : ℕ} → WritePromise left right number lent (told_write (Ok tt)) block
         → block ≡ block_of number left right
-    block_is answer promise told = written_block (omega (arith, kept, block_whole)) answer promise told
+    block_is promise = written_block (omega (arith, kept, block_whole)) promise
 
-    pub refuses : {left right : List ℕ} {number : ℕ} {why : Refusal} (answer : WriteAnswer)
-        → WritePromise left right number lent (told_write answer) block → answer ≡ Refused why
-        → WriteRefuses left right number
-    refuses answer promise told = refused_pair (omega (arith, kept, block_whole)) answer promise told
+    pub refuses : {left right : List ℕ} {number : ℕ} (why : Refusal)
+        → WritePromise left right number lent (told_write (Err why)) block → WriteRefuses left right number
+    refuses why promise = refused_pair why (omega (arith, kept, block_whole)) promise
 
     pub pair_made : {left right : List ℕ} {r : Packing} → block ≡ block_of p.number left right
         → r ≡ after_block (place + 512) p
-        → PairGoes left right p out (went.On r) (with_block block)
+        → PairGoes left right p out (Ok r) (with_block block)
     pair_made its after =
         rw after (made (record { the_block = its; whole = block_whole }) block_room (block_behind block block_whole))
 
     pub pair_refused : {left right : List ℕ} {r : Packing} → WriteRefuses left right p.number
         → r ≡ after_wrong (placed_at place p)
-        → PairGoes left right p out (went.On r) (with_block block)
+        → PairGoes left right p out (Ok r) (with_block block)
     pair_refused its after =
         let inside : place ≤ length out = omega (arith, block_room) in
         rw after (refused its inside (nothing_behind block))

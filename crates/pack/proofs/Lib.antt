@@ -1,5 +1,3 @@
-mod Apart
-pub mod Telling
 pub mod Cutting
 pub mod Blocks
 pub mod Accepts

@@ -1,5 +1,5 @@
 -- The run of the program: pieces of the input come one after the other, and the lines of what came are packed.
-use Rattle.std.proofs.Common.{◌≡◌, ℕ, ◌+◌, ◌-◌, ◌≤◌, Bool, List, [], ◌∷◌, ◌++◌, length, take, drop, sym, refl, ap, ◌∙◌, subst, append_assoc, append-nil, arith, drop_of_length-le}
+use Rattle.std.proofs.Common.{◌≡◌, ℕ, ◌+◌, ◌-◌, ◌≤◌, List, [], ◌∷◌, ◌++◌, length, take, drop, sym, refl, ap, ◌∙◌, subst, append_assoc, append-nil, arith, drop_of_length-le, ℤ, Result, Ok, Err, MatchResult, IsErrAnd}
 use Rattle.library.specs.Reading.{opened, part}
 use Rattle.library.specs.Library.{Call, came, blocks_of, all_bytes, HandsOn, Run}
 use Rattle.library.specs.declared.Reader.{Reader}
@@ -11,26 +11,26 @@ use Rattle.library.proofs.Following.{run_block, run_end}
 use Rattle.output.proofs.Held.{holds_nothing}
 use Rattle.pattern.specs.Characters.{none}
 use Rattle.pack.specs.Cut.{no_line}
-use Rattle.pack.specs.Packing.{most_pieces, LinesPacked, nothing_packed, Far, Ready, PieceGoes, goes_on, not_written, Finishes, PackedTo, all, not_read}
-use Rattle.pack.specs.declared.Packed.{Packed}
-use Rattle.pack.specs.declared.Packed.TheVariants as packed
+use Rattle.pack.specs.Packing.{most_pieces, LinesPacked, nothing_packed, Far, LineGoes, PieceGoes, goes_on, not_written, Finishes, PackedTo, all, not_read}
+use Rattle.std.proofs.lemmas.Result.{err_from_is_err_and}
+use Rattle.pack.specs.Held.{Holds}
+use Rattle.pack.specs.declared.cut.Line.{Line}
+use Rattle.pack.specs.declared.Stopped.{Stopped}
+use Rattle.pack.specs.declared.Stopped.TheVariants as stopped
 use Rattle.pack.specs.declared.packing.Packing.{Packing}
-use Rattle.pack.specs.declared.packing.Went.{Went}
-use Rattle.pack.specs.declared.packing.Went.TheVariants as went
-use Rattle.pack.proofs.Apart.{apart}
-use Rattle.pack.proofs.Going.{begins_empty, packed_more}
+use Rattle.pack.proofs.Going.{packed_more}
 
 -- some pieces came, and packing has gone so far
-pub record Running (input : List ℕ) (r : Reader) (line : List ℕ) (p : Packing) (out : List ℕ) : Type 0 where
+pub record Running (input : List ℕ) (r : Reader) (l : Line) (p : Packing) (out : List ℕ) : Type 0 where
   pub calls : List Call
   pub pieces : List (List ℕ)
   pub run : Run most_pieces calls pieces r input
-  pub far : Far (all_bytes pieces) line p out
+  pub far : Far (all_bytes pieces) l p out
 
 -- nothing came yet
-pub running_start : {input line out : List ℕ} {r : Reader} {p : Packing} → 512 ≤ length input → r ≡ opened most_pieces
-    → p ≡ nothing_packed → Running input r line p out
-running_start {out = out} room unread begin =
+pub running_start : {input out : List ℕ} {r : Reader} {l : Line} {p : Packing} → 512 ≤ length input
+    → r ≡ opened most_pieces → Holds l [] → p ≡ nothing_packed → Running input r l p out
+running_start {out = out} room unread empty begin =
     rw (unread, begin) (record {
       calls = [];
       pieces = [];
@@ -41,7 +41,7 @@ running_start {out = out} room unread begin =
             last = [];
             blocks = [];
             cut = no_line none;
-            holds = begins_empty refl;
+            holds = empty;
             packed = LinesPacked.none;
             numbered = refl;
             stands = holds_nothing out;
@@ -61,23 +61,24 @@ lent_piece start size input =
     ap (λ (n : ℕ). take n (drop start input)) (let e : start + size - start ≡ size = omega arith in e)
 
 -- where packing goes on after a piece
-pub record PieceOn (bytes line : List ℕ) (p : Packing) (out : List ℕ) (q : Packing) (line' out' : List ℕ) : Type 0 where
-  pub ready : Ready line' q (length out)
-  pub far : (before : List ℕ) → Far before line p out → Far (before ++ bytes) line' q out'
+pub record PieceOn (bytes : List ℕ) (l : Line) (p : Packing) (out : List ℕ) (q : Packing) (l' : Line) (out' : List ℕ)
+    : Type 0 where
+  pub inside : q.at ≤ length out
+  pub far : (before : List ℕ) → Far before l p out → Far (before ++ bytes) l' q out'
 
-pub when_on : {bytes line out line' out' : List ℕ} {p q : Packing} {w : Went} → PieceGoes bytes line p out w line' out'
-    → w ≡ went.On q → PieceOn bytes line p out q line' out'
-when_on {bytes} {line} {out} {line'} {out'} {p} {q} (goes_on {p' = p'} ready far) e =
-    subst (λ x. PieceOn bytes line p out x line' out') (let same : p' ≡ q = cc e in same)
-    (record { ready = ready; far = far })
-when_on not_written e = apart (cc e)
+pub when_on : {bytes out out' : List ℕ} {l l' : Line} {p q : Packing} {r : Result Packing ℤ}
+    → PieceGoes bytes l p out r l' out' → r ≡ Ok q → PieceOn bytes l p out q l' out'
+when_on {bytes} {out} {out'} {l} {l'} {p} {q} (goes_on {p' = p'} inside far) e =
+    subst (λ x. PieceOn bytes l p out x l' out') (let same : p' ≡ q = cc e in same)
+    (record { inside = inside; far = far })
+when_on not_written e = cc e
 
-module _ {input after line out : List ℕ} {r r' : Reader} {p : Packing} {n : Next} (running : Running input r line p out)
-    (h : HandsOn input r n r' after) where
+module _ {input after out : List ℕ} {l : Line} {r r' : Reader} {p : Packing} {n : Next}
+    (running : Running input r l p out) (h : HandsOn input r n r' after) where
   -- a piece came, and its lines were packed
-  pub running_piece : {start size : ℕ} {q : Packing} {line' out' : List ℕ} → n ≡ next.Block start size
-      → PieceOn (part start size after) line p out q line' out' → Running after r' line' q out'
-  running_piece {start} {size} {q} {line'} {out'} e on =
+  pub running_piece : {start size : ℕ} {q : Packing} {l' : Line} {out' : List ℕ} → n ≡ next.Block start size
+      → PieceOn (part start size after) l p out q l' out' → Running after r' l' q out'
+  running_piece {start} {size} {q} {l'} {out'} e on =
       record {
         calls = h.calls ++ running.calls;
         pieces = running.pieces ++ (part start size after ∷ []);
@@ -96,8 +97,8 @@ module _ {input after line out : List ℕ} {r r' : Reader} {p : Packing} {n : Ne
       ∙ ap (λ (l : List ℕ). all_bytes (blocks_of most_pieces bytes) ++ l) (sym (drop_of_length-le bytes over.no_more))
       ∙ blocks_joined most_pieces bytes
 
-  pub running_ends : {out' : List ℕ} {r : Packed} → p.at ≤ length out → length out' ≡ length out
-      → Finishes n line p out r out' → PackedTo out' r
+  pub running_ends : {out' : List ℕ} {r : Result Packing Stopped} → p.at ≤ length out → length out' ≡ length out
+      → Finishes n l p out r out' → PackedTo out' r
   running_ends {out'} inside same (Finishes.at_end {p' = q} e within done) =
       let far = running.far in
       let d = done far.last far.holds in
@@ -110,15 +111,21 @@ module _ {input after line out : List ℕ} {r r' : Reader} {p : Packing} {n : Ne
       far.stands
   running_ends inside same Finishes.not_written = PackedTo.not_written
 
--- what stands in the output buffer at the end
-pub all_inside : {out : List ℕ} {at : ℕ} {wrong : Bool} {p : Packed} → PackedTo out p → p ≡ packed.All at wrong
-    → at ≤ length out
-all_inside {at = at} (all {at = a} over cut packed inside stands) e = let same : a ≡ at = cc e in omega arith
-all_inside (not_read calls more came cut packed inside stands) e = apart (cc e)
-all_inside PackedTo.not_written e = apart (cc e)
+-- the last line was packed
+pub last_packed : {n : Next} {l : Line} {p : Packing} {out out' : List ℕ} (r : Result Packing ℤ)
+    {m : Result Packing Stopped} (P : ℤ → Stopped → Type 0) → MatchResult r (λ q. m ≡ Ok q) (λ e. IsErrAnd m (P e))
+    → ((e : ℤ) (s : Stopped) → P e s → s ≡ stopped.Unwritten e) → n ≡ next.End → LineGoes l p out r out'
+    → Finishes n l p out m out'
+last_packed _ P known told is (LineGoes.goes_on within done) = rw known (Finishes.at_end is within done)
+last_packed _ {m} P known told is LineGoes.not_written =
+    let failed = err_from_is_err_and m known in rw (failed.1, told _ _ failed.2) Finishes.not_written
 
-pub unread_inside : {out : List ℕ} {at : ℕ} {p : Packed} → PackedTo out p → p ≡ packed.Unread at → at ≤ length out
-unread_inside (all over cut packed inside stands) e = apart (cc e)
-unread_inside {at = at} (not_read calls more {at = a} came cut packed inside stands) e = let same : a ≡ at =
-    cc e in omega arith
-unread_inside PackedTo.not_written e = apart (cc e)
+-- a write failed
+pub write_failed : {out : List ℕ} (r : Result Packing ℤ) {m : Result Packing Stopped} (P : ℤ → Stopped → Type 0)
+    {s : Stopped} → MatchResult r (λ q. m ≡ Ok q) (λ e. IsErrAnd m (P e))
+    → ((e : ℤ) (s : Stopped) → P e s → s ≡ stopped.Unwritten e) → m ≡ Err s → PackedTo out (Err s)
+write_failed (Ok q) P known told is = cc (is, known)
+write_failed (Err e) {m} P {s} known told is =
+    let failed = err_from_is_err_and m known in
+    let same : s ≡ failed.0 = cc (is, failed.1) in
+    rw (same, told _ _ failed.2) PackedTo.not_written

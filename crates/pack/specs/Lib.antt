@@ -1,3 +1,4 @@
 pub mod Cut
+pub mod Held
 pub mod Told
 pub mod Packing

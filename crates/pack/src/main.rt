@@ -13,9 +13,10 @@ mod tell;
 ghost use Rattle.std.specs.Prelude.{◌≤◌, length};
 ghost use Rattle.pack.specs.Packing.{Ready, Finishes, PackedTo};
 
+use cut::Line;
 use library::Next;
 use output::ending::{give_verdict, tell_unread, tell_unwritten, write_last};
-use packing::{Packing, Went, begin, pack_line, pack_piece};
+use packing::{Packing, pack_line, pack_piece};
 use std::io::{Eprint, Read, Write};
 
 // The input is read in so many pieces of 512 bytes at most, so that the program ends.
@@ -31,12 +32,11 @@ fn main(rt: HostRuntime) {
     }
 }
 
-// How packing ended: all lines were read, and the blocks that were not yet written out stand in the output buffer up
-// to a place; a read failed, after the blocks up to a place; or a write failed, with the error's number.
+// Why packing ended before all lines were read: a read failed, after the blocks up to a place in the output buffer; or a
+// write failed, with the error's number.
 #[derive(Clone, Copy)]
-enum Packed {
-    All { at: usize, wrong: bool },
-    Unread(usize),
+enum Stopped {
+    Unread { at: usize },
     Unwritten(i32),
 }
 
@@ -51,51 +51,41 @@ fn run<R: Read, W: Write>(
 ) -> bool
     requires { (512 ≤ length input.old) × (8192 ≤ length output.old) }
 {
-    let packed = pack_lines(from, to, rt, input, output);
-    match packed {
-        Packed::All { at, wrong } => {
-            let written = write_last(to, rt, output, at);
-            written && !wrong
-        }
-        Packed::Unread(at) => {
+    match pack_lines(from, to, rt, input, output) {
+        Ok(packed) => write_last(to, rt, output, packed.at) && !packed.wrong,
+        Err(Stopped::Unread { at }) => {
             write_last(to, rt, output, at);
             false
         }
-        Packed::Unwritten(error) => {
+        Err(Stopped::Unwritten(error)) => {
             tell_unwritten(rt, error);
             false
         }
     }
 }
 
-// Piece by piece, until there is none, a read fails or nobody takes the output. That a read failed is told.
+// Piece by piece, until there is none, a read fails or nobody takes the output. The blocks that were not yet written
+// out stand in the output buffer up to a place. That a read failed is told.
 fn pack_lines<R: Read, W: Write>(
     from: &mut R,
     to: &mut W,
     rt: &impl Eprint,
     input: &mut [u8],
     output: &mut [u8],
-) -> Packed
+) -> Result<Packing, Stopped>
     requires { (512 ≤ length input.old) × (8192 ≤ length output.old) }
     ensures { PackedTo output.new result }
 {
     let mut reader = library::open(MOST_PIECES);
-    let mut line = io::buffer();
-    let mut packing = begin();
+    let mut line = Line::new();
+    let mut packing = Packing::begin();
     loop {
         let step = library::next_block(from, input, reader);
-        let next = step.next;
-        let Next::Block { start, length } = next else {
-            return finish(to, rt, next, &line, packing, output);
+        let Next::Block { start, length } = step.next else {
+            return finish(to, rt, step.next, &line, packing, output);
         };
-        let end = start + length;
-        let went = pack_piece(to, &input[start..end], &mut line, packing, output);
-        match went {
-            Went::On(after) => {
-                packing = after;
-            }
-            Went::Unwritten(error) => return Packed::Unwritten(error),
-        }
+        let piece = &input[start..start + length];
+        packing = pack_piece(to, piece, &mut line, packing, output).map_err(Stopped::Unwritten)?;
         reader = step.reader;
     }
 }
@@ -105,25 +95,18 @@ fn finish<W: Write>(
     to: &mut W,
     rt: &impl Eprint,
     next: Next,
-    line: &[u8],
+    line: &Line,
     packing: Packing,
     output: &mut [u8],
-) -> Packed
-    requires { Ready line.now packing (length output.old) }
+) -> Result<Packing, Stopped>
+    requires { Ready packing (length output.old) }
     ensures { Finishes next line.now packing output.old result output.new }
 {
     let Next::End = next else {
         tell_unread(rt, error_of(next));
-        return Packed::Unread(packing.at);
+        return Err(Stopped::Unread { at: packing.at });
     };
-    let went = pack_line(to, line, packing, output);
-    match went {
-        Went::On(after) => Packed::All {
-            at: after.at,
-            wrong: after.wrong,
-        },
-        Went::Unwritten(error) => Packed::Unwritten(error),
-    }
+    pack_line(to, line, packing, output).map_err(Stopped::Unwritten)
 }
 
 // The number of the error with which a read failed, and 0 where none did.

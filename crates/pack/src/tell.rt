@@ -1,19 +1,19 @@
 // What is told of wrong lines, on standard error: which line it is, at which column it is wrong, and why.
-ghost use Rattle.std.specs.Prelude.{◌+◌, ◌≤◌, length};
+ghost use Rattle.std.specs.Prelude.{◌≡◌, ◌≤◌, length};
 ghost use Rattle.buffer.specs.Put.{Put};
 ghost use Rattle.pack.specs.Told.{words_of, line_named, column_named, wrong_line, long_line};
 
 use buffer::put_bytes;
-use pattern::Fault;
+use pattern::{Fault, Wrong};
 use text::put_number;
 
 // The descriptor of standard error.
 const STANDARD_ERROR: i32 = 2;
 
-// Tells that a line is wrong at a column.
-pub fn tell_wrong(line: u64, column: u64, why: Fault) {
+// Tells what is wrong with a line.
+pub fn tell_wrong(line: u64, wrong: Wrong) {
     let mut text = [0u8; 256];
-    let end = put_wrong(&mut text, line, column, why);
+    let end = put_wrong(&mut text, line, wrong);
     io::write_all(STANDARD_ERROR, &text[..end]);
 }
 
@@ -25,13 +25,14 @@ pub fn tell_too_long(line: u64) {
 }
 
 // What is told of a wrong line.
-fn put_wrong(out: &mut [u8], line: u64, column: u64, why: Fault) -> usize
+fn put_wrong(out: &mut [u8], line: u64, wrong: Wrong) -> usize
     requires { 256 ≤ length out.old }
-    ensures put { Put out.old 0 (wrong_line line column why) result out.new }
+    ensures put { Put out.old 0 (wrong_line line wrong.column wrong.why) result
+        out.new }
     ensures upper_bound { result ≤ 256 }
 {
-    let at = put_column(out, line, column);
-    let at = put_words(out, at, why);
+    let at = put_column(out, line, wrong.column as u64);
+    let at = put_bytes(out, at, words_of(wrong.why));
     put_bytes(out, at, b"\n")
 }
 
@@ -72,33 +73,22 @@ fn put_line(out: &mut [u8], line: u64) -> usize
 }
 
 // What is wrong, in words.
-fn put_words(out: &mut [u8], at: usize, why: Fault) -> usize
-    requires { at + 100 ≤ length out.old }
-    ensures put { Put out.old at (words_of why) result out.new }
-    ensures upper_bound { result ≤ at + 100 }
+fn words_of(why: Fault) -> &'static [u8]
+    ensures words { result.now ≡ words_of why }
+    ensures upper_bound { length result.now ≤ 100 }
 {
     match why {
-        Fault::NoAtom => put_bytes(
-            out,
-            at,
-            b"no atom; atoms are v0 to v31 and c0 to c63, and 3v0 is three of them",
-        ),
-        Fault::NotWritten => put_bytes(
-            out,
-            at,
-            b"v32 to v63 cannot be written, only v0 to v31; answers call the right side's variables so",
-        ),
-        Fault::ItemMissing => put_bytes(out, at, b"an atom or a bracket must stand here"),
-        Fault::PlusMissing => put_bytes(out, at, b"a + must stand here"),
-        Fault::NotOpened => put_bytes(out, at, b"a bracket is closed that was not opened"),
-        Fault::NotClosed => put_bytes(out, at, b"a bracket is not closed"),
-        Fault::EmptySide => put_bytes(out, at, b"the side is empty"),
-        Fault::TooManyAtoms => put_bytes(
-            out,
-            at,
-            b"more than 64 atoms; a block holds at most 64 of a side",
-        ),
-        Fault::NoEquals => put_bytes(out, at, b"a pair has one =, and here is none"),
-        Fault::SecondEquals => put_bytes(out, at, b"a pair has one =, and here is another"),
+        Fault::NoAtom => b"no atom; atoms are v0 to v31 and c0 to c63, and 3v0 is three of them",
+        Fault::NotWritten => {
+            b"v32 to v63 cannot be written, only v0 to v31; answers call the right side's variables so"
+        }
+        Fault::ItemMissing => b"an atom or a bracket must stand here",
+        Fault::PlusMissing => b"a + must stand here",
+        Fault::NotOpened => b"a bracket is closed that was not opened",
+        Fault::NotClosed => b"a bracket is not closed",
+        Fault::EmptySide => b"the side is empty",
+        Fault::TooManyAtoms => b"more than 64 atoms; a block holds at most 64 of a side",
+        Fault::NoEquals => b"a pair has one =, and here is none",
+        Fault::SecondEquals => b"a pair has one =, and here is another",
     }
 }

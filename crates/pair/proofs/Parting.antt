@@ -15,8 +15,7 @@ use Rattle.pair.specs.Counts.{SettlesTen, a_far_one, all_near}
 use Rattle.pair.specs.Gathered.{HeldIfRoom}
 use Rattle.pair.specs.Parted.{PairOf}
 use Rattle.pair.specs.declared.Pair.{Pair}
-use Rattle.pair.specs.declared.limits.NetCounts.{NetCounts}
-use Rattle.pair.specs.declared.limits.NetCounts.TheVariants.{Far, Near}
+use Rattle.std.specs.Prelude.{Option, Some, None}
 use Rattle.pair.proofs.Telling.{tells_less, tells_either, tells_same, at_most}
 
 -- a number that is given where a side is wrong, by a test of each side
@@ -74,13 +73,13 @@ module _ {M : Mode} {L R : List ℕ} where
   tells_11 = tells_many (unbalanced M L R) many_constants more_constants
 
   -- what was found of the net counts: an atom is the lowest that is far, and where none was found 10 is not given
-  pub far_found : {found : NetCounts} {atom : ℕ} → SettlesTen M L R found → found ≡ Far atom
+  pub far_found : {found : Option ℕ} {atom : ℕ} → SettlesTen M L R found → found ≡ Some atom
       → LowestFar limits L R atom
   far_found {atom = atom} (a_far_one {atom = found} lowest) e =
       let same : found ≡ atom = cc e in subst (LowestFar limits L R) same lowest
   far_found (all_near not_given) e = absurd (let z : ◌≡◌ {A = ℕ} 0 1 = cc e in omega arith)
 
-  pub near_found : {found : NetCounts} → SettlesTen M L R found → found ≡ Near → PairGiven limits M L R 10 → ⊥
+  pub near_found : {found : Option ℕ} → SettlesTen M L R found → found ≡ None → PairGiven limits M L R 10 → ⊥
   near_found (a_far_one lowest) e = absurd (let z : ◌≡◌ {A = ℕ} 0 1 = cc e in omega arith)
   near_found (all_near not_given) e = not_given
 

@@ -7,10 +7,15 @@ use native.Mathlib.Decide.{dec_le}
 use native.Mathlib.Omega.{arith}
 use lib.Dec.{ltb}
 use borrow.Author.Tests.{ltb-true, ltb-false}
+use mathlib.Core.List.Memᴰ
+use mathlib.Core.List.{List, [], ◌∷◌, Memᴰ}
+use Rattle.std.specs.List.{list_any}
+use Rattle.ac.specs.Limits.{limits}
 use Rattle.numbers.specs.Tells.{Tells}
+use Rattle.pair.specs.Given.{WrongByte}
 
 -- no truth value is both
-true_not_false : {b : Bool} → b ≡ true → b ≡ false → ⊥
+pub true_not_false : {b : Bool} → b ≡ true → b ≡ false → ⊥
 true_not_false yes' no' = let z : ◌≡◌ {A = ℕ} 0 1 = cc in omega arith
 
 -- true tells of what is so, false of what is not
@@ -47,3 +52,19 @@ at_most m n not_above = go (dec_le m n)
     go : Dec (m ≤ n) → m ≤ n
     go (yes fits) = fits
     go (no above) = absurd (not_above (omega arith))
+
+-- whether some byte is above the highest atom
+pub tells_wrong : (side : List ℕ) → Tells (WrongByte limits side) (list_any (λ byte. ltb 127 byte) side)
+tells_wrong [] = tells_false (λ wrong. Memᴰ.not-nil wrong.held)
+tells_wrong (b ∷ side) = tells_same to from (tells_either (ltb 127 b) _ (tells_less 127 b) (tells_wrong side))
+  where
+    to : (127 < b) ⊎ WrongByte limits side → WrongByte limits (b ∷ side)
+    to (inl above) = record { byte = b; held = Memᴰ.head refl; above = above }
+    to (inr wrong) = record { byte = wrong.byte; held = Memᴰ.tail wrong.held; above = wrong.above }
+
+    from : WrongByte limits (b ∷ side) → (127 < b) ⊎ WrongByte limits side
+    from wrong = by_member wrong.held wrong.above
+      where
+        by_member : {x : ℕ} → Memᴰ x (b ∷ side) → 127 < x → (127 < b) ⊎ WrongByte limits side
+        by_member (Memᴰ.head e) above = inl (omega (arith, e))
+        by_member {x} (Memᴰ.tail m) above = inr (record { byte = x; held = m; above = above })

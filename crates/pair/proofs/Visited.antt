@@ -1,20 +1,18 @@
 -- Gathering the atoms that pass a test, with two numbers for each, one atom at a time; and that the test by
 -- the tables finds the variables and the unbalanced constants of the sides.
-use mathlib.Core.Path.{◌≡◌, refl, sym, ap, subst, ◌∙◌, fun_ext}
+use mathlib.Core.Path.{◌≡◌, sym, ap, subst, ◌∙◌, fun_ext}
 use mathlib.Core.Bool.{Bool, true, false}
 use mathlib.Core.List.{List, [], ◌∷◌, ◌++◌, map, append-nil}
 use Prim.Native.Nat.{ℕ, suc, ◌+◌, ◌-◌, ◌≤◌, ◌<◌}
 use native.Mathlib.Omega.{arith}
 use lib.ListN.{length, get_or, set, replicate, length-map}
 use lib.Seq.{set-append_seam, append_snoc}
-use lib.Dec.{ltb}
-use borrow.Author.Tests.{lt-ltb}
 use Rattle.ac.specs.Limits.{limits}
 use Rattle.ac.specs.Lists.{below, filter}
 use Rattle.ac.specs.Pair.{Mode, atoms, count}
 use Rattle.ac.proofs.Members.{map_append}
 use Rattle.pair.specs.Counts.{Occurrences, CountsOf}
-use Rattle.pair.specs.Gathered.{excess, padded, HeldIfRoom, is_of, all_of, Gathers}
+use Rattle.pair.specs.Gathered.{excess, padded, HeldIfRoom, is_of, all_of, Adds, Gathers}
 use Rattle.pair.specs.declared.Gathered.{Gathered}
 use Rattle.pair.specs.declared.counting.AtomCounts.{AtomCounts}
 use Rattle.pair.specs.declared.gathering.AtomKind.{AtomKind}
@@ -46,65 +44,48 @@ stored_more list x put stored fits =
     room = omega (arith, longer, fits)
 
 -- the atoms below one are visited: how many pass, and where there is room they are stored, with their two numbers
-pub record Visited (p : ℕ → Bool) (f g : ℕ → ℕ) (atom number : ℕ) (atoms lefts rights : List ℕ) : Type 0 where
-  pub how_many : number ≡ length (filter p (below atom))
-  pub few : number ≤ atom
-  pub the_atoms : Stored (filter p (below atom)) atoms
-  pub left_numbers : Stored (map f (filter p (below atom))) lefts
-  pub right_numbers : Stored (map g (filter p (below atom))) rights
+pub record Visited (p : ℕ → Bool) (f g : ℕ → ℕ) (atom : ℕ) (gathered : Gathered) : Type 0 where
+  pub how_many : gathered.count ≡ length (filter p (below atom))
+  pub few : gathered.count ≤ atom
+  pub the_atoms : Stored (filter p (below atom)) gathered.atoms
+  pub left_numbers : Stored (map f (filter p (below atom))) gathered.left
+  pub right_numbers : Stored (map g (filter p (below atom))) gathered.right
 
 module _ (p : ℕ → Bool) (f g : ℕ → ℕ) where
-  -- before the first atom
-  pub visited_none : Visited p f g 0 0 (replicate limits.variables 0) (replicate limits.variables 0) (replicate limits.variables 0)
-  visited_none = record {
-    how_many = refl;
-    few = omega arith;
-    the_atoms = λ fits. refl;
-    left_numbers = λ fits.
-        refl;
-    right_numbers = λ fits. refl;
-  }
-
-  module _ (atom number : ℕ) (atoms lefts rights : List ℕ)
-      (so_far : Visited p f g atom number atoms lefts rights) where
+  module _ (atom : ℕ) {gathered : Gathered} (so_far : Visited p f g atom gathered) where
     abbrev found : List ℕ
     found = filter p (below atom)
 
-    module _ {number' : ℕ} {atoms' lefts' rights' : List ℕ} where
-      -- an atom that passes is stored, with its two numbers
-      pub visited_more :
-          p atom ≡ true → number' ≡ number + 1 → (number < limits.variables → atoms' ≡ set atoms number atom)
-          → (number < limits.variables → lefts' ≡ set lefts number (f atom)) → (number < limits.variables → rights' ≡ set rights number (g atom))
-          → Visited p f g (atom + 1) number' atoms' lefts' rights'
-      visited_more passes one_more in_atoms in_lefts in_rights =
-          record {
-            how_many =
-                rw (filter-below, passes) (omega (arith, one_more, so_far.how_many, length_snoc found atom));
-            few = omega (arith, so_far.few, one_more);
-            the_atoms = rw (filter-below, passes)
-                (stored_more found atom (rw so_far.how_many at in_atoms) so_far.the_atoms);
-            left_numbers = rw (filter-below, passes) (with_number f in_lefts so_far.left_numbers);
-            right_numbers = rw (filter-below, passes) (with_number g in_rights so_far.right_numbers);
-          }
-        where
-          with_number : (h : ℕ → ℕ) {places places' : List ℕ}
-              → (number < limits.variables → places' ≡ set places number (h atom)) → Stored (map h found) places
-              → Stored (map h (found ++ atom ∷ [])) places'
-          with_number h put stored = rw map_append
-              (stored_more (map h found) (h atom) (rw (length-map, ← so_far.how_many) put) stored)
+    -- an atom that passes is stored, with its two numbers
+    pub visited_more : {left right : ℕ} {gathered' : Gathered} → p atom ≡ true → left - right ≡ f atom → right - left ≡ g atom
+        → Adds atom left right gathered gathered' → Visited p f g (atom + 1) gathered'
+    visited_more passes left_number right_number added =
+        record {
+          how_many =
+              rw (filter-below, passes) (omega (arith, added.how_many, so_far.how_many, length_snoc found atom));
+          few = omega (arith, so_far.few, added.how_many);
+          the_atoms = rw (filter-below, passes)
+              (stored_more found atom (rw so_far.how_many at added.the_atom) so_far.the_atoms);
+          left_numbers = rw (filter-below, passes) (with_number f (rw left_number at added.left_part) so_far.left_numbers);
+          right_numbers = rw (filter-below, passes) (with_number g (rw right_number at added.right_part) so_far.right_numbers);
+        }
+      where
+        with_number : (h : ℕ → ℕ) {places places' : List ℕ}
+            → (gathered.count < limits.variables → places' ≡ set places gathered.count (h atom)) → Stored (map h found) places
+            → Stored (map h (found ++ atom ∷ [])) places'
+        with_number h put stored = rw map_append
+            (stored_more (map h found) (h atom) (rw (length-map, ← so_far.how_many) put) stored)
 
-      -- one that does not pass is left out
-      pub visited_skip :
-          p atom ≡ false → number' ≡ number → atoms' ≡ atoms → lefts' ≡ lefts → rights' ≡ rights
-          → Visited p f g (atom + 1) number' atoms' lefts' rights'
-      visited_skip passes same_number same_atoms same_lefts same_rights =
-          record {
-            how_many = rw (filter-below, passes, append-nil, same_number) so_far.how_many;
-            few = omega (arith, so_far.few);
-            the_atoms = rw (filter-below, passes, append-nil, same_atoms) so_far.the_atoms;
-            left_numbers = rw (filter-below, passes, append-nil, same_lefts) so_far.left_numbers;
-            right_numbers = rw (filter-below, passes, append-nil, same_rights) so_far.right_numbers;
-          }
+    -- one that does not pass is left out
+    pub visited_skip : p atom ≡ false → Visited p f g (atom + 1) gathered
+    visited_skip passes =
+        record {
+          how_many = rw (filter-below, passes, append-nil) so_far.how_many;
+          few = omega (arith, so_far.few);
+          the_atoms = rw (filter-below, passes, append-nil) so_far.the_atoms;
+          left_numbers = rw (filter-below, passes, append-nil) so_far.left_numbers;
+          right_numbers = rw (filter-below, passes, append-nil) so_far.right_numbers;
+        }
 
 -- by the tables: whether an atom is one of the kind, and by how much one count exceeds the other
 abbrev pub is_counted : AtomKind → AtomCounts → ℕ → Bool
@@ -134,8 +115,7 @@ module _ {M : Mode} {L R : List ℕ} {counts : AtomCounts} (counted : CountsOf M
 -- once all atoms are visited, those of the kind are gathered
 pub visited_gathers : (kind : AtomKind) (counts : AtomCounts) (gathered : Gathered)
     → Visited (is_counted kind counts) (exceeds counts.left counts.right)
-    (exceeds counts.right counts.left) 128
-    gathered.count gathered.atoms gathered.left gathered.right
+    (exceeds counts.right counts.left) 128 gathered
     → Gathers kind counts gathered
 visited_gathers kind counts gathered visited M L R counted =
     subst (λ (found : List ℕ). HeldIfRoom L R found gathered) (counted_all counted kind)
@@ -154,10 +134,3 @@ visited_gathers kind counts gathered visited M L R counted =
     numbers : {f g : ℕ → ℕ} → f ≡ g → padded (map f (filter (is_counted kind counts) atoms))
         ≡ padded (map g (filter (is_counted kind counts) atoms))
     numbers same = ap (λ (h : ℕ → ℕ). padded (map h (filter (is_counted kind counts) atoms))) same
-
--- an atom that stands on a side occurs
-pub occurs-left : (left right : ℕ) → 0 < left → ltb 0 left ≡ ltb 0 (left + right)
-occurs-left left right some = lt-ltb 0 left some ∙ sym (lt-ltb 0 (left + right) (omega arith))
-
-pub occurs-right : (left right : ℕ) → left ≤ 0 → ltb 0 right ≡ ltb 0 (left + right)
-occurs-right left right none = ap (ltb 0) {x = right} {y = left + right} (omega arith)

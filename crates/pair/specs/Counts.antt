@@ -1,6 +1,6 @@
 -- What is counted of two sides: "for an atom, its net count is its occurrences on the left minus those on the
 -- right" (document 01, "From sides to equations"). Each table has a place for each atom.
-use Rattle.std.specs.Prelude.{ℕ, ◌≡◌, Bool, true, false, List, ltb, length, get_or}
+use Rattle.std.specs.Prelude.{ℕ, ◌≡◌, Bool, true, false, List, ltb, length, get_or, Option, Some, None}
 use Rattle.ac.specs.Pair.{Mode, atoms, count}
 use Rattle.ac.specs.Limits.{limits}
 use Rattle.numbers.specs.Tells.{Tells}
@@ -9,8 +9,6 @@ use Rattle.pair.specs.Ways.{mode_of}
 use Rattle.pair.specs.declared.ways.Way.{Way}
 use Rattle.pair.specs.declared.ways.Way.TheVariants.{Unifying, Matching, Identity}
 use Rattle.pair.specs.declared.counting.AtomCounts.{AtomCounts}
-use Rattle.pair.specs.declared.limits.NetCounts.{NetCounts}
-use Rattle.pair.specs.declared.limits.NetCounts.TheVariants.{Far, Near}
 
 -- the table has the occurrences of each atom on the side
 pub record Occurrences (side table : List ℕ) : Type 0 where
@@ -39,10 +37,10 @@ pub record CountsOf (M : Mode) (L R : List ℕ) (counts : AtomCounts) : Type 0 w
   pub on_right : Occurrences R counts.right
 
 -- it is the lowest atom whose net count is further than 8 from 0, or number 10 is not given
-pub data SettlesTen (M : Mode) (L R : List ℕ) : NetCounts → Type 0 where
-  a_far_one : {atom : ℕ} → LowestFar limits L R atom → SettlesTen M L R (Far atom)
-  all_near : (PairGiven limits M L R 10 → ⊥) → SettlesTen M L R Near
+pub data SettlesTen (M : Mode) (L R : List ℕ) : Option ℕ → Type 0 where
+  a_far_one : {atom : ℕ} → LowestFar limits L R atom → SettlesTen M L R (Some atom)
+  all_near : (PairGiven limits M L R 10 → ⊥) → SettlesTen M L R None
 
 -- so it is of the sides whose atoms were counted
-abbrev pub FindsFar : AtomCounts → NetCounts → Type 0
+abbrev pub FindsFar : AtomCounts → Option ℕ → Type 0
 FindsFar counts found = (M : Mode) (L R : List ℕ) → CountsOf M L R counts → SettlesTen M L R found

@@ -1,6 +1,6 @@
 -- The variables of a pair and its unbalanced constants as they are held (document 01, "From sides to
 -- equations"): in ascending order, each with its net count in two parts.
-use Rattle.std.specs.Prelude.{ℕ, ◌+◌, ◌-◌, ◌≤◌, ◌≡◌, Bool, not, ◌&&◌, List, ◌++◌, map, length, replicate, ltb, eqb}
+use Rattle.std.specs.Prelude.{ℕ, ◌+◌, ◌-◌, ◌≤◌, ◌<◌, ◌≡◌, Bool, not, ◌&&◌, List, ◌++◌, map, length, replicate, set, ltb, eqb}
 use Rattle.ac.specs.Limits.{limits}
 use Rattle.ac.specs.Pair.{Mode, count, variables, unbalanced}
 use Rattle.pair.specs.Counts.{CountsOf}
@@ -40,6 +40,14 @@ is_of Constant moves left right = not moves && not (eqb left right)
 abbrev pub all_of : AtomKind → Mode → List ℕ → List ℕ → List ℕ
 all_of Variable M L R = variables M L R
 all_of Constant M L R = unbalanced M L R
+
+-- One atom more is counted. Where there is room, it is held behind those before it, with by how much its count on one
+-- side exceeds that on the other.
+pub record Adds (atom on_left on_right : ℕ) (before after : Gathered) : Type 0 where
+  pub how_many : after.count ≡ before.count + 1
+  pub the_atom : before.count < limits.variables → after.atoms ≡ set before.atoms before.count atom
+  pub left_part : before.count < limits.variables → after.left ≡ set before.left before.count (on_left - on_right)
+  pub right_part : before.count < limits.variables → after.right ≡ set before.right before.count (on_right - on_left)
 
 -- the atoms of the kind are gathered of the sides whose atoms were counted
 abbrev pub Gathers : AtomKind → AtomCounts → Gathered → Type 0

@@ -1,11 +1,10 @@
 // The variables of a pair, or its unbalanced constants, gathered from what was counted of it.
-ghost use Rattle.std.specs.Prelude.{◌≡◌, ◌-◌, ◌<◌, set};
-ghost use Rattle.ac.specs.Limits.{limits};
-ghost use Rattle.pair.specs.Gathered.{is_of, Gathers};
+ghost use Rattle.std.specs.Prelude.{◌≡◌, ◌<◌};
+ghost use Rattle.pair.specs.Gathered.{is_of, Adds, Gathers};
 
 use crate::Gathered;
-use crate::counting::{ATOMS, AtomCounts};
-use numbers::limits::VARIABLES;
+use crate::counting::AtomCounts;
+use numbers::limits::{HIGHEST_ATOM, VARIABLES};
 
 // Which atoms are gathered: the variables of a pair, or its unbalanced constants.
 #[derive(Clone, Copy)]
@@ -14,29 +13,31 @@ pub enum AtomKind {
     Constant,
 }
 
-// Whether an atom is one of the kind, from whether it moves and how often it stands on the left and on the right.
-fn is_of(kind: AtomKind, moves: bool, left: u8, right: u8) -> bool
-    ensures { result ≡ is_of kind moves left right }
-{
-    match kind {
-        AtomKind::Variable => moves && (0 < left || 0 < right),
-        AtomKind::Constant => !moves && left != right,
+impl AtomKind {
+    // Whether an atom is one of the kind, from whether it moves and how often it stands on the left and on the right.
+    fn has(self, moves: bool, left: u8, right: u8) -> bool
+        ensures { result ≡ is_of self moves left right }
+    {
+        match self {
+            AtomKind::Variable => moves && (0 < left || 0 < right),
+            AtomKind::Constant => !moves && left != right,
+        }
     }
 }
 
-// By how much `a` exceeds `b`, or 0.
-fn excess(a: u8, b: u8) -> u8
-    ensures { result ≡ a - b }
-{
-    if b < a { a - b } else { 0 }
-}
-
-// Stores the byte at its place, where there is room.
-fn put(list: &mut [u8; VARIABLES], place: usize, byte: u8)
-    ensures { place < limits.variables → list.new ≡ set list.old place byte }
-{
-    if place < VARIABLES {
-        list[place] = byte;
+impl Gathered {
+    // One atom more, with the two parts of its net count, from how often it stands on the left and on the right. Where
+    // there is no room, it is only counted.
+    fn add(&mut self, atom: u8, left: u8, right: u8)
+        requires { self.old.count < 128 }
+        ensures { Adds atom left right self.old self.new }
+    {
+        if self.count < VARIABLES {
+            self.atoms[self.count] = atom;
+            self.left[self.count] = left.saturating_sub(right);
+            self.right[self.count] = right.saturating_sub(left);
+        }
+        self.count += 1;
     }
 }
 
@@ -45,26 +46,19 @@ fn put(list: &mut [u8; VARIABLES], place: usize, byte: u8)
 pub fn gather(kind: AtomKind, counts: AtomCounts) -> Gathered
     ensures { Gathers kind counts result }
 {
-    let mut atoms = [0u8; VARIABLES];
-    let mut lefts = [0u8; VARIABLES];
-    let mut rights = [0u8; VARIABLES];
-    let mut count = 0;
-    let mut atom = 0;
-    while atom < ATOMS {
-        let left = counts.left[atom];
-        let right = counts.right[atom];
-        if is_of(kind, counts.moving[atom], left, right) {
-            put(&mut atoms, count, atom as u8);
-            put(&mut lefts, count, excess(left, right));
-            put(&mut rights, count, excess(right, left));
-            count += 1;
+    let mut gathered = Gathered {
+        atoms: [0; VARIABLES],
+        count: 0,
+        left: [0; VARIABLES],
+        right: [0; VARIABLES],
+    };
+    for atom in 0..=HIGHEST_ATOM {
+        let place = usize::from(atom);
+        let left = counts.left[place];
+        let right = counts.right[place];
+        if kind.has(counts.moving[place], left, right) {
+            gathered.add(atom, left, right);
         }
-        atom += 1;
     }
-    Gathered {
-        atoms: atoms,
-        count: count,
-        left: lefts,
-        right: rights,
-    }
+    gathered
 }

@@ -1,7 +1,5 @@
 -- A line worked out: `v0+(2v31) =v7 #` is the pair of v0, v31, v31 and v39.
-use Prim.Native.Nat.{ℕ, ◌<◌}
-use mathlib.Core.List.{List, [], ◌∷◌}
-use native.Mathlib.Omega.{arith}
+use Rattle.std.proofs.Common.{ℕ, ◌<◌, List, [], ◌∷◌, arith}
 use Rattle.pattern.specs.Characters.{plus_sign, closing_bracket, zero_digit, Digit, space, Stops, at_other}
 use Rattle.pattern.specs.Word.{one_digit, two_digits, once, often, spells, Word, variable}
 use Rattle.pattern.specs.Side.{blank, opening, word, plus, closing, done, next, Side}

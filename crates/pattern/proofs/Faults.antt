@@ -1,16 +1,10 @@
 -- Where a fault is told there is no side.
-use Prim.Native.Nat.{ℕ, ◌+◌, ◌≤◌, ◌<◌}
-use mathlib.Core.Path.{◌≡◌, refl, ap, sym, ◌∙◌}
-use mathlib.Core.Logic.{◌⊎◌, inl, inr}
-use mathlib.Core.List.{List, [], ◌∷◌, ◌++◌}
-use native.Mathlib.Omega.{arith}
-use lib.ListN.{length, length-append}
+use Rattle.std.proofs.Common.{ℕ, ◌+◌, ◌≤◌, ◌<◌, ◌≡◌, refl, ap, sym, ◌∙◌, ◌⊎◌, inl, inr, List, [], ◌∷◌, ◌++◌, arith, length, length-append}
 use Rattle.pattern.specs.Characters.{plus_sign, opening_bracket, closing_bracket, zero_digit, Blank}
 use Rattle.pattern.specs.Word.{Word, Unwritable}
 use Rattle.pattern.specs.Side.{Place, before_item, after_item, Token, blank, opening, word, plus, closing, Reads, Side}
 use Rattle.pattern.specs.Fault.{OfWord, Front, NoWord, Stuck, SideFault}
 use Rattle.pattern.specs.declared.Fault.{Fault}
-use Rattle.pattern.proofs.Apart.{apart}
 use Rattle.pattern.proofs.Words.{word_once, word_is_writable, word_first, unwritable_first}
 use Rattle.pattern.proofs.Readings.{blank_low, Onward, Over, onward, read_nothing, reads_rest}
 
@@ -46,7 +40,7 @@ item_comes {depth} {bytes} {atoms} r = go (onward r)
   where
     go : Over depth before_item bytes atoms 0 after_item [] ⊎ Onward depth before_item bytes atoms 0 after_item []
         → Item bytes atoms
-    go (inl over) = apart (cc over.same_place)
+    go (inl over) = cc over.same_place
     go (inr on) = token_item on.first on.splits
         (omega (arith, ap length on.atoms_are, length-append on.first_atoms on.further))
 
@@ -57,7 +51,7 @@ behind_comes {depth} {b} {bytes} {atoms} r = go (onward r)
     go : Over depth after_item (b ∷ bytes) atoms 0 after_item [] ⊎ Onward depth after_item
         (b ∷ bytes) atoms 0 after_item []
         → Behind depth (b ∷ bytes)
-    go (inl over) = apart (cc over.same_bytes)
+    go (inl over) = cc over.same_bytes
     go (inr on) = token_behind on.first on.splits
 
 -- no item begins with a plus or a closing bracket
@@ -113,8 +107,8 @@ word_item front w (Item.a_word front' w' e) =
 -- Where reading is stuck the rest of a side cannot follow.
 stuck_ends : {depth : ℕ} {place : Place} {atoms further rest : List ℕ} {why : Fault} → Stuck depth place atoms rest why
     → Reads depth place rest further 0 after_item [] → length atoms + length further ≤ 64 → ⊥
-stuck_ends Stuck.empty_side r few = apart (cc (read_nothing r).same_place)
-stuck_ends (Stuck.nothing_follows some) r few = apart (cc (read_nothing r).same_place)
+stuck_ends Stuck.empty_side r few = cc (read_nothing r).same_place
+stuck_ends (Stuck.nothing_follows some) r few = cc (read_nothing r).same_place
 stuck_ends Stuck.plus_first r few = no_item (omega arith) (omega arith) (item_comes r)
 stuck_ends Stuck.closing_first r few = no_item (omega arith) (omega arith) (item_comes r)
 stuck_ends Stuck.opening_after r few = opening_not_behind (behind_comes r)

@@ -1,5 +1,3 @@
-mod Apart
-pub mod Decided
 pub mod Spans
 pub mod Words
 pub mod Turns
@@ -7,7 +5,6 @@ pub mod Readings
 pub mod Faults
 pub mod Reached
 pub mod Lines
-pub mod Places
 pub mod Sides
 pub mod Writable
 pub mod Example

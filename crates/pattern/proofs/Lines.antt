@@ -1,11 +1,8 @@
 -- Lines: a line is a pair in one way, a pair says something, and a line that a fault is told of is neither a pair nor
 -- empty.
-use Prim.Native.Nat.{ℕ, ◌+◌, ◌≤◌, ◌<◌}
-use mathlib.Core.Path.{◌≡◌, refl, ap, sym, subst}
-use mathlib.Core.List.{List, ◌∷◌, ◌++◌, map}
-use native.Mathlib.Omega.{arith}
-use lib.ListN.{length, drop, length-append, length-map}
+use Rattle.std.proofs.Common.{ℕ, ◌+◌, ◌≤◌, ◌<◌, ◌≡◌, refl, ap, sym, subst, List, ◌∷◌, ◌++◌, map, arith, length, drop, length-append, Option, Some, Result, Ok, Err}
 use Rattle.ac.specs.Apart.{renamed_apart}
+use Rattle.ac.specs.Lists.{receives}
 use Rattle.pattern.specs.Characters.{plus_sign, opening_bracket, closing_bracket, equals_sign, remark_sign, Digit, Blank, space, tab, carriage_return, Inside, Each, none, one_more, Stops, at_end, at_other}
 use Rattle.pattern.specs.Word.{Spells, spells, Word, variable, constant}
 use Rattle.pattern.specs.Side.{Place, Token, blank, opening, word, plus, closing, Reads, done, next, Side}
@@ -13,9 +10,8 @@ use Rattle.pattern.specs.Line.{Remark, no_remark, remark, PairLine, pair, SaysNo
 use Rattle.pattern.specs.Fault.{LineFault, no_equals, second_equals, left_side, right_side}
 use Rattle.pattern.specs.Answer.{LineSays, wrong}
 use Rattle.pattern.specs.declared.Fault.{Fault}
-use Rattle.pattern.specs.declared.LineAnswer.{LineAnswer}
-use Rattle.pattern.specs.declared.LineAnswer.TheVariants as answer
-use Rattle.pattern.proofs.Apart.{apart}
+use Rattle.block.specs.declared.Sides.{Sides}
+use Rattle.pattern.specs.declared.Wrong.{Wrong}
 use Rattle.pattern.proofs.Spans.{each_append, each_map, span_unique}
 use Rattle.pattern.proofs.Words.{each_number, each_multiple}
 use Rattle.pattern.proofs.Readings.{side_unique}
@@ -77,7 +73,7 @@ remark_stops remark = at_other (λ inside. inside.no_remark refl)
 
 -- a remark does not begin with `=`
 remark_no_equals : {rest more : List ℕ} {A : Type 0} → Remark rest → rest ≡ equals_sign ∷ more → A
-remark_no_equals no_remark e = apart (cc e)
+remark_no_equals no_remark e = cc e
 remark_no_equals remark e = absurd (let same : remark_sign ≡ equals_sign = cc e in omega arith)
 
 -- A line is cut at its `=` in one way only, ..
@@ -185,20 +181,16 @@ column_within (right_side {first} {second} {rest} f j said fault) =
 
 -- That is what is promised of a wrong line.
 pub line_wrong : {line left right : List ℕ} {column : ℕ} {why : Fault} → LineFault line column why
-    → LineSays line left right (answer.Wrong column why) left right
+    → LineSays line left right (Err (record { column = column; why = why })) left right
 line_wrong f = wrong f (λ L R. fault_is_no_pair f) (fault_says_something f) (column_within f).0 (column_within f).1
 
--- The sides of a pair have at most 64 atoms.
-pub pair_short : {line left right : List ℕ} → PairLine line left right → (length left ≤ 64) × (length right ≤ 64)
-pair_short (pair {right = right} s t said) = (s.at_most, omega (arith, t.at_most, length-map right renamed_apart))
-
--- Those that a line was read to stand in the buffers.
-pub sides_stand : {line left right left' right' : List ℕ} {a : LineAnswer} {n m : ℕ}
+-- The sides that a line was read to stand in the buffers.
+pub sides_stand : {line left right left' right' : List ℕ} {a : Result (Option Sides) Wrong} {sides : Sides}
     → LineSays line left right a left' right'
-    → a ≡ answer.Sides n m → (n ≤ length left') × (m ≤ length right')
-sides_stand {left = left} {right = right} {n = n} {m} (LineSays.a_pair {L} {R} p) e =
-    let same_left : length L ≡ n = cc e in
-    let same_right : length R ≡ m = cc e in
-    omega (arith, length-append L (drop (length L) left), length-append R (drop (length R) right))
-sides_stand (LineSays.nothing says) e = apart (cc e)
-sides_stand (wrong fault none_is some low high) e = apart (cc e)
+    → a ≡ Ok (Some sides) → (sides.left ≤ length left') × (sides.right ≤ length right')
+sides_stand {left = left} {right = right} {sides = sides} (LineSays.a_pair {L} {R} p) e =
+    let same : record { left = length L; right = length R } ≡ sides = cc e in
+    subst (λ (s : Sides). (s.left ≤ length (receives left L)) × (s.right ≤ length (receives right R))) same
+    (omega (arith, length-append L (drop (length L) left), length-append R (drop (length R) right)))
+sides_stand (LineSays.nothing says) e = cc e
+sides_stand (wrong fault none_is some low high) e = cc e

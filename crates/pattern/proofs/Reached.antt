@@ -1,52 +1,43 @@
 -- How far a side has been read: one token more, why there is none, and the end.
-use Prim.Native.Nat.{ℕ, suc, ◌+◌, ◌-◌, ◌≤◌, ◌<◌}
-use mathlib.Core.Path.{◌≡◌, ap, sym, subst, ◌∙◌}
-use mathlib.Core.Bool.{Bool, true, false}
-use mathlib.Core.List.{List, [], ◌∷◌, ◌++◌, append-nil}
-use native.Mathlib.Numerals.{add-one}
-use native.Mathlib.Omega.{arith}
-use lib.ListN.{length, get_or, take, drop, replicate, length-append, length-take, length-drop, length-replicate, drop_of_length-le}
-use lib.Seq.{length-take-le, take_at, drop_at, drop-drop, drop-cons}
+use Rattle.std.proofs.Common.{ℕ, suc, ◌+◌, ◌-◌, ◌≤◌, ◌<◌, ◌≡◌, refl, ap, sym, subst, ◌∙◌, Bool, true, false, List, [], ◌∷◌, ◌++◌, append-nil, arith, length, get_or, take, drop, replicate, length-append, length-take, length-drop, drop_of_length-le, length-take-le, take_at, drop_at, drop-drop, Result, Ok, Err, MatchResult, IsErrAnd}
+use Rattle.std.proofs.lemmas.List.{drop_more}
+use lib.ListN.{length-replicate}
 use Rattle.buffer.specs.Put.{Put}
 use Rattle.buffer.proofs.Puts.{put-length, put_pasted}
 use Rattle.pattern.specs.Word.{Word}
 use Rattle.pattern.specs.Side.{before_item, after_item, word, Reads, done, Side}
 use Rattle.pattern.specs.Fault.{OfWord, Front, Stuck, empty_side, nothing_follows, not_closed, no_atom, not_written, too_many, SideFault}
-use Rattle.pattern.specs.Inner.{Scans, a_word, unwritable, no_word, place_of, Leads, Reached, Goes, goes_on, is_wrong, ReadsSide, a_side}
+use Rattle.pattern.specs.Inner.{Scans, a_word, unwritable, no_word, place_of, Leads, Reached, Goes, goes_on, is_wrong, Finishes, a_side, ReadsSide}
 use Rattle.pattern.specs.declared.Fault.{Fault}
 use Rattle.pattern.specs.declared.Fault.TheVariants as fault
-use Rattle.pattern.specs.declared.word.Scanned.{Scanned}
-use Rattle.pattern.specs.declared.word.Scanned.TheVariants as scanned
+use Rattle.pattern.specs.declared.word.Word as read
+use Rattle.std.proofs.lemmas.Result.{err_from_is_err_and}
+use Rattle.pattern.specs.declared.Wrong.{Wrong}
 use Rattle.pattern.specs.declared.side.Reading.{Reading}
-use Rattle.pattern.specs.declared.side.Step.{Step}
-use Rattle.pattern.specs.declared.side.Step.TheVariants as step
-use Rattle.pattern.specs.declared.side.SideAnswer.TheVariants as answer
-use Rattle.pattern.proofs.Apart.{apart}
 use Rattle.pattern.proofs.Words.{word_some}
 use Rattle.pattern.proofs.Readings.{reads_then, reads_one}
 
 -- the word at the front, where one was found
-pub record WordFound (bytes : List ℕ) (times atom size : ℕ) : Type 0 where
+pub record WordFound (bytes : List ℕ) (w : read.Word) : Type 0 where
   pub token : List ℕ
   pub more : List ℕ
   pub front : Front bytes token more
-  pub is_word : Word token (replicate times atom)
-  pub size_is : size ≡ length token
+  pub is_word : Word token (replicate w.times w.atom)
+  pub size_is : w.length ≡ length token
 
-pub when_word : {bytes : List ℕ} {s : Scanned} {times atom size : ℕ} → Scans bytes s → s ≡ scanned.Word times atom size
-    → WordFound bytes times atom size
-when_word {times = times} {atom} (a_word {times = t} {atom = a} {word = w} {more = m} front is) e =
-    let same_times : t ≡ times = cc e in
-    let same_atom : a ≡ atom = cc e in
-    record { token = w; more = m; front = front; is_word = rw (← same_times, ← same_atom) is; size_is = cc e }
-when_word (unwritable front u) e = apart (cc e)
-when_word (no_word none_is) e = apart (cc e)
+pub when_word : {bytes : List ℕ} {s : Result read.Word Fault} {w : read.Word} → Scans bytes s → s ≡ Ok w
+    → WordFound bytes w
+when_word {bytes} {w = w} (a_word {times = t} {atom = a} {word = token} {more = more} front is) e =
+    subst (WordFound bytes) (let same : record { times = t; atom = a; length = length token } ≡ w = cc e in same)
+    (record { token = token; more = more; front = front; is_word = is; size_is = refl })
+when_word (unwritable front u) e = cc e
+when_word (no_word none_is) e = cc e
 
 -- reading is stuck where none was
-pub when_wrong : {b depth : ℕ} {more : List ℕ} {s : Scanned} {why : Fault} → OfWord b → Scans (b ∷ more) s
-    → s ≡ scanned.Wrong why
+pub when_wrong : {b depth : ℕ} {more : List ℕ} {s : Result read.Word Fault} {why : Fault} → OfWord b → Scans (b ∷ more) s
+    → s ≡ Err why
     → (atoms : List ℕ) → Stuck depth before_item atoms (b ∷ more) why
-when_wrong of (a_word front is) e = apart (cc e)
+when_wrong of (a_word front is) e = cc e
 when_wrong {why = why} of (unwritable front u) e =
     let same : fault.NotWritten ≡ why = cc e in λ atoms. rw (← same) (not_written front u)
 when_wrong {why = why} of (no_word none_is) e =
@@ -70,8 +61,7 @@ module _ {bytes atoms : List ℕ} {r : Reading} (reached : Reached bytes r atoms
   module _ (more : r.at < length bytes) where
     -- the byte at the place stands first in what is left
     first_left : drop r.at bytes ≡ get_or bytes r.at 0 ∷ drop (r.at + 1) bytes
-    first_left = drop-cons bytes r.at 0 more
-        ∙ ap (λ (n : ℕ). get_or bytes r.at 0 ∷ drop n bytes) (sym (add-one r.at))
+    first_left = drop_more bytes r.at 0 more
 
     -- it is stuck there
     pub byte_fault : {why : Fault}
@@ -95,23 +85,23 @@ module _ {bytes atoms : List ℕ} {r : Reading} (reached : Reached bytes r atoms
         }
 
     pub byte_goes : {depth : ℕ} {ended : Bool} → Leads (get_or bytes r.at 0) r.depth r.ended depth ended
-        → Goes bytes r.at (step.On (record { at = r.at + 1; depth = depth; ended = ended; count = r.count })) atoms
+        → Goes bytes r.at (Ok (record { at = r.at + 1; depth = depth; ended = ended; count = r.count })) atoms
     byte_goes leads = goes_on (let on : r.at < r.at + 1 = omega arith in on) (byte_more leads)
 
     -- no word stands there
-    pub word_fault : {s : Scanned} {why : Fault} → r.ended ≡ false → OfWord (get_or bytes r.at 0)
-        → Scans (drop r.at bytes) s → s ≡ scanned.Wrong why → SideFault bytes r.at why
+    pub word_fault : {s : Result read.Word Fault} {why : Fault} → r.ended ≡ false → OfWord (get_or bytes r.at 0)
+        → Scans (drop r.at bytes) s → s ≡ Err why → SideFault bytes r.at why
     word_fault before of scans e =
         stuck_fault (rw (before, first_left) (when_wrong of (rw first_left at scans) e (take r.count atoms)))
 
-    module _ {times atom size : ℕ} (found : WordFound (drop r.at bytes) times atom size)
+    module _ {w : read.Word} (found : WordFound (drop r.at bytes) w)
         (before : r.ended ≡ false) where
       -- an item must come here
       due : place_of r.ended ≡ before_item
       due = ap place_of before
 
       -- its bytes are among those left
-      pub word_within : r.at + size ≤ length bytes
+      pub word_within : r.at + w.length ≤ length bytes
       word_within =
           omega (
             arith,
@@ -122,44 +112,44 @@ module _ {bytes atoms : List ℕ} {r : Reading} (reached : Reached bytes r atoms
           )
 
       -- the word stands for too many atoms
-      pub word_too_many : 64 - r.count < times → SideFault bytes r.at fault.TooManyAtoms
+      pub word_too_many : 64 - r.count < w.times → SideFault bytes r.at fault.TooManyAtoms
       word_too_many many =
-          let over : 64 < length (take r.count atoms) + length (replicate times atom) =
+          let over : 64 < length (take r.count atoms) + length (replicate w.times w.atom) =
           omega (
             arith,
-            length-replicate times atom,
+            length-replicate w.times w.atom,
             length-take-le r.count atoms (omega (arith, reached.few_atoms, reached.room)),
             reached.few_atoms,
           ) in
           stuck_fault (rw due (too_many found.front found.is_word over))
 
       -- what is left behind it
-      left_behind : drop (r.at + size) bytes ≡ found.more
+      left_behind : drop (r.at + w.length) bytes ≡ found.more
       left_behind =
-          sym (drop-drop size r.at bytes) ∙ ap (drop size) found.front.splits
-          ∙ drop_at found.token found.more size (sym found.size_is)
+          sym (drop-drop w.length r.at bytes) ∙ ap (drop w.length) found.front.splits
+          ∙ drop_at found.token found.more w.length (sym found.size_is)
 
-      module _ {after : List ℕ} {end : ℕ} (put : Put atoms r.count (replicate times atom) end after)
-          (few : r.count + times ≤ 64)
+      module _ {after : List ℕ} {end : ℕ} (put : Put atoms r.count (replicate w.times w.atom) end after)
+          (few : r.count + w.times ≤ 64)
         where
           -- the atoms so far, and the word's
-          atoms_so_far : take (r.count + times) after ≡ take r.count atoms ++ replicate times atom
+          atoms_so_far : take (r.count + w.times) after ≡ take r.count atoms ++ replicate w.times w.atom
           atoms_so_far =
-              let many = length-replicate times atom in
+              let many = length-replicate w.times w.atom in
               let front = length-take-le r.count atoms (omega (arith, reached.few_atoms, reached.room)) in
-              ap (take (r.count + times))
+              ap (take (r.count + w.times))
               (put_pasted put (omega (arith, many, reached.room)))
-              ∙ take_at (take r.count atoms ++ replicate times atom)
-              (drop (r.count + length (replicate times atom)) atoms)
-              (r.count + times)
-              (length-append (take r.count atoms) (replicate times atom) ∙ cc (front, many))
+              ∙ take_at (take r.count atoms ++ replicate w.times w.atom)
+              (drop (r.count + length (replicate w.times w.atom)) atoms)
+              (r.count + w.times)
+              (length-append (take r.count atoms) (replicate w.times w.atom) ∙ cc (front, many))
 
           word_more : Reached bytes
-              (record { at = r.at + size; depth = r.depth; ended = true; count = r.count + times }) after
+              (record { at = r.at + w.length; depth = r.depth; ended = true; count = r.count + w.times }) after
           word_more =
-              let one : Reads r.depth (place_of r.ended) (drop r.at bytes) (replicate times atom)
+              let one : Reads r.depth (place_of r.ended) (drop r.at bytes) (replicate w.times w.atom)
               r.depth after_item
-              (drop (r.at + size) bytes) =
+              (drop (r.at + w.length) bytes) =
               rw (found.front.splits, due, left_behind) (reads_one (word found.is_word found.front.stops)) in
               record {
                 reads = rw atoms_so_far (reads_then reached.reads one);
@@ -170,10 +160,11 @@ module _ {bytes atoms : List ℕ} {r : Reading} (reached : Reached bytes r atoms
               }
 
           pub word_goes : Goes bytes r.at
-              (step.On (record { at = r.at + size; depth = r.depth; ended = true; count = r.count + times })) after
+              (Ok (record { at = r.at + w.length; depth = r.depth; ended = true; count = end })) after
           word_goes =
-              let on : r.at < r.at + size = omega (arith, found.size_is, word_some found.is_word) in
-              goes_on on word_more
+              let on : r.at < r.at + w.length = omega (arith, found.size_is, word_some found.is_word) in
+              let all : end ≡ r.count + w.times = omega (arith, put.place, length-replicate w.times w.atom) in
+              rw all (goes_on on word_more)
 
   module _ (all : length bytes ≤ r.at) where
     -- nothing is left
@@ -181,13 +172,10 @@ module _ {bytes atoms : List ℕ} {r : Reading} (reached : Reached bytes r atoms
     nothing_left = drop_of_length-le bytes all
 
     -- an item is missing: in a side of blanks alone, or after something
-    pub empty_fault : r.ended ≡ false → r.depth + r.count ≡ 0 → SideFault bytes r.at fault.EmptySide
-    empty_fault before none_read =
-        let none_open : r.depth ≡ 0 = omega arith in
-        let no_atoms : r.count ≡ 0 = omega arith in
-        stuck_fault (rw (before, none_open, no_atoms, nothing_left) empty_side)
+    pub empty_fault : r.ended ≡ false → (r.depth ≡ 0) × (r.count ≡ 0) → SideFault bytes r.at fault.EmptySide
+    empty_fault before none_read = stuck_fault (rw (before, none_read.0, none_read.1, nothing_left) empty_side)
 
-    pub item_fault : r.ended ≡ false → (r.depth + r.count ≡ 0 → ⊥) → SideFault bytes r.at fault.ItemMissing
+    pub item_fault : r.ended ≡ false → 0 < r.depth + r.count → SideFault bytes r.at fault.ItemMissing
     item_fault before some_read =
         let some : 0 < r.depth + length (take r.count atoms) =
         omega (arith, some_read, length-take-le r.count atoms (omega (arith, reached.few_atoms, reached.room))) in
@@ -206,7 +194,7 @@ module _ {bytes atoms : List ℕ} {r : Reading} (reached : Reached bytes r atoms
       at_most = omega (arith, length-take r.count atoms, reached.few_atoms);
     }
 
-    pub side_read : r.ended ≡ true → r.depth ≡ 0 → ReadsSide bytes (answer.Atoms r.count) atoms
+    pub side_read : r.ended ≡ true → r.depth ≡ 0 → Finishes bytes r.at (Ok r.count) atoms
     side_read after none_open =
         let has_room : r.count ≤ length atoms = omega (arith, reached.few_atoms, reached.room) in
         a_side has_room (whole_side after none_open)
@@ -222,17 +210,30 @@ nothing_read bytes room = record {
   room = room;
 }
 
--- what a step tells
-pub when_on : {bytes atoms : List ℕ} {from : ℕ} {s : Step} {r : Reading} → Goes bytes from s atoms → s ≡ step.On r
+-- where a step leads
+pub when_on : {bytes atoms : List ℕ} {from : ℕ} {s : Result Reading Fault} {r : Reading} → Goes bytes from s atoms → s ≡ Ok r
     → (from < r.at) × Reached bytes r atoms
 when_on {bytes} {atoms} {from} {r = r} (goes_on {r = r'} on reached) e =
     let same : r' ≡ r = cc e in
     (subst (λ x. from < x.at) same on, subst (λ x. Reached bytes x atoms) same reached)
-when_on (is_wrong fault) e = apart (cc e)
+when_on (is_wrong fault) e = cc e
 
-pub when_no_step : {bytes atoms : List ℕ} {from : ℕ} {s : Step} {why : Fault} → Goes bytes from s atoms
-    → s ≡ step.Wrong why
-    → SideFault bytes from why
-when_no_step (goes_on on reached) e = apart (cc e)
-when_no_step {bytes} {from = from} {why = why} (is_wrong {why = w} wrong) e =
-    subst (λ x. SideFault bytes from x) (let same : w ≡ why = cc e in same) wrong
+-- a side is wrong where no step goes on, at a column
+pub step_fails : {bytes atoms : List ℕ} {start from : ℕ} (r : Result Reading Fault) {m : Result Reading Wrong}
+    (P : Fault → Wrong → Type 0) {w : Wrong} → MatchResult r (λ y. m ≡ Ok y) (λ e. IsErrAnd m (P e))
+    → ((why : Fault) (w : Wrong) → P why w → w ≡ record { column = start + from + 1; why = why })
+    → m ≡ Err w → Goes bytes from r atoms → ReadsSide bytes start (Err w) atoms
+step_fails _ P known told e (goes_on on reached) = cc (e, known)
+step_fails _ {m} P {w} known told e (is_wrong fault) =
+    let p = err_from_is_err_and m known in
+    let same : w ≡ p.0 = cc (e, p.1) in
+    rw (same, told _ _ p.2) (ReadsSide.is_wrong fault)
+
+-- what a side is that was read to its end
+pub read_to_end : {bytes atoms : List ℕ} {start end : ℕ} (r : Result ℕ Fault) {m : Result ℕ Wrong}
+    (P : Fault → Wrong → Type 0) → MatchResult r (λ y. m ≡ Ok y) (λ e. IsErrAnd m (P e))
+    → ((why : Fault) (w : Wrong) → P why w → w ≡ record { column = start + end + 1; why = why })
+    → Finishes bytes end r atoms → ReadsSide bytes start m atoms
+read_to_end _ P known told (Finishes.a_side within is) = rw known (ReadsSide.a_side within is)
+read_to_end _ {m} P known told (Finishes.is_wrong fault) =
+    let p = err_from_is_err_and m known in rw (p.1, told _ _ p.2) (ReadsSide.is_wrong fault)

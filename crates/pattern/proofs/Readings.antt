@@ -1,10 +1,5 @@
 -- Sides read token by token: one token after another, and that bytes are read in one way only.
-use Prim.Native.Nat.{ℕ, ◌<◌}
-use mathlib.Core.Path.{◌≡◌, refl, ap, sym, subst, ◌∙◌}
-use mathlib.Core.Logic.{◌⊎◌, inl, inr}
-use mathlib.Core.List.{List, [], ◌∷◌, ◌++◌, append_assoc, append-nil}
-use native.Mathlib.Omega.{arith}
-use lib.ListN.{length, length-append}
+use Rattle.std.proofs.Common.{ℕ, ◌<◌, ◌≡◌, refl, ap, sym, subst, ◌∙◌, ◌⊎◌, inl, inr, List, [], ◌∷◌, ◌++◌, append_assoc, append-nil, arith, length, length-append}
 use Rattle.pattern.specs.Characters.{plus_sign, opening_bracket, closing_bracket, zero_digit, Digit, Blank, space, tab, carriage_return, Stops}
 use Rattle.pattern.specs.Word.{Word}
 use Rattle.pattern.specs.Side.{Place, Token, blank, opening, word, plus, closing, Reads, done, next, Side}

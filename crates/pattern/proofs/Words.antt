@@ -1,35 +1,25 @@
 -- Words: what some digits say, and that a word at the front of some bytes is the only one there.
-use Prim.Native.Nat.{ℕ, ◌+◌, ◌*◌, ◌-◌, ◌≤◌, ◌<◌}
-use mathlib.Core.Path.{◌≡◌, refl, ap, sym, subst, ◌∙◌}
-use mathlib.Core.Logic.{◌⊎◌, inl, inr, ⊎_elim}
-use mathlib.Core.List.{List, [], ◌∷◌, ◌++◌, append_assoc, append-nil}
-use native.Mathlib.Numerals.{add-one}
-use native.Mathlib.Omega.{arith}
+use Rattle.std.proofs.Common.{ℕ, ◌+◌, ◌*◌, ◌-◌, ◌≤◌, ◌<◌, ◌≡◌, refl, ap, ap₂, sym, subst, ◌∙◌, true, false, ◌⊎◌, inl, inr, ⊎_elim, List, [], ◌∷◌, ◌++◌, append_assoc, append-nil, arith, length, get_or, take, drop, replicate, length-append, take-append-drop, take_all, drop-cons, Option, Some, None, Result, Ok, Err}
 use borrow.Author.Rules.{part_to_end}
-use lib.ListN.{length, get_or, take, drop, replicate, length-append, length-take, length-drop, take-append-drop}
-use lib.Seq.{take-length, split_at, drop-cons}
 use Rattle.pattern.specs.Characters.{variable_letter, constant_letter, zero_digit, Digit, worth, Each, none, one_more, Stops, at_end, at_other}
 use Rattle.pattern.specs.Word.{Number, one_digit, two_digits, Multiple, once, often, Spells, spells, Word, variable, constant, Unwritable, unwritable}
 use Rattle.pattern.specs.Fault.{Front, NoWord}
-use Rattle.pattern.specs.Inner.{Digits, Tells, tells, tells_none, Names, no_atom, Spelled, no_word, Scans}
+use Rattle.std.specs.Char.{is_ascii_digit}
+use Rattle.std.specs.List.{prefix_len}
+use Rattle.pattern.specs.Inner.{Tells, tells, tells_none, Names, no_atom, Spelled, no_word, Scans}
+use Rattle.pattern.specs.declared.Fault.{Fault}
 use Rattle.pattern.specs.declared.Fault.TheVariants as fault
-use Rattle.pattern.specs.declared.word.Scanned.{Scanned}
-use Rattle.pattern.specs.declared.word.Scanned.TheVariants as scanned
-use Rattle.pattern.specs.declared.word.Said.{Said}
-use Rattle.pattern.specs.declared.word.Said.TheVariants as said
-use Rattle.pattern.specs.declared.word.Named.{Named}
-use Rattle.pattern.specs.declared.word.Named.TheVariants as named
-use Rattle.pattern.proofs.Apart.{apart}
-use Rattle.pattern.proofs.Spans.{each_front, each_second, stops_front, span_unique}
+use Rattle.pattern.specs.declared.word.Word as read
+use Rattle.pattern.proofs.Spans.{each_front, each_second, each_prefix, stops_prefix, stops_front, span_unique}
 
 -- where digits say a number
-pub when_number : {Says : ℕ → Type 0} {s : Said} {n : ℕ} → Tells Says s → s ≡ said.Number n → Says n
+pub when_number : {Says : ℕ → Type 0} {s : Option ℕ} {n : ℕ} → Tells Says s → s ≡ Some n → Says n
 when_number {Says} {n = n} (tells {n = m} says) e = subst Says (let same : m ≡ n = cc e in same) says
-when_number (tells_none none_says) e = apart (cc e)
+when_number (tells_none none_says) e = cc e
 
 -- and where they say none
-pub when_none : {Says : ℕ → Type 0} {s : Said} → Tells Says s → s ≡ said.Nothing → (n : ℕ) → Says n → ⊥
-when_none (tells says) e = apart (cc e)
+pub when_none : {Says : ℕ → Type 0} {s : Option ℕ} → Tells Says s → s ≡ None → (n : ℕ) → Says n → ⊥
+when_none (tells says) e = cc e
 when_none (tells_none none_says) e = none_says
 
 -- one digit is a number
@@ -65,7 +55,7 @@ no_leading_zero some zero _ once = some refl
 no_leading_zero some zero _ (often other says) = other zero
 
 -- where the first digit is not 0, a multiple is a number
-pub often_says : (digits : List ℕ) {s : Said} → (length digits ≡ 0 → ⊥) → (get_or digits 0 0 ≡ zero_digit → ⊥)
+pub often_says : (digits : List ℕ) {s : Option ℕ} → (length digits ≡ 0 → ⊥) → (get_or digits 0 0 ≡ zero_digit → ⊥)
     → Tells (Number digits) s → Tells (Multiple digits) s
 often_says [] some other t = absurd (some refl)
 often_says (d ∷ digits) some other (tells says) = tells (often other says)
@@ -203,19 +193,19 @@ module _ {bytes multiple digits more : List ℕ} {letter : ℕ} (cut : Cut bytes
       )
 
   -- where that fails the bytes are no word
-  not_asked : (Asks multiple letter digits → ⊥) → Spelled whole (scanned.Wrong fault.NoAtom)
+  not_asked : (Asks multiple letter digits → ⊥) → Spelled whole (Err fault.NoAtom)
   not_asked fails = no_word (λ atoms w. fails (word_asks cut_front w).1) (λ u. fails (unwritable_asks cut_front u).1)
 
   -- since the digits before the letter are no multiple, or those behind it no number, or both name no atom
-  pub no_multiple : ((n : ℕ) → Multiple multiple n → ⊥) → Spelled whole (scanned.Wrong fault.NoAtom)
+  pub no_multiple : ((n : ℕ) → Multiple multiple n → ⊥) → Spelled whole (Err fault.NoAtom)
   no_multiple none_says = not_asked (λ asks. none_says asks.times asks.says_times)
 
-  pub no_number : ((n : ℕ) → Number digits n → ⊥) → Spelled whole (scanned.Wrong fault.NoAtom)
+  pub no_number : ((n : ℕ) → Number digits n → ⊥) → Spelled whole (Err fault.NoAtom)
   no_number none_says = not_asked (λ asks. none_says asks.number asks.says_number)
 
-  pub no_name : {number : ℕ} → Number digits number → Names letter number named.NoAtom
-      → Spelled whole (scanned.Wrong fault.NoAtom)
-  no_name {number} says (no_atom no_variable no_constant) = not_asked refuted
+  pub no_name : {number : ℕ} → Number digits number → (letter ≡ variable_letter → number < 64 → ⊥)
+      → (letter ≡ constant_letter → number < 64 → ⊥) → Spelled whole (Err fault.NoAtom)
+  no_name {number} says no_variable no_constant = not_asked refuted
     where
       refuted : Asks multiple letter digits → ⊥
       refuted asks =
@@ -224,7 +214,7 @@ module _ {bytes multiple digits more : List ℕ} {letter : ℕ} (cut : Cut bytes
           asks.a_letter
 
   -- What the bytes spell is what stands at the front of all of them.
-  pub scans_spelled : {r : Scanned} → Spelled whole r → Scans bytes r
+  pub scans_spelled : {r : Result read.Word Fault} → Spelled whole r → Scans bytes r
   scans_spelled (Spelled.a_word w) = Scans.a_word cut_front w
   scans_spelled (Spelled.unwritable u) = Scans.unwritable cut_front u
   scans_spelled (Spelled.no_word none_is none_is') = Scans.no_word (
@@ -338,11 +328,11 @@ whole_cut {multiple} {digits} {letter} before other behind =
 
 -- a multiple, a letter and a number that name an atom are a word
 pub names_atom :
-    {multiple digits : List ℕ} {letter times number atom : ℕ} {r : Named} →
+    {multiple digits : List ℕ} {letter times number atom : ℕ} {r : Result ℕ Fault} →
     Multiple multiple times →
     Number digits number →
     Names letter number r →
-    r ≡ named.Atom atom →
+    r ≡ Ok atom →
     Word (multiple ++ letter ∷ digits) (replicate times atom)
 names_atom {multiple} {digits} {letter} {times} {number} {atom} says says' (Names.variable is small) e =
     let same : number ≡ atom = cc e in
@@ -350,30 +340,35 @@ names_atom {multiple} {digits} {letter} {times} {number} {atom} says says' (Name
 names_atom {multiple} {digits} {letter} {times} {number} {atom} says says' (Names.constant is small) e =
     let same : 64 + number ≡ atom = cc e in
     rw (is, ← same) (Word.constant (spells says says') small)
-names_atom says says' (Names.unwritable is large small) e = apart (cc e)
-names_atom says says' (no_atom no_variable no_constant) e = apart (cc e)
+names_atom says says' (Names.unwritable is large small) e = cc e
+names_atom says says' (no_atom no_variable no_constant) e = cc e
 
 -- which has so many bytes
 pub spelled_word : (multiple : List ℕ) (letter : ℕ) (digits : List ℕ) {times times' atom : ℕ}
     → Word (multiple ++ letter ∷ digits) (replicate times atom) → times' ≡ times
-    → Spelled (multiple ++ letter ∷ digits) (scanned.Word times' atom (length multiple + 1 + length digits))
+    → Spelled (multiple ++ letter ∷ digits)
+    (Ok (record { times = times'; atom = atom; length = length multiple + 1 + length digits }))
 spelled_word multiple letter digits w same =
     let size : length multiple + 1 + length digits ≡ length (multiple ++ letter ∷ digits) =
     omega (arith, length-append multiple (letter ∷ digits)) in
     rw (same, size) (Spelled.a_word w)
 
--- or one that cannot be written
-pub names_unwritable :
-    {multiple digits : List ℕ} {letter times number : ℕ} {r : Named} →
+-- where they name none, the bytes are no word, or one that cannot be written
+pub names_none :
+    {bytes multiple digits more : List ℕ} {letter times number : ℕ} {r : Result ℕ Fault} {why : Fault} →
+    Cut bytes multiple letter digits more →
     Multiple multiple times →
     Number digits number →
     Names letter number r →
-    r ≡ named.NotWritten →
-    Unwritable (multiple ++ letter ∷ digits)
-names_unwritable says says' (Names.variable is small) e = apart (cc e)
-names_unwritable says says' (Names.constant is small) e = apart (cc e)
-names_unwritable says says' (Names.unwritable is large small) e = rw is (unwritable (spells says says') large small)
-names_unwritable says says' (no_atom no_variable no_constant) e = apart (cc e)
+    r ≡ Err why →
+    Spelled (multiple ++ letter ∷ digits) (Err why)
+names_none cut says says' (Names.variable is small) e = cc e
+names_none cut says says' (Names.constant is small) e = cc e
+names_none {why = why} cut says says' (Names.unwritable is large small) e =
+    let same : fault.NotWritten ≡ why = cc e in
+    rw (← same, is) (Spelled.unwritable (unwritable (spells says says') large small))
+names_none {why = why} cut says says' (no_atom no_variable no_constant) e =
+    let same : fault.NoAtom ≡ why = cc e in rw (← same) (no_name cut says' no_variable no_constant)
 
 -- digits alone are no word
 pub digits_alone : {bytes : List ℕ} → Each Digit bytes → NoWord bytes
@@ -394,50 +389,47 @@ digits_alone {bytes} each =
     in_unwritable : {word more : List ℕ} → Front bytes word more → Unwritable word → ⊥
     in_unwritable front (unwritable spelled large small) = spelled_not variable_letter_lem front spelled
 
+-- what the test of a digit tells
+digit_is : (b : ℕ) → is_ascii_digit b ≡ true → Digit b
+digit_is b e = grind arith
+
+no_digit_is : (b : ℕ) → is_ascii_digit b ≡ false → Digit b → ⊥
+no_digit_is b e digit = grind arith
+
 -- digits up to the end
-pub all_digits : (bytes : List ℕ) {m : ℕ} → Digits bytes m → m ≡ length bytes → Each Digit bytes
-all_digits bytes d e = rw (e, take-length) at d.each
+pub all_digits : (bytes : List ℕ) {m : ℕ} → m ≡ prefix_len is_ascii_digit bytes → length bytes ≤ m → Each Digit bytes
+all_digits bytes counted all =
+    rw (take_all (prefix_len is_ascii_digit bytes) bytes (omega (arith, counted))) at (each_prefix is_ascii_digit digit_is bytes)
 
--- the digits at the front, where a byte is left behind them, and all the digits behind that
+-- the digits at the front, the byte behind them, and all the digits behind that
 module _
-    (bytes : List ℕ) (m i : ℕ) (before : Digits bytes m) (more : m ≡ length bytes → ⊥)
-    (behind : Digits (take (length bytes - (m + 1)) (drop (m + 1) bytes)) i)
+    (bytes : List ℕ) {m n : ℕ} {multiple rest : List ℕ} (before : m ≡ prefix_len is_ascii_digit bytes)
+    (front : multiple ≡ take m bytes) (back : rest ≡ drop m bytes) (some : 1 ≤ length rest)
+    (behind : n ≡ prefix_len is_ascii_digit (take (length rest - 1) (drop 1 rest)))
   where
-    one_left : m < length bytes
-    one_left = omega (arith, before.within, more)
-
-    behind_all : Digits (drop (m + 1) bytes) i
-    behind_all = rw part_to_end at behind
-
     -- the digits, as they are lent
     abbrev lent : List ℕ
-    lent = take (m + 1 + i - (m + 1)) (drop (m + 1) bytes)
+    lent = take n (take (length rest - 1) (drop 1 rest))
 
-    lent_is : lent ≡ take i (drop (m + 1) bytes)
-    lent_is = ap (λ (n : ℕ). take n (drop (m + 1) bytes)) (let e : m + 1 + i - (m + 1) ≡ i = omega arith in e)
+    behind_is : n ≡ prefix_len is_ascii_digit (drop 1 rest)
+    behind_is = behind ∙ ap (prefix_len is_ascii_digit) (part_to_end rest 1)
 
-    pub scanned_cut : Cut bytes (take m bytes) (get_or bytes m 0) lent (drop i (drop (m + 1) bytes))
+    lent_is : lent ≡ take n (drop 1 rest)
+    lent_is = ap (take n) (part_to_end rest 1)
+
+    rest_is : rest ≡ get_or rest 0 0 ∷ drop 1 rest
+    rest_is = drop-cons rest 0 0 some
+
+    pub scanned_cut : Cut bytes multiple (get_or rest 0 0) lent (drop n (drop 1 rest))
     scanned_cut =
         record {
           splits =
-              split_at bytes m 0 one_left
-              ∙ ap (λ (l : List ℕ). take m bytes ++ get_or bytes m 0 ∷ l)
-              (ap (λ (n : ℕ). drop n bytes) (sym (add-one m)) ∙ sym (take-append-drop i (drop (m + 1) bytes))
-              ∙ ap (λ (l : List ℕ). l ++ drop i (drop (m + 1) bytes)) (sym lent_is));
-          multiple_digits = before.each;
-          no_digit = stops_front before.stops (drop-cons bytes m 0 one_left);
-          number_digits = rw lent_is behind_all.each;
-          stops = behind_all.stops;
+              sym (take-append-drop m bytes)
+              ∙ ap₂ (λ (l r : List ℕ). l ++ r) (sym front) (sym back ∙ rest_is
+              ∙ ap (λ (l : List ℕ). get_or rest 0 0 ∷ l) (sym (take-append-drop n (drop 1 rest))
+              ∙ ap (λ (l : List ℕ). l ++ drop n (drop 1 rest)) (sym lent_is)));
+          multiple_digits = rw (front, before) (each_prefix is_ascii_digit digit_is bytes);
+          no_digit = stops_front (rw (← before) at (stops_prefix is_ascii_digit no_digit_is bytes)) (sym back ∙ rest_is);
+          number_digits = rw (lent_is, behind_is) (each_prefix is_ascii_digit digit_is (drop 1 rest));
+          stops = rw behind_is (stops_prefix is_ascii_digit no_digit_is (drop 1 rest));
         }
-
-    -- they are among the bytes
-    pub scanned_within : length (take m bytes) + 1 + length lent ≤ length bytes
-    scanned_within =
-        omega (
-          arith,
-          length-take m bytes,
-          ap length lent_is,
-          length-take i (drop (m + 1) bytes),
-          length-drop (m + 1) bytes,
-          one_left,
-        )

@@ -1,11 +1,7 @@
 -- The sides of a line's pair can be written as a block: each has 1 to 64 atoms, the left one's are v0 to v31 and
 -- constants, and the right one's v32 to v63 and constants.
-use Prim.Native.Nat.{ℕ, zero, suc, ◌+◌, ◌≤◌, ◌<◌}
-use mathlib.Core.Path.{◌≡◌, refl, subst}
-use mathlib.Core.Logic.{◌⊎◌, inl, inr}
-use mathlib.Core.List.{List, ◌∷◌, ◌++◌, map}
-use native.Mathlib.Omega.{arith}
-use lib.ListN.{length, replicate, length-append, length-replicate, length-map}
+use Rattle.std.proofs.Common.{ℕ, zero, suc, ◌+◌, ◌≤◌, ◌<◌, ◌≡◌, refl, subst, ◌⊎◌, inl, inr, List, ◌∷◌, ◌++◌, map, arith, length, replicate, length-append}
+use lib.ListN.{length-replicate, length-map}
 use Rattle.ac.specs.Apart.{renamed_apart}
 use Rattle.block.specs.Front.{MayBeWritten}
 use Rattle.block.proofs.Renamed.{variable_higher, constant_stays}
@@ -13,7 +9,6 @@ use Rattle.pattern.specs.Characters.{zero_digit, Each, none, one_more}
 use Rattle.pattern.specs.Word.{Number, one_digit, two_digits, Multiple, once, often, Spells, spells, Word, variable, constant}
 use Rattle.pattern.specs.Side.{Place, before_item, after_item, Token, blank, opening, word, plus, closing, Reads, done, next, Side}
 use Rattle.pattern.specs.Line.{PairLine, pair}
-use Rattle.pattern.proofs.Apart.{apart}
 use Rattle.pattern.proofs.Spans.{each_append}
 
 -- a number that does not begin with 0 is not 0, ..
@@ -69,7 +64,7 @@ token_item (word w stop) = inr (word_writable w).0
 
 reads_some : {depth depth₁ : ℕ} {place place₁ : Place} {bytes atoms rest : List ℕ}
     → Reads depth place bytes atoms depth₁ place₁ rest → place ≡ before_item → place₁ ≡ after_item → 0 < length atoms
-reads_some done e e' = apart (cc (e, e'))
+reads_some done e e' = cc (e, e')
 reads_some {depth} {place = place} (next {depth₁ = d} {place₁ = p} {token = t} {more = m} {atoms = a} {further = f} token more) e e' =
     go (token_item (subst (λ x. Token m depth x t a d p) e token)) (λ still. reads_some more still e')
   where

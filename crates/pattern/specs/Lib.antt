@@ -1,5 +1,4 @@
 pub mod Characters
-pub mod Scan
 pub mod Word
 pub mod Side
 pub mod Line

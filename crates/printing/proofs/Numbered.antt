@@ -5,16 +5,21 @@ use mathlib.Core.Path.{◌≡◌, ap, sym, subst, ◌∙◌}
 use mathlib.Core.List.{List, [], Memᴰ}
 use lib.ListN.{length, get_or, take, length-map}
 use lib.Seq.{get_or-take, length-take-le}
+use Rattle.std.specs.Prelude.{Some, IsSomeAnd}
+use Rattle.ac.specs.Rows.{Groups}
 use Rattle.ac.specs.Keys.{layout, keys}
 use Rattle.ac.specs.Values.{Binding}
 use Rattle.ac.proofs.Places.{get_or-map, get_or_member}
+use Rattle.buffer.specs.Put.{Put}
+use Rattle.buffer.proofs.Puts.{put_as}
 use Rattle.pair.specs.Ways.{mode_of}
 use Rattle.pair.specs.declared.ways.Way.{Way}
-use Rattle.table.specs.Table.{groups_in}
 use Rattle.lines.specs.Lines.{substitution_line, end_line as line_at_end}
 use Rattle.lines.specs.Library.{bindings_of}
 use Rattle.lines.proofs.Numbered.{lines_length, substitution_line_lem, last_line}
-use Rattle.printing.specs.Printed.{key_count, line_count, page_of, lines_of, Prints}
+use Rattle.table.specs.declared.Table.{Table}
+use Rattle.printing.specs.Asked.{SolvedPair}
+use Rattle.printing.specs.Printed.{groups_of, key_count, line_count, page_of, lines_of, Prints, KeyPut}
 use Rattle.printing.specs.declared.print.Listing.{Listing}
 
 module _ {way : Way} {L R : List ℕ} {l : Listing} (prints : Prints way L R l) where
@@ -25,7 +30,7 @@ module _ {way : Way} {L R : List ℕ} {l : Listing} (prints : Prints way L R l) 
   printed = take count l.keys
 
   abbrev substitution : ℕ → List Binding
-  substitution = bindings_of way L R (groups_in l.table)
+  substitution = bindings_of way L R (groups_of l.table)
 
   -- there is one for each key
   printed_length : length printed ≡ count
@@ -47,17 +52,28 @@ module _ {way : Way} {L R : List ℕ} {l : Listing} (prints : Prints way L R l) 
     same_key = get_or-take count l.keys (number - 1) 0 before
 
     -- it is on the list
-    pub key_listed : Memᴰ (get_or l.keys (number - 1) 0) (keys (mode_of way L R) layout L R (groups_in l.table))
+    key_listed : Memᴰ (get_or l.keys (number - 1) 0) (keys (mode_of way L R) layout L R (groups_of l.table))
     key_listed = prints.listed _ (subst (λ (key : ℕ). Memᴰ key printed) same_key
         (get_or_member printed (number - 1) 0 (omega (arith, before, printed_length))))
 
     -- and this is the line
-    pub key_line : substitution_line (substitution (get_or l.keys (number - 1) 0)) ≡ get_or (lines_of way L R l) number []
+    key_line : substitution_line (substitution (get_or l.keys (number - 1) 0)) ≡ get_or (lines_of way L R l) number []
     key_line =
         let here : number - 1 < length printed = omega (arith, before, printed_length) in
         ap (λ (key : ℕ). substitution_line (substitution key)) (sym same_key)
         ∙ ap substitution_line (sym (get_or-map substitution printed (number - 1) 0 [] here))
         ∙ substitution_line_lem l.place l.line (page_of way L R l) number some (omega (arith, page-length))
+
+    -- so that is what a key's line is, put from the table
+    pub line_put : {table : Table} {out out' : List ℕ} {at next : ℕ} → l.table ≡ Some table
+        → KeyPut table (get_or l.keys (number - 1) 0) out at next out'
+        → Put out at (get_or (lines_of way L R l) number []) next out'
+    line_put there put =
+        let key = get_or l.keys (number - 1) 0 in
+        let same = ap groups_of there in
+        put_as (ap (λ (G : Groups). substitution_line (bindings_of way L R G key)) (sym same) ∙ key_line)
+        (put way L R (subst (λ t. IsSomeAnd t (SolvedPair way L R)) there (prints.solved (omega (arith, some))))
+        (subst (λ (G : Groups). Memᴰ key (keys (mode_of way L R) layout L R G)) same key_listed))
 
   -- what stands after the page
   pub end_line : (number : ℕ) → number ≡ count + 1 → line_at_end l.line ≡ get_or (lines_of way L R l) number []

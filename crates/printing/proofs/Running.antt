@@ -3,6 +3,7 @@ use Prim.Native.Nat.{ℕ, ◌+◌, ◌-◌, ◌^◌, ◌%◌, ◌≤◌, ◌<◌
 use native.Mathlib.Omega.{arith}
 use mathlib.Core.Path.{◌≡◌, refl, ap, sym, subst, subst₂, ◌∙◌}
 use mathlib.Core.Bool.{Bool, true, false}
+use Rattle.std.specs.Prelude.{Result, Ok, Err, IsErr, IsErrAnd, MatchResult}
 use mathlib.Core.List.{List, [], ◌∷◌, ◌++◌, append-nil}
 use lib.ListN.{length, take, length-append}
 use lib.IntN.{ℤ}
@@ -23,8 +24,6 @@ use Rattle.library.specs.declared.Next.{Next}
 use Rattle.library.specs.declared.Next.TheVariants as next
 use Rattle.output.specs.Step.{lines_joined}
 use Rattle.output.specs.Room.{HasRoom, StillHeld}
-use Rattle.output.specs.declared.Place.{Place}
-use Rattle.output.specs.declared.Place.TheVariants.{At, Failed}
 use Rattle.output.proofs.Steps.{stepped_left}
 use Rattle.output.proofs.Held.{holds_as, holds_more, holds_put, holds_then, holds_nothing}
 use Rattle.lines.specs.Lines.{block_lines, closing_lines}
@@ -35,13 +34,31 @@ use Rattle.printing.specs.Printed.{lines_of, Prints, StartsBlock, BlockPut, line
 use Rattle.printing.specs.Library.{no_counts, Started, PutInSteps, Over, at_end, input_remains, failed, Finishes, PrintedTo, LibraryPrinted, all, too_long, not_read, not_written}
 use Rattle.printing.proofs.Total.{total_fits}
 use Rattle.printing.specs.declared.print.Listing.{Listing}
-use Rattle.printing.specs.declared.Printed.{Printed}
-use Rattle.printing.specs.declared.Printed.TheVariants.{All, Unread}
+use Rattle.printing.specs.declared.Stopped.{Stopped}
+use Rattle.printing.specs.declared.Stopped.TheVariants.{Unread, Unwritten}
 
 -- writing out a block's lines failed
-pub writing_failed : {l : Listing} {out out' : List ℕ} {at : ℕ} {p : Place} {error : ℤ} → p ≡ Failed error
-    → BlockPut l out at p out'
-writing_failed {l} {out} {out'} {at} e = subst (λ p. BlockPut l out at p out') (sym e) not_put
+pub put_failed : {l : Listing} {out out' : List ℕ} {at : ℕ} (p : Result ℕ ℤ) → IsErr p → BlockPut l out at p out'
+put_failed (Ok next) is = cc is
+put_failed (Err error) is = not_put
+
+-- what is told of the library, of how a block's lines were put
+abbrev Told : Result ℕ ℤ → Result ℕ Stopped → Type 0
+Told p told = MatchResult p (λ next. told ≡ Ok next) (λ error. IsErrAnd told (λ why. why ≡ Unwritten error))
+
+-- that they were put
+pub told_put : (p : Result ℕ ℤ) {told : Result ℕ Stopped} {next : ℕ} → Told p told → told ≡ Ok next → p ≡ Ok next
+told_put (Ok at) tells e = cc (tells, e)
+told_put (Err error) tells e = absurd (subst (λ t. IsErrAnd t (λ why. why ≡ Unwritten error)) e tells)
+
+-- or that writing failed
+pub told_failed : (p : Result ℕ ℤ) {told : Result ℕ Stopped} {why : Stopped} {report : Report} {out : List ℕ} (end : Result ℕ Stopped)
+    → Told p told → told ≡ Err why → IsErrAnd end (λ given. given ≡ why) → LibraryPrinted report end out
+told_failed (Ok at) end tells e is = cc (tells, e)
+told_failed (Err error) (Ok at) tells e is = absurd is
+told_failed (Err error) {report = report} {out = out} (Err given) tells e is =
+    let unwritten = is ∙ subst (λ t. IsErrAnd t (λ why. why ≡ Unwritten error)) e tells in
+    subst (λ why. LibraryPrinted report (Err why) out) (sym unwritten) not_written
 
 -- what blocks that were started come to
 pub record StartedText (report : Report) (blocks : List (List ℕ)) (text : List ℕ) (c : Totals) : Type 0 where
@@ -115,14 +132,14 @@ not_over (next.Block start size) no_end not_remaining no_failure over = elim ove
 not_over next.Wanted no_end not_remaining no_failure over = elim over [ ]
 
 -- what is put at the end, where it is known what comes next
-pub finish_as : {report : Report} {c : Totals} {out out' : List ℕ} {at : ℕ} {n n' : Next} {p : Printed} → n ≡ n'
+pub finish_as : {report : Report} {c : Totals} {out out' : List ℕ} {at : ℕ} {n n' : Next} {p : Result ℕ Stopped} → n ≡ n'
     → Finishes report c out at n' p out' → Finishes report c out at n p out'
 finish_as {report} {c} {out} {out'} {at} {p = p} e finishes = subst (λ n. Finishes report c out at n p out') (sym e) finishes
 
 pub finish_failed : {report : Report} {c : Totals} {out : List ℕ} {at : ℕ} {n : Next} {error told : ℤ} → n ≡ next.Failed error
-    → error ≡ told → Finishes report c out at n (Unread at told) out
+    → error ≡ told → Finishes report c out at n (Err (Unread at told)) out
 finish_failed {report} {c} {out} {at} {error = error} e same =
-    finish_as e (subst (λ t. Finishes report c out at (next.Failed error) (Unread at t) out) same Finishes.not_read)
+    finish_as e (subst (λ t. Finishes report c out at (next.Failed error) (Err (Unread at t)) out) same Finishes.not_read)
 
 -- What is so as long as the program goes on: the blocks handed on so far were started one after the other, and their
 -- text stands in the buffer before the place, but for what was written out.
@@ -153,7 +170,7 @@ pub record PutTo (l : Listing) (out : List ℕ) (at next : ℕ) (out' : List ℕ
   pub room : HasRoom (length out) next
   pub holds : (way : Way) (L R : List ℕ) → Prints way L R l → StillHeld (take at out ++ lines_joined (lines_of way L R l)) out' next []
 
-pub put_to : {l : Listing} {out out' : List ℕ} {at next : ℕ} {p : Place} → BlockPut l out at p out' → p ≡ At next
+pub put_to : {l : Listing} {out out' : List ℕ} {at next : ℕ} {p : Result ℕ ℤ} → BlockPut l out at p out' → p ≡ Ok next
     → PutTo l out at next out'
 put_to {l} {out} {out'} {at} {next} (lines_put {next = n} room holds) e =
     let same : n ≡ next = cc e in
@@ -162,7 +179,7 @@ put_to {l} {out} {out'} {at} {next} (lines_put {next = n} room holds) e =
       holds = λ way L R prints. subst (λ (k : ℕ). StillHeld (take at out ++ lines_joined (lines_of way L R l)) out' k []) same
           (holds way L R prints);
     }
-put_to not_put e = absurd (let z : ◌≡◌ {A = ℕ} 0 1 = cc e in omega arith)
+put_to not_put e = absurd (cc e)
 
 module _ {report : Report} {input : List ℕ} {r : Reader} {c : Totals} {out : List ℕ} {at : ℕ} (running : Running report input r c out at) where
   -- one block more
@@ -215,11 +232,11 @@ module _ {report : Report} {input : List ℕ} {r : Reader} {c : Totals} {out : L
         }
 
     -- the end
-    pub running_ends : {input' out' : List ℕ} {r' : Reader} {n : Next} {p : Printed}
+    pub running_ends : {input' out' : List ℕ} {r' : Reader} {n : Next} {p : Result ℕ Stopped}
         → HandsOn input r n r' input' → Finishes report c out at n p out' → LibraryPrinted report p out'
     running_ends last (Finishes.ended put) =
         all (run_end running.run last refl)
-        (closed_text false (λ e. absurd (let z : ◌≡◌ {A = ℕ} 0 1 = cc e in omega arith)))
+        (closed_text false (λ e. absurd (cc e)))
         (put_behind put)
     running_ends last (Finishes.remains put) =
         let limit = run_limit running.run last refl in
@@ -228,21 +245,3 @@ module _ {report : Report} {input : List ℕ} {r : Reader} {c : Totals} {out : L
         let inside : at ≤ length out = omega arith in
         not_read (run_failure running.run last refl) done.of_blocks
         (record { inside = inside; holds = running.holds })
-
--- the place up to which a text was put is in the buffer
-pub all_inside : {report : Report} {p : Printed} {out : List ℕ} {at : ℕ} → LibraryPrinted report p out → p ≡ All at → at ≤ length out
-all_inside {at = at} (all {at = end} ended of_library to) e = let same : end ≡ at = cc e in omega (arith, to.inside)
-all_inside {at = at} (too_long {at = end} limit of_library to) e =
-    let same : end ≡ at = cc e in
-    omega (arith, to.inside)
-all_inside (not_read failure of_blocks to) e = absurd (let z : ◌≡◌ {A = ℕ} 0 1 = cc e in omega arith)
-all_inside not_written e = absurd (let z : ◌≡◌ {A = ℕ} 0 1 = cc e in omega arith)
-
-pub unread_inside : {report : Report} {p : Printed} {out : List ℕ} {at : ℕ} {error : ℤ} → LibraryPrinted report p out → p ≡ Unread at error
-    → at ≤ length out
-unread_inside (all ended of_library to) e = absurd (let z : ◌≡◌ {A = ℕ} 0 1 = cc e in omega arith)
-unread_inside (too_long limit of_library to) e = absurd (let z : ◌≡◌ {A = ℕ} 0 1 = cc e in omega arith)
-unread_inside {at = at} (not_read {at = end} failure of_blocks to) e =
-    let same : end ≡ at = cc e in
-    omega (arith, to.inside)
-unread_inside not_written e = absurd (let z : ◌≡◌ {A = ℕ} 0 1 = cc e in omega arith)

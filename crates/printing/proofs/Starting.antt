@@ -1,13 +1,12 @@
 -- Laws of what is printed of a block: the lines of what its questions return.
 use Prim.Native.Nat.{ℕ, ◌%◌, ◌≤◌}
 use native.Mathlib.Omega.{arith}
-use mathlib.Core.Path.{◌≡◌, refl, ap, subst, ◌∙◌}
-use mathlib.Core.Option.{Option}
+use mathlib.Core.Path.{◌≡◌, refl, sym, ap, subst, ◌∙◌}
+use mathlib.Core.Option.{Option as Named}
 use mathlib.Core.Option as option
 use mathlib.Core.Bool.{Bool, true, false, cond}
 use mathlib.Core.List.Memᴰ
 use mathlib.Core.List.{List, [], map, Memᴰ}
-use lib.Dec.{eqb}
 use lib.ListN.{length, take, drop, replicate, length-append, length-take, take-append-drop}
 use lib.Seq.{take-append_seam}
 use Rattle.ac.specs.Pair.{Mode, unifying}
@@ -15,22 +14,15 @@ use Rattle.ac.specs.Rows.{Groups, GroupsOf}
 use Rattle.ac.specs.Keys.{Beginning, start, layout, keys, remaining}
 use Rattle.ac.specs.Values.{Binding}
 use Rattle.ac.proofs.Groups.{groups_unique}
-use Rattle.block.specs.declared.ReadAnswer.{ReadAnswer}
-use Rattle.block.specs.declared.ReadAnswer.TheVariants.{Sides}
-use Rattle.block.specs.declared.ReadAnswer.TheVariants as read
-use Rattle.solver.specs.declared.rows.RowsAnswer.{RowsAnswer}
-use Rattle.solver.specs.declared.rows.RowsAnswer.TheVariants.{Groups as Sizes}
-use Rattle.solver.specs.declared.rows.RowsAnswer.TheVariants as rows
+use Rattle.std.specs.Prelude.{◌==◌, Option, Result, Ok, Err, Some, None, IsSome, IsSomeAnd}
+use Rattle.block.specs.declared.Sides.{Sides}
+use Rattle.solver.specs.declared.rows.Sizes.{Sizes}
+use Rattle.numbers.specs.declared.Refusal.{Refusal}
 use Rattle.numbers.specs.Outcome.{Said, Outcome, refused, given, is_given}
 use Rattle.solver.specs.Count.{told_count, CountPromise}
-use Rattle.solver.specs.declared.count.CountAnswer.{CountAnswer}
-use Rattle.solver.specs.declared.count.CountAnswer.TheVariants.{Count}
-use Rattle.solver.specs.declared.count.CountAnswer.TheVariants as count
 use Rattle.solver.specs.Page.{wanted_count, PagePromise, next_keys, PageWritten}
 use Rattle.solver.specs.Page as keyed
-use Rattle.solver.specs.declared.page.PageAnswer.{PageAnswer}
-use Rattle.solver.specs.declared.page.PageAnswer.TheVariants.{Page}
-use Rattle.solver.specs.declared.page.PageAnswer.TheVariants as page
+use Rattle.solver.specs.declared.page.Written.{Written}
 use Rattle.pair.specs.Ways.{mode_of}
 use Rattle.pair.specs.declared.ways.Way.{Way}
 use Rattle.pair.specs.declared.ways.Way.TheVariants.{Unifying}
@@ -46,7 +38,7 @@ use Rattle.tally.specs.declared.Answers.{Answers}
 use Rattle.tally.specs.declared.Tallied.{Tallied}
 use Rattle.lines.specs.Library.{bindings_of, SidesFound, listed, count_refused, a_count, Returns, read_refused, sides, rows_refused, page_refused, a_page}
 use Rattle.printing.specs.Asked.{SolvedPair, PairListed, SidesAsked, BlockAsked}
-use Rattle.printing.specs.Printed.{key_count, StartsBlock}
+use Rattle.printing.specs.Printed.{groups_of, key_count, StartsBlock}
 use Rattle.printing.specs.declared.ask.Asked.{Asked}
 use Rattle.printing.specs.declared.print.Listing.{Listing}
 
@@ -78,11 +70,11 @@ page-listed {M} {L} {R} {out} of (is_given none (keyed.next {G = H} groups)) key
     on_page = subst (Memᴰ key) (take-append_seam (take 200 list) (drop (length (take 200 list)) out)) m
 
 -- under the line of a refusal no keys are printed
-no_keys : (atom : Option ℕ) (n : ℕ) → key_count (line_with atom n) ≡ 0
+no_keys : (atom : Named ℕ) (n : ℕ) → key_count (line_with atom n) ≡ 0
 no_keys (option.some atom) n = refl
-no_keys option.none n = go (eqb n 13)
+no_keys option.none n = go (n == 13)
   where
-    go : (b : Bool) → key_count (cond b NoUnifier (Refused n)) ≡ 0
+    go : (b : Bool) → key_count (cond b NoUnifier (Refused n None)) ≡ 0
     go true = refl
     go false = refl
 
@@ -93,7 +85,6 @@ module _ {report : Report} {block : List ℕ} {c : Totals} {l : Listing} {after 
       → after ≡ counted c (line_of returned) → StartsBlock report block c l after
   starts_alone returned found alone same_line counts =
       let none : key_count l.line ≡ 0 = ap key_count same_line ∙ alone in
-      let no_page = ap (λ (k : ℕ). map (bindings_of Unifying [] [] (groups_in l.table)) (take k l.keys)) none in
       record {
         way = Unifying;
         left = [];
@@ -101,7 +92,7 @@ module _ {report : Report} {block : List ℕ} {c : Totals} {l : Listing} {after 
         returned = returned;
         page = [];
         found = found;
-        the_lines = cc (same_place, same_line, no_page);
+        the_lines = cc (same_place, same_line);
         the_counts = counts;
         prints =
             record {
@@ -110,7 +101,7 @@ module _ {report : Report} {block : List ℕ} {c : Totals} {l : Listing} {after 
               listed = λ key m. absurd (Memᴰ.not-nil
                   (subst (λ (k : ℕ). Memᴰ key (take k l.keys)) none m));
             };
-        ready = record { few = omega arith; within = λ some. absurd (omega arith) };
+        ready = record { few = omega arith; there = λ some. absurd (omega arith) };
       }
 
   -- a refused one
@@ -120,18 +111,20 @@ module _ {report : Report} {block : List ℕ} {c : Totals} {l : Listing} {after 
   starts_refused said found = starts_alone (refused said) found (no_keys said.atom said.number)
 
   -- a block with a page
-  starts_page : {way : Way} {L R out : List ℕ} {balanced constants written weighed : ℕ} {more : Bool}
-      → SolvedPair way L R l.table
+  starts_page : {way : Way} {L R out : List ℕ} {balanced constants written weighed : ℕ} {more : Bool} {table : Table}
+      → l.table ≡ Some table → SolvedPair way L R table
       → PagePromise (mode_of way L R) L R start 200 out
       (given (record { written = written; more = more; weighed = weighed })) l.keys
       → Returns report block (c.blocks % 65536)
       (given (a_list (record { balanced = balanced; constants = constants; written = written; more = more })))
-      (map (bindings_of way L R (groups_in l.table)) (take written l.keys))
+      (map (bindings_of way L R (groups_in table)) (take written l.keys))
       → l.line ≡ Listed balanced constants written more
       → after ≡ counted c (Listed balanced constants written more) → StartsBlock report block c l after
-  starts_page {way} {L} {R} {written = written} {more = more} solved promise found same_line counts =
+  starts_page {way} {L} {R} {written = written} {more = more} there solved promise found same_line counts =
       let count : key_count l.line ≡ written = ap key_count same_line in
-      let same_page = ap (λ (k : ℕ). map (bindings_of way L R (groups_in l.table)) (take k l.keys)) count in
+      let same_groups = ap groups_of there in
+      let same_page = ap (λ (k : ℕ). map (bindings_of way L R (groups_of l.table)) (take k l.keys)) count
+      ∙ ap (λ (G : Groups). map (bindings_of way L R G) (take written l.keys)) same_groups in
       record {
         way = way;
         left = L;
@@ -144,17 +137,22 @@ module _ {report : Report} {block : List ℕ} {c : Totals} {l : Listing} {after 
         prints =
             record {
               enough = omega (arith, page_held promise);
-              solved = λ some. solved;
-              listed = λ key m. page-listed solved.the_table.the_groups promise key
-                  (subst (λ (k : ℕ). Memᴰ key (take k l.keys)) count m);
+              solved = λ some. subst (λ t. IsSomeAnd t (SolvedPair way L R)) (sym there) solved;
+              listed = λ key m. subst (λ (G : Groups). Memᴰ key (keys (mode_of way L R) layout L R G)) (sym same_groups)
+                  (page-listed solved.the_table.the_groups promise key
+                  (subst (λ (k : ℕ). Memᴰ key (take k l.keys)) count m));
             };
-        ready = record { few = omega (arith, page_fits promise); within = λ some. solved.the_table.within };
+        ready =
+            record {
+              few = omega (arith, page_fits promise);
+              there = λ some. subst IsSome (sym there) refl;
+            };
       }
 
 -- What was asked of a block and tallied is printed.
 
 -- what is printed, from what was tallied, the keys and the table
-abbrev printed : Tallied → List ℕ → Table → Listing
+abbrev printed : Tallied → List ℕ → Option Table → Listing
 printed t keys table = record { place = t.place; line = t.line; table = table; keys = keys }
 
 -- what is found of two sides is found of the block
@@ -163,36 +161,38 @@ FoundOf report block number L R =
     (r : Outcome BlockFound) (p : List (List Binding)) → SidesFound L R report r p → Returns report block number r p
 
 module _ {block keys : List ℕ} {c : Totals} {t : Tallied} where
-  list_starts : {way : Way} {L R : List ℕ} (rows : RowsAnswer) (page : PageAnswer) (table : Table)
+  list_starts : {way : Way} {L R : List ℕ} (rows : Result Sizes Refusal) (page : Result Written Refusal) (table : Option Table)
       → FoundOf (asks.Listing way) block (c.blocks % 65536) L R → PairListed way L R (replicate 200 0) rows page table keys
       → Tallies c (told_list rows page) t → StartsBlock (asks.Listing way) block c (printed t keys table) t.counts
-  list_starts (rows.Refused why) page table found asked tallied =
+  list_starts (Err why) page table found asked tallied =
       starts_refused tallied.the_place _ (found _ _ (listed (rows_refused asked.rows_promise)))
       tallied.the_line tallied.the_counts
-  list_starts (Sizes b k s t u v) (page.Refused why) table found asked tallied =
+  list_starts (Ok sizes) (Err why) table found asked tallied =
       starts_refused tallied.the_place _
       (found _ _ (listed (page_refused asked.rows_promise asked.page_promise)))
       tallied.the_line tallied.the_counts
-  list_starts (Sizes b k s t u v) (Page written more weighed) table found asked tallied =
+  list_starts (Ok sizes) (Ok page) (Some table) found asked tallied =
       let solved = asked.solved refl in
-      starts_page tallied.the_place solved asked.page_promise
+      starts_page tallied.the_place refl solved asked.page_promise
       (found _ _ (listed (a_page asked.rows_promise asked.page_promise solved.the_table.the_groups)))
       tallied.the_line tallied.the_counts
+  list_starts (Ok sizes) (Ok page) None found asked tallied = absurd (asked.solved refl)
 
-  count_starts : {L R : List ℕ} (count : CountAnswer) (table : Table) → FoundOf asks.Census block (c.blocks % 65536) L R
+  count_starts : {L R : List ℕ} (count : Result ℕ Refusal) (table : Option Table)
+      → FoundOf asks.Census block (c.blocks % 65536) L R
       → CountPromise unifying L R (told_count count) → Tallies c (told_number count) t
       → StartsBlock asks.Census block c (printed t keys table) t.counts
-  count_starts (count.Refused why) table found promise tallied =
+  count_starts (Err why) table found promise tallied =
       starts_refused tallied.the_place _ (found _ _ (count_refused promise)) tallied.the_line tallied.the_counts
-  count_starts (Count unifiers) table found promise tallied =
+  count_starts (Ok unifiers) table found promise tallied =
       starts_alone tallied.the_place _ (found _ _ (a_count promise)) refl tallied.the_line tallied.the_counts
 
-  sides_start : {report : Report} {L R : List ℕ} {a : Answers} {table : Table} (left right : ℕ) → FoundOf report block (c.blocks % 65536) L R
-      → SidesAsked L R (replicate 200 0) report a table keys → Tallies c (told_block (Sides left right) a) t
+  sides_start : {report : Report} {L R : List ℕ} {a : Answers} {table : Option Table} (lengths : Sides) → FoundOf report block (c.blocks % 65536) L R
+      → SidesAsked L R (replicate 200 0) report a table keys → Tallies c (told_block (Ok lengths) a) t
       → StartsBlock report block c (printed t keys table) t.counts
-  sides_start left right found (SidesAsked.listing {rows = rows} {page = page} {table = table} asked) tallied =
+  sides_start lengths found (SidesAsked.listing {rows = rows} {page = page} {table = table} asked) tallied =
       list_starts rows page table found asked tallied
-  sides_start left right found (SidesAsked.census {count = count} {table = table} promise) tallied =
+  sides_start lengths found (SidesAsked.census {count = count} {table = table} promise) tallied =
       count_starts count table found promise tallied
 
   pub starts : {report : Report} {number : ℕ} (a : Asked) → number ≡ c.blocks % 65536
@@ -204,11 +204,11 @@ module _ {block keys : List ℕ} {c : Totals} {t : Tallied} where
           → Returns report block (c.blocks % 65536) r p
       numbered {r} {p} found = subst (λ k. Returns report block k r p) same_number found
 
-      go : (read : ReadAnswer) (its : Answers) (table : Table)
+      go : (read : Result Sides Refusal) (its : Answers) (table : Option Table)
           → BlockAsked report block number (replicate 200 0) (record { read = read; answers = its; table = table }) keys
           → Tallies c (told_block read its) t → StartsBlock report block c (printed t keys table) t.counts
-      go (read.Refused why) its table asked tallied =
+      go (Err why) its table asked tallied =
           starts_refused tallied.the_place _ (numbered (read_refused asked.read_promise))
           tallied.the_line tallied.the_counts
-      go (Sides left right) its table asked tallied =
-          sides_start left right (λ r p found. numbered (sides asked.read_promise found)) asked.pair.sides tallied
+      go (Ok lengths) its table asked tallied =
+          sides_start lengths (λ r p found. numbered (sides asked.read_promise found)) asked.pair.sides tallied

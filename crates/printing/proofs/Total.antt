@@ -7,8 +7,8 @@ use mathlib.Core.Bool.{Bool, true, false, cond}
 use mathlib.Core.List.{List}
 use mathlib.Core.Option.{Option}
 use mathlib.Core.Option as option
-use lib.Dec.{eqb}
 use lib.ListN.{length}
+use Rattle.std.specs.Prelude.{◌==◌, None}
 use Rattle.ac.specs.Keys.{layout}
 use Rattle.ac.specs.Values.{Binding}
 use Rattle.numbers.specs.Outcome.{Outcome}
@@ -28,9 +28,9 @@ most Census = 2 ^ (layout.index_bits * layout.constants + layout.rows)
 -- a refused block's line says none
 refused_says_none : (atom : Option ℕ) (n : ℕ) → unifiers_in (line_with atom n) ≡ 0
 refused_says_none (option.some atom) n = refl
-refused_says_none option.none n = go (eqb n 13)
+refused_says_none option.none n = go (n == 13)
   where
-    go : (b : Bool) → unifiers_in (cond b NoUnifier (Refused n)) ≡ 0
+    go : (b : Bool) → unifiers_in (cond b NoUnifier (Refused n None)) ≡ 0
     go true = refl
     go false = refl
 

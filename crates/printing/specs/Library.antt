@@ -1,6 +1,6 @@
 -- What is printed of a library: the blocks that reading it hands on, one after the other, and last what stands
 -- at the end.
-use Rattle.std.specs.Prelude.{ℕ, ◌≤◌, true, false, List, [], ◌∷◌, ◌++◌, length, ℤ}
+use Rattle.std.specs.Prelude.{ℕ, ◌≤◌, true, false, List, [], ◌∷◌, ◌++◌, length, ℤ, Result, Ok, Err}
 use Rattle.tally.specs.Counts.{totals, closing_of}
 use Rattle.tally.specs.declared.Line.{Line}
 use Rattle.tally.specs.declared.Totals.{Totals}
@@ -15,8 +15,8 @@ use Rattle.lines.specs.Library.{most_blocks, BlocksText, LibraryText}
 use Rattle.lines.specs.Putting.{PutWithin}
 use Rattle.printing.specs.Printed.{lines_of, StartsBlock}
 use Rattle.printing.specs.declared.print.Listing.{Listing}
-use Rattle.printing.specs.declared.Printed.{Printed}
-use Rattle.printing.specs.declared.Printed.TheVariants.{All, Unread, Unwritten}
+use Rattle.printing.specs.declared.Stopped.{Stopped}
+use Rattle.printing.specs.declared.Stopped.TheVariants.{Unread, Unwritten}
 
 -- nothing is counted before the first block
 abbrev pub no_counts : Totals
@@ -45,12 +45,12 @@ pub data Over : Next → Type 0 where
   failed : {error : ℤ} → Over (next.Failed error)
 
 -- What stands at the end is put: the closing lines, or nothing where a read failed.
-pub data Finishes (report : Report) (c : Totals) (out : List ℕ) (at : ℕ) : Next → Printed → List ℕ → Type 0 where
+pub data Finishes (report : Report) (c : Totals) (out : List ℕ) (at : ℕ) : Next → Result ℕ Stopped → List ℕ → Type 0 where
   ended : {end : ℕ} {out' : List ℕ} → PutWithin 128 out at (closing_lines (closing_of report c false)) end out'
-      → Finishes report c out at next.End (All end) out'
+      → Finishes report c out at next.End (Ok end) out'
   remains : {end : ℕ} {out' : List ℕ} → PutWithin 128 out at (closing_lines (closing_of report c true)) end out'
-      → Finishes report c out at next.Remains (All end) out'
-  not_read : {error : ℤ} → Finishes report c out at (next.Failed error) (Unread at error) out
+      → Finishes report c out at next.Remains (Ok end) out'
+  not_read : {error : ℤ} → Finishes report c out at (next.Failed error) (Err (Unread at error)) out
 
 -- a text was printed: what was not written out of it stands in the buffer before the place
 pub record PrintedTo (text out : List ℕ) (at : ℕ) : Type 0 where
@@ -58,16 +58,16 @@ pub record PrintedTo (text out : List ℕ) (at : ℕ) : Type 0 where
   pub holds : StillHeld text out at []
 
 -- Printing a library, of whatever came by the calls that read it: its text is the definition's.
-pub data LibraryPrinted (report : Report) : Printed → List ℕ → Type 0 where
+pub data LibraryPrinted (report : Report) : Result ℕ Stopped → List ℕ → Type 0 where
   -- at the end of the input
   all : {calls : List Call} {blocks : List (List ℕ)} {text out : List ℕ} {at : ℕ} → AtEnd (most_blocks report) calls blocks
-      → LibraryText report blocks false text → PrintedTo text out at → LibraryPrinted report (All at) out
+      → LibraryText report blocks false text → PrintedTo text out at → LibraryPrinted report (Ok at) out
   -- where input remains
   too_long : {calls : List Call} {blocks : List (List ℕ)} {text out : List ℕ} {at : ℕ}
       → AtLimit (most_blocks report) calls blocks → LibraryText report blocks true text → PrintedTo text out at
-      → LibraryPrinted report (All at) out
+      → LibraryPrinted report (Ok at) out
   -- where a read failed, the text of the blocks before it
   not_read : {calls : List Call} {blocks : List (List ℕ)} {lines : List Line} {text out : List ℕ} {at : ℕ} {error : ℤ}
       → AtFailure error calls blocks → BlocksText report 0 blocks lines text → PrintedTo text out at
-      → LibraryPrinted report (Unread at error) out
-  not_written : {error : ℤ} {out : List ℕ} → LibraryPrinted report (Unwritten error) out
+      → LibraryPrinted report (Err (Unread at error)) out
+  not_written : {error : ℤ} {out : List ℕ} → LibraryPrinted report (Err (Unwritten error)) out

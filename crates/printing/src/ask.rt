@@ -1,52 +1,30 @@
 // The questions asked of a block: Read, and of the sides that it gives Rows and Page by a way of listing, or Count for a
 // census. The pair is solved once.
-ghost use Rattle.std.specs.Prelude.{◌≡◌, List, ℕ, ◌≤◌, length};
+ghost use Rattle.std.specs.Prelude.{List, ℕ, ◌≤◌, length, Result};
 ghost use Rattle.tally.specs.declared.Report.TheVariants as asks;
-ghost use Rattle.printing.specs.Asked.{left_given, right_given, PairAsked, BlockAsked};
+ghost use Rattle.printing.specs.Asked.{PairAsked, BlockAsked};
 
-use block::ReadAnswer;
+use block::Sides;
 use list::Key;
-use numbers::Verdict;
+use numbers::Refusal;
 use pair::ways::Way;
-use solver::count::CountAnswer;
-use solver::page::{Begin, PageAnswer, PageRequest};
-use solver::rows::{BUFFER, RowsAnswer};
+use solver::page::{Begin, PageRequest};
+use solver::rows::BUFFER;
 use table::Table;
 use tally::{Answers, Report};
 
 // The first page is of 200.
 pub const PAGE: usize = 200;
 
-// What Read and the other questions returned for a block, and the pair's table, which says something where none of them
-// refused.
+// What Read and the other questions returned for a block, and the pair's table, which is there where Page wrote keys.
 #[derive(Clone, Copy)]
 pub struct Asked {
-    pub read: ReadAnswer,
+    pub read: Result<Sides, Refusal>,
     pub answers: Answers,
-    pub table: Table,
+    pub table: Option<Table>,
 }
 
-// The length of the left side that Read gave; a refused block has none.
-fn left_length(read: ReadAnswer) -> usize
-    ensures { result ≡ left_given read }
-{
-    match read {
-        ReadAnswer::Sides { left, right: _ } => left,
-        ReadAnswer::Refused(_) => 0,
-    }
-}
-
-// The length of the right side that Read gave; a refused block has none.
-fn right_length(read: ReadAnswer) -> usize
-    ensures { result ≡ right_given read }
-{
-    match read {
-        ReadAnswer::Sides { left: _, right } => right,
-        ReadAnswer::Refused(_) => 0,
-    }
-}
-
-// Asks Read of the block that is to have this number, and the report's questions of its sides.
+// Asks Read of the block that is to have this number, and the report's questions of its sides; a refused block has none.
 pub fn ask(report: Report, block: &[u8], number: u16, keys: &mut [Key]) -> Asked
     requires { 200 ≤ length keys.old }
     ensures { BlockAsked report block.now number keys.old result keys.new }
@@ -54,16 +32,9 @@ pub fn ask(report: Report, block: &[u8], number: u16, keys: &mut [Key]) -> Asked
     let mut left = [0u8; 64];
     let mut right = [0u8; 64];
     let read = block::read(block, number, &mut left, &mut right);
-    let left_end = left_length(read);
-    let right_end = right_length(read);
-    ask_sides(report, read, &left[..left_end], &right[..right_end], keys)
-}
-
-// Asks the report's questions of two sides.
-fn ask_sides(report: Report, read: ReadAnswer, left: &[u8], right: &[u8], keys: &mut [Key]) -> Asked
-    requires { 200 ≤ length keys.old }
-    ensures { PairAsked report read left.now right.now keys.old result keys.new }
-{
+    let sides = read.unwrap_or(Sides { left: 0, right: 0 });
+    let left = &left[..sides.left];
+    let right = &right[..sides.right];
     match report {
         Report::Listing(way) => list_sides(way, read, left, right, keys),
         Report::Census => count_sides(read, left, right),
@@ -71,42 +42,30 @@ fn ask_sides(report: Report, read: ReadAnswer, left: &[u8], right: &[u8], keys: 
 }
 
 // Asks Count of two sides; no page is lent.
-fn count_sides(read: ReadAnswer, left: &[u8], right: &[u8]) -> Asked
+fn count_sides(read: Result<Sides, Refusal>, left: &[u8], right: &[u8]) -> Asked
     ensures { (keys keys_after : List ℕ)
         → PairAsked asks.Census read left.now right.now keys result keys_after }
 {
-    let solved = table::solve(Way::Unifying, left, right);
-    let verdict = solved.verdict;
-    let table = solved.table;
-    let count = match verdict {
-        Verdict::Refused(refusal) => CountAnswer::Refused(refusal),
-        Verdict::Accepted => solver::count::count_of(table),
-    };
     Asked {
         read,
-        answers: Answers::Census(count),
-        table,
+        answers: Answers::Census(solver::count::count(left, right)),
+        table: None,
     }
 }
 
 // Asks Rows and Page of two sides.
-fn list_sides(way: Way, read: ReadAnswer, left: &[u8], right: &[u8], keys: &mut [Key]) -> Asked
+fn list_sides(
+    way: Way,
+    read: Result<Sides, Refusal>,
+    left: &[u8],
+    right: &[u8],
+    keys: &mut [Key],
+) -> Asked
     requires { 200 ≤ length keys.old }
     ensures { PairAsked (asks.Listing way) read left.now right.now keys.old result keys.new }
 {
-    let solved = table::solve(way, left, right);
-    let verdict = solved.verdict;
-    let table = solved.table;
-    match verdict {
-        Verdict::Refused(refusal) => Asked {
-            read,
-            answers: Answers::Listing {
-                rows: RowsAnswer::Refused(refusal),
-                page: PageAnswer::Refused(refusal),
-            },
-            table,
-        },
-        Verdict::Accepted => {
+    match table::solve(way, left, right) {
+        Ok(table) => {
             let mut bytes = [0u8; BUFFER];
             let rows = solver::rows::rows_of(table, &mut bytes);
             let request = PageRequest {
@@ -117,8 +76,16 @@ fn list_sides(way: Way, read: ReadAnswer, left: &[u8], right: &[u8], keys: &mut 
             Asked {
                 read,
                 answers: Answers::Listing { rows, page },
-                table,
+                table: Some(table),
             }
         }
+        Err(refusal) => Asked {
+            read,
+            answers: Answers::Listing {
+                rows: Err(refusal),
+                page: Err(refusal),
+            },
+            table: None,
+        },
     }
 }

@@ -7,9 +7,9 @@ ghost use Rattle.std.specs.Prelude.{◌≡◌, List, [], ℕ, ◌+◌, ◌<◌, 
 ghost use Rattle.buffer.specs.Put.{Put};
 ghost use Rattle.output.specs.Step.{Goes, Steps};
 ghost use Rattle.pair.specs.declared.ways.Way.{Way};
-ghost use Rattle.table.specs.Table.{InRoom};
 ghost use Rattle.printing.specs.Printed.{key_count, line_count, lines_of, ReadyToPrint, Prints, KeyPut};
 
+use crate::ask::PAGE;
 use lines::{put_block_line, put_end_line, put_substitution_line};
 use list::Key;
 use output::Progress;
@@ -17,19 +17,19 @@ use solver::values::ROOM;
 use table::Table;
 use tally::Line;
 
-// What is printed of a block: its place in the file, its line, and the keys of its page with the pair's table.
+// What is printed of a block: its place in the file, its line, and the keys of its page with the pair's table, which is
+// there if the page has keys.
 #[derive(Clone, Copy)]
 pub struct Listing {
     pub place: u64,
     pub line: Line,
-    pub table: Table,
-    pub keys: [Key; 200],
+    pub table: Option<Table>,
+    pub keys: [Key; PAGE],
 }
 
 // The line of a key, from its values.
 fn put_key(table: Table, key: Key, output: &mut [u8], at: usize) -> usize
-    requires in_room { InRoom table }
-    requires at_in_bounds { at + 8192 ≤ length output.old }
+    requires { at + 8192 ≤ length output.old }
     ensures upper_bound { result ≤ at + 8192 }
     ensures key_put { KeyPut table key output.old at result output.new }
 {
@@ -43,66 +43,58 @@ fn key_count(line: Line) -> usize
     ensures { result ≡ key_count line }
 {
     match line {
-        Line::Listed {
-            balanced: _,
-            of_constants: _,
-            lines,
-            more: _,
-        } => lines as usize,
-        Line::Counted(_) => 0,
-        Line::NoUnifier => 0,
-        Line::Refused(_) => 0,
-        Line::RefusedNaming { number: _, atom: _ } => 0,
+        Line::Listed { lines, .. } => lines as usize,
+        _ => 0,
     }
 }
 
-// How many lines the block has: its own, one for each key, and what stands after the page.
-pub fn line_count(listing: Listing) -> usize
-    requires { ReadyToPrint listing }
-    ensures { result ≡ line_count listing }
-{
-    let line = listing.line;
-    key_count(line) + 2
-}
-
-// The line of this number.
-fn put_line(listing: Listing, number: usize, output: &mut [u8], at: usize) -> usize
-    requires ready_to_print { ReadyToPrint listing }
-    requires number_bound { number < line_count listing }
-    requires at_in_bounds { at + 8192 ≤ length output.old }
-    ensures upper_bound { result ≤ at + 8192 }
-    ensures put { (way : Way) (L R : List ℕ) → Prints way L R listing
-        → Put output.old at (get_or (lines_of way L R listing) number []) result output.new }
-{
-    let line = listing.line;
-    if number == 0 {
-        return put_block_line(output, at, listing.place, line);
+impl Listing {
+    // How many lines the block has: its own, one for each key, and what stands after the page.
+    pub fn line_count(&self) -> usize
+        requires { ReadyToPrint self.now }
+        ensures { result ≡ line_count self.now }
+    {
+        key_count(self.line) + 2
     }
-    if number <= key_count(line) {
-        let table = listing.table;
-        return put_key(table, listing.keys[number - 1], output, at);
-    }
-    put_end_line(output, at, line)
-}
 
-// A step: the lines from this number on, as many as fit behind the place.
-pub fn put_lines(listing: Listing, number: usize, output: &mut [u8], at: usize) -> Progress
-    requires ready_to_print { ReadyToPrint listing }
-    requires number_bound { number ≤ line_count listing }
-    requires at_in_bounds { at ≤ length output.old }
-    ensures goes { Goes (line_count listing) number at (length output.old) result }
-    ensures steps { (way : Way) (L R : List ℕ) → Prints way L R listing
-        → Steps (lines_of way L R listing) number output.old at result output.new }
-{
-    let lines = line_count(listing);
-    let mut line = number;
-    let mut next = at;
-    while line < lines {
-        if !output::has_room(output, next) {
-            break;
+    // The line of this number.
+    fn put_line(&self, number: usize, output: &mut [u8], at: usize) -> usize
+        requires ready_to_print { ReadyToPrint self.now }
+        requires number_bound { number < line_count self.now }
+        requires at_in_bounds { at + 8192 ≤ length output.old }
+        ensures upper_bound { result ≤ at + 8192 }
+        ensures put { (way : Way) (L R : List ℕ) → Prints way L R self.now
+            → Put output.old at (get_or (lines_of way L R self.now) number []) result output.new }
+    {
+        if number == 0 {
+            put_block_line(output, at, self.place, self.line)
+        } else if number <= key_count(self.line) {
+            put_key(self.table.unwrap(), self.keys[number - 1], output, at)
+        } else {
+            put_end_line(output, at, self.line)
         }
-        next = put_line(listing, line, output, next);
-        line += 1;
     }
-    Progress { line, at: next }
+
+    // A step: the lines from this number on, as many as fit behind the place.
+    pub fn put_lines(&self, number: usize, output: &mut [u8], at: usize) -> Progress
+        requires ready_to_print { ReadyToPrint self.now }
+        requires number_bound { number ≤ line_count self.now }
+        requires at_in_bounds { at ≤ length output.old }
+        ensures goes { Goes (line_count self.now) number at (length output.old) result }
+        ensures steps { (way : Way) (L R : List ℕ) → Prints way L R self.now
+            → Steps (lines_of way L R self.now) number output.old at result output.new }
+    {
+        let lines = self.line_count();
+        let mut next = at;
+        for line in number..lines {
+            if !output::has_room(output, next) {
+                return Progress { line, at: next };
+            }
+            next = self.put_line(line, output, next);
+        }
+        Progress {
+            line: lines,
+            at: next,
+        }
+    }
 }

@@ -25,31 +25,28 @@ bindings-append σ [] x = refl
 bindings-append σ (y ∷ xs) x = ap (λ l. record { variable = y; value = σ y } ∷ l) (bindings-append σ xs x)
 
 -- what is put for the places before n, for each the variable and the value there, are the bindings of the selection
-pub all-bindings : (xs : List ℕ) (σ : ℕ → List ℕ) (names : List ℕ) (atoms : ℕ → List ℕ) (n : ℕ) → n ≤ length xs
-    → ((p : ℕ) → p < n → get_or names p 0 ≡ get_or xs p 0) → ((p : ℕ) → p < n → atoms p ≡ σ (get_or xs p 0))
-    → bindings_below names atoms n ≡ bindings σ (take n xs)
-all-bindings xs σ names atoms zero h same values = refl
-all-bindings xs σ names atoms (suc n) h same values =
-    ap₂ (λ l b. l ++ (b ∷ [])) (all-bindings xs σ names atoms n (omega arith) (λ p l. same p (omega arith))
-    (λ p l. values p (omega arith)))
-    (ap₂ binding (same n (omega arith)) (values n (omega arith)))
+pub all-bindings : (xs : List ℕ) (σ : ℕ → List ℕ) (atoms : ℕ → List ℕ) (n : ℕ) → n ≤ length xs
+    → ((p : ℕ) → p < n → atoms p ≡ σ (get_or xs p 0))
+    → bindings_below xs atoms n ≡ bindings σ (take n xs)
+all-bindings xs σ atoms zero h values = refl
+all-bindings xs σ atoms (suc n) h values =
+    ap₂ (λ l b. l ++ (b ∷ [])) (all-bindings xs σ atoms n (omega arith) (λ p l. values p (omega arith)))
+    (ap binding (values n (omega arith)))
     ∙ sym (bindings-append σ (take n xs) (get_or xs n 0))
     ∙ ap (bindings σ) (sym (take-suc xs n 0 h))
   where
-    binding : ℕ → List ℕ → Binding
-    binding x v = record { variable = x; value = v }
+    binding : List ℕ → Binding
+    binding v = record { variable = get_or xs n 0; value = v }
 
 -- what is put for a pair's variables are the bindings of the key's selection
-module _ (M : Mode) (L R : List ℕ) (names : List ℕ) {rows : List ℕ} {s : KeyedSelection} {G : Groups}
+module _ (M : Mode) (L R : List ℕ) {rows : List ℕ} {s : KeyedSelection} {G : Groups}
     (holds : HoldsGroups rows (length (variables M L R)) s G)
-    (fits : Fits layout G) (candidate : Candidate layout G s.key)
-    (same : (p : ℕ) → p < length (variables M L R) → get_or names p 0 ≡ get_or (variables M L R) p 0) where
-  pub pair_bindings : bindings_below names (atoms_at rows s) (length (variables M L R))
+    (fits : Fits layout G) (candidate : Candidate layout G s.key) where
+  pub pair_bindings : bindings_below (variables M L R) (atoms_at rows s) (length (variables M L R))
       ≡ bindings (value M layout.new L R G (selection_at layout G s.key)) (variables M L R)
   pair_bindings =
-      all-bindings (variables M L R) (value M layout.new L R G (selection_at layout G s.key)) names
-      (atoms_at rows s)
-      (length (variables M L R)) (omega arith) same
+      all-bindings (variables M L R) (value M layout.new L R G (selection_at layout G s.key)) (atoms_at rows s)
+      (length (variables M L R)) (omega arith)
       (λ p h.
       atoms_value holds fits candidate p h
       ∙ ap (value_at (taken layout.new G (selection_at layout G s.key)))

@@ -3,6 +3,7 @@ use Prim.Native.Nat.{ℕ}
 use mathlib.Core.Path.{◌≡◌, refl, sym, ap, ◌∙◌}
 use mathlib.Core.List.{List}
 use lib.ListN.{length}
+use Rattle.std.specs.Prelude.{Result, Ok, Err}
 use Rattle.ac.specs.Lists.{receives}
 use Rattle.ac.specs.Limits.{limits}
 use Rattle.ac.specs.Pair.{Mode}
@@ -10,6 +11,7 @@ use Rattle.ac.specs.Rows.{Groups, GroupsOf}
 use Rattle.ac.specs.Keys.{Beginning, layout, keys}
 use Rattle.ac.proofs.Groups.{groups_unique}
 use Rattle.numbers.specs.Outcome.{Outcome, refused, given}
+use Rattle.numbers.specs.declared.Refusal.{Refusal}
 use Rattle.numbers.proofs.Laws.{refusal_of, refusal_of_said_of}
 use Rattle.numbers.proofs.Promises.{OneResult, answer_determined}
 use Rattle.pair.specs.Given.{LowestFar}
@@ -20,52 +22,48 @@ use Rattle.solver.specs.Page.{PageWritten, told_page, next_keys, page_written, P
 use Rattle.solver.specs.Values.{told_values, values_of, ValuesGives, ValuesPromise}
 use Rattle.solver.specs.Values as its_values
 use Rattle.solver.specs.Count.{told_count, CountGives, as_listed, CountPromise}
-use Rattle.solver.specs.declared.rows.RowsAnswer.{RowsAnswer}
-use Rattle.solver.specs.declared.rows.RowsAnswer.TheVariants as rows
-use Rattle.solver.specs.declared.page.PageAnswer.{PageAnswer}
-use Rattle.solver.specs.declared.page.PageAnswer.TheVariants as page
-use Rattle.solver.specs.declared.values.ValuesAnswer.{ValuesAnswer}
-use Rattle.solver.specs.declared.values.ValuesAnswer.TheVariants as values
-use Rattle.solver.specs.declared.count.CountAnswer.{CountAnswer}
-use Rattle.solver.specs.declared.count.CountAnswer.TheVariants as count
+use Rattle.solver.specs.declared.rows.Sizes.{Sizes}
+use Rattle.solver.specs.declared.page.Written.{Written}
 
--- which answer an outcome is of
-rows_answer : Outcome GroupSizes → RowsAnswer
-rows_answer (refused said) = rows.Refused (refusal_of said)
-rows_answer (given sizes) =
-    rows.Groups sizes.balanced sizes.constants sizes.first sizes.second sizes.third sizes.fourth
+-- which result an outcome is of, where its values tell what was found
+result_of : {A Values : Type 0} → (Values → A) → Outcome Values → Result A Refusal
+result_of found (refused said) = Err (refusal_of said)
+result_of found (given values) = Ok (found values)
 
-page_answer : Outcome PageWritten → PageAnswer
-page_answer (refused said) = page.Refused (refusal_of said)
-page_answer (given keys) = page.Page keys.written keys.more keys.weighed
+-- the sizes, and what is written of a page, in the program's words
+sizes_told : GroupSizes → Sizes
+sizes_told sizes =
+    record {
+      balanced = sizes.balanced;
+      constants = sizes.constants;
+      first = sizes.first;
+      second = sizes.second;
+      third = sizes.third;
+      fourth = sizes.fourth;
+    }
 
-values_answer : Outcome ℕ → ValuesAnswer
-values_answer (refused said) = values.Refused (refusal_of said)
-values_answer (given length) = values.Values length
+page_told : PageWritten → Written
+page_told page = record { written = page.written; more = page.more; weighed = page.weighed }
 
-count_answer : Outcome ℕ → CountAnswer
-count_answer (refused said) = count.Refused (refusal_of said)
-count_answer (given unifiers) = count.Count unifiers
+rows_told_lem : (a : Result Sizes Refusal) → result_of sizes_told (told_rows a) ≡ a
+unfolding result_of sizes_told
+rows_told_lem (Ok sizes) = refl
+rows_told_lem (Err why) = ap Err (refusal_of_said_of why)
 
-rows_told : (a : RowsAnswer) → rows_answer (told_rows a) ≡ a
-unfolding rows_answer
-rows_told (rows.Groups b k s t u w) = refl
-rows_told (rows.Refused why) = ap rows.Refused (refusal_of_said_of why)
+page_told_lem : (a : Result Written Refusal) → result_of page_told (told_page a) ≡ a
+unfolding result_of page_told
+page_told_lem (Ok page) = refl
+page_told_lem (Err why) = ap Err (refusal_of_said_of why)
 
-page-told : (a : PageAnswer) → page_answer (told_page a) ≡ a
-unfolding page_answer
-page-told (page.Page written more weighed) = refl
-page-told (page.Refused why) = ap page.Refused (refusal_of_said_of why)
+values_told_lem : (a : Result ℕ Refusal) → result_of (λ length. length) (told_values a) ≡ a
+unfolding result_of
+values_told_lem (Ok length) = refl
+values_told_lem (Err why) = ap Err (refusal_of_said_of why)
 
-values_told : (a : ValuesAnswer) → values_answer (told_values a) ≡ a
-unfolding values_answer
-values_told (values.Values length) = refl
-values_told (values.Refused why) = ap values.Refused (refusal_of_said_of why)
-
-count-told : (a : CountAnswer) → count_answer (told_count a) ≡ a
-unfolding count_answer
-count-told (count.Count unifiers) = refl
-count-told (count.Refused why) = ap count.Refused (refusal_of_said_of why)
+count_told_lem : (a : Result ℕ Refusal) → result_of (λ unifiers. unifiers) (told_count a) ≡ a
+unfolding result_of
+count_told_lem (Ok unifiers) = refl
+count_told_lem (Err why) = ap Err (refusal_of_said_of why)
 
 -- a pair has one lowest atom and one set of groups, so each question has one result
 module _ {M : Mode} {L R : List ℕ} where
@@ -117,23 +115,23 @@ module _ {M : Mode} {L R : List ℕ} where
           → (G : Groups) × GroupsOf M L R G × (v ≡ length (keys M layout L R G)) × (b ≡ tt)
       from _ _ (as_listed {G = G} of) = (G, of, refl, refl)
 
-  -- Two answers, each with its buffer, that meet the promise are identical.
-  pub rows_determined : {out : List ℕ} {a a' : RowsAnswer} {b b' : List ℕ} → RowsPromise M L R out (told_rows a) b
+  -- Two results, each with its buffer, that meet the promise are identical.
+  pub rows_determined : {out : List ℕ} {a a' : Result Sizes Refusal} {b b' : List ℕ} → RowsPromise M L R out (told_rows a) b
       → RowsPromise M L R out (told_rows a') b'
       → (a ≡ a') × (b ≡ b')
-  rows_determined = answer_determined one_rows rows_answer rows_told
+  rows_determined = answer_determined one_rows (result_of sizes_told) rows_told_lem
 
-  pub page_determined : {begin : Beginning} {wanted : ℕ} {out : List ℕ} {a a' : PageAnswer} {b b' : List ℕ}
+  pub page_determined : {begin : Beginning} {wanted : ℕ} {out : List ℕ} {a a' : Result Written Refusal} {b b' : List ℕ}
       → PagePromise M L R begin wanted out (told_page a) b → PagePromise M L R begin wanted out (told_page a') b'
       → (a ≡ a') × (b ≡ b')
-  page_determined = answer_determined one_page page_answer page-told
+  page_determined = answer_determined one_page (result_of page_told) page_told_lem
 
-  pub values_determined : {key : ℕ} {out : List ℕ} {a a' : ValuesAnswer} {b b' : List ℕ}
+  pub values_determined : {key : ℕ} {out : List ℕ} {a a' : Result ℕ Refusal} {b b' : List ℕ}
       → ValuesPromise M L R key out (told_values a) b → ValuesPromise M L R key out (told_values a') b'
       → (a ≡ a') × (b ≡ b')
-  values_determined = answer_determined one_values values_answer values_told
+  values_determined = answer_determined one_values (result_of (λ length. length)) values_told_lem
 
   -- and two that meet Count's, which is lent none
-  pub count_determined : {a a' : CountAnswer} → CountPromise M L R (told_count a) → CountPromise M L R (told_count a')
+  pub count_determined : {a a' : Result ℕ Refusal} → CountPromise M L R (told_count a) → CountPromise M L R (told_count a')
       → a ≡ a'
-  count_determined promise promise' = (answer_determined one_count count_answer count-told promise promise').0
+  count_determined promise promise' = (answer_determined one_count (result_of (λ unifiers. unifiers)) count_told_lem promise promise').0

@@ -23,7 +23,7 @@ use Rattle.ac.proofs.Keys.{bit_of_half, lowest_bit}
 use Rattle.ac.proofs.HowMany.{how_many_next, how_many_most, how_many-further, how_many_places}
 use Rattle.ac.proofs.Counting.{reaching_parts}
 use Rattle.table.specs.Table.{most_rows, groups_in}
-use Rattle.table.specs.Masks.{group, MasksOf, Coherent}
+use Rattle.table.specs.Masks.{group, MasksOf}
 use Rattle.table.specs.declared.Table.{Table}
 use Rattle.table.specs.declared.masks.Masks.{Masks}
 use Rattle.table.proofs.Bits.{bit-bit_and, no_bit_from, no_bit_zero}
@@ -119,18 +119,18 @@ module _ {unbalanced : ℕ} {rows : List ℕ} (left : RowsLeft unbalanced rows) 
 
 -- ---- all rows, where no place is to be missed
 
-abbrev pub all_left : {t : Table} {m : Masks} (rows : List ℕ) → MasksOf t m → Coherent m
+abbrev pub all_left : {t : Table} {m : Masks} (rows : List ℕ) → MasksOf t m
     → ((g : ℕ) → g ≤ limits.constants → AllRows (get_or m.sizes g 0) (get_or rows g 0))
     → ReachingLeft m.reaching rows m.unbalanced m.places
-all_left {t} {m} rows masks coherent each =
+all_left {t} {m} rows masks each =
     record {
       left = record {
         groups = groups_in t;
         missed = [];
         how_many_constants = masks.sized.how_many_constants;
-        few_rows = λ g used. omega (arith, masks.sized.a_size_each g used, coherent.sizes_fit g);
+        few_rows = λ g used. omega (arith, masks.sized.a_size_each g used, m.sizes_fit g);
         marks = λ g used i.
-            each g (omega (arith, coherent.constants_fit)) i
+            each g (omega (arith, m.constants_fit)) i
             ∙ ap (ltb i) (sym (masks.sized.a_size_each g used)) ∙ sym (and-true (ltb i (length (group (groups_in t) g))));
       };
       marked = masks.marked;
@@ -225,9 +225,6 @@ TuplesTo unbalanced rows g tuples =
     ≡ tuples_missing left.missed left.groups.constants
 
 module _ {unbalanced : ℕ} {rows : List ℕ} where
-  pub tuples_none : TuplesTo unbalanced rows 0 1
-  tuples_none left = omega arith
-
   pub tuples_more : (g tuples n : ℕ) → g < unbalanced → n ≡ ones (get_or rows (g + 1) 0)
       → TuplesTo unbalanced rows g tuples
       → TuplesTo unbalanced rows (g + 1) (tuples * n)

@@ -6,6 +6,7 @@ use mathlib.Core.Bool.{false}
 use mathlib.Core.List.Memᴰ
 use mathlib.Core.List.{List, [], ◌∷◌, Memᴰ}
 use lib.ListN.{length, get_or}
+use Rattle.std.specs.Prelude.{Ok, Err}
 use Rattle.ac.specs.Limits.{limits}
 use Rattle.ac.specs.Pair.{Mode}
 use Rattle.ac.specs.Keys.{layout, keys, Beginning, after, remaining}
@@ -32,8 +33,6 @@ use Rattle.table.specs.declared.masks.Masks.{Masks}
 use Rattle.table.proofs.TableGroups.{length_group_at, how_many_constants}
 use Rattle.list.specs.Given.{ListGiven}
 use Rattle.list.specs.List.{LookedUp}
-use Rattle.list.specs.declared.Lookup.{Lookup}
-use Rattle.list.specs.declared.Lookup.TheVariants as lookup
 use Rattle.list.proofs.Finding.{told_listed, told_refused}
 use Rattle.solver.specs.Rows.{rows_buffer, sizes_as, size, sizes_of, all_rows, bytes_of, RowsPromise}
 use Rattle.solver.specs.Rows as its_rows
@@ -43,16 +42,14 @@ use Rattle.solver.specs.Values as its_values
 use Rattle.solver.specs.Count.{CountPromise, as_listed}
 use Rattle.solver.specs.Steps.{SettledOf, to_refuse, to_answer, KeysWritten, WritesValues, WeighedUpto}
 use Rattle.solver.specs.declared.page.WrittenKeys.{WrittenKeys}
-use Rattle.solver.specs.declared.page.Settled.{Settled}
-use Rattle.solver.specs.declared.page.Settled.TheVariants.{FirstKey, Refused}
 use Rattle.solver.proofs.Given.{rows_made, page_first, page_none, values_first, values_none}
 
 -- the cases of what is settled
-settled_refusal : {listed : List ℕ} {begin : Beginning} {why : Refusal} → SettledOf listed begin (Refused why)
+settled_refusal : {listed : List ℕ} {begin : Beginning} {why : Refusal} → SettledOf listed begin (Err why)
     → First (ListGiven listed begin) beginning_numbers (number_of why)
 settled_refusal (to_refuse first) = first
 
-settled_first : {listed : List ℕ} {begin : Beginning} {key : ℕ} → SettledOf listed begin (FirstKey key)
+settled_first : {listed : List ℕ} {begin : Beginning} {key : ℕ} → SettledOf listed begin (Ok key)
     → NoneOf (ListGiven listed begin) beginning_numbers
     × (remaining begin listed ≡ key ∷ remaining (after key) listed)
     × ((k : ℕ) → begin ≡ after k → Memᴰ k listed)
@@ -87,24 +84,24 @@ module _ {M : Mode} {L R : List ℕ} {t : Table} (of : TableOf M L R t)
       (its.the_places ∙ ap (λ b. places_to_reach b t.places) (sym of.whether_empty ∙ full) ∙ of.the_places)))
       (is_given none (as_listed of.the_groups))
 
-  module _ {begin : Beginning} {wanted : ℕ} {out : List ℕ} (enough : wanted_count wanted ≤ length out)
-      {settled : Settled} (told : SettledOf (keys M layout L R (groups_in t)) begin settled) where
+  module _ {begin : Beginning} {wanted : ℕ} {out : List ℕ} (enough : wanted_count wanted ≤ length out) where
     -- Page: 13, 14 and 15 change no buffer
-    pub page_refused : {why : Refusal} → settled ≡ Refused why
+    pub page_refused : {why : Refusal} → SettledOf (keys M layout L R (groups_in t)) begin (Err why)
         → PagePromise M L R begin wanted out (refused (said_of why)) out
-    page_refused {why} e =
+    page_refused {why} told =
         is_refused (refuses_carried (page_first of.the_groups none enough)
-        (refuses_alone refl why (settled_refusal (subst (SettledOf (keys M layout L R (groups_in t)) begin) e told))))
+        (refuses_alone refl why (settled_refusal told)))
 
     -- a page is what was written of the keys that remain, with what was weighed from the beginning up to the last
     pub page_promised : {m : Masks} → MasksOf t m
-        → {first count : ℕ} {written : WrittenKeys} {out' : List ℕ} → settled ≡ FirstKey first
+        → {first count : ℕ} {written : WrittenKeys} {out' : List ℕ}
+        → SettledOf (keys M layout L R (groups_in t)) begin (Ok first)
         → KeysWritten (first ∷ remaining (after first) (keys M layout L R (groups_in t))) (wanted_count wanted)
         out written out'
         → WeighedUpto m begin written.last count
         → PagePromise M L R begin wanted out
         (given (record { written = written.written; more = written.more; weighed = count })) out'
-    page_promised its {first = first} {count = count} {written = written} {out' = out'} e writes weighs =
+    page_promised its {first = first} {count = count} {written = written} {out' = out'} told writes weighs =
         subst₂ (λ o b. PagePromise M L R begin wanted out (given o) b) (sym values) (sym whole.the_buffer)
         (is_given (page_none of.the_groups none enough answer.0) (next of.the_groups))
       where
@@ -114,7 +111,7 @@ module _ {M : Mode} {L R : List ℕ} {t : Table} (of : TableOf M L R t)
         answer : NoneOf (ListGiven listed begin) beginning_numbers
             × (remaining begin listed ≡ first ∷ remaining (after first) listed)
             × ((k : ℕ) → begin ≡ after k → Memᴰ k listed)
-        answer = settled_first (subst (SettledOf listed begin) e told)
+        answer = settled_first told
 
         whole : KeysWritten (remaining begin listed) (wanted_count wanted) out written out'
         whole = subst (λ left. KeysWritten left (wanted_count wanted) out written out') (sym answer.1) writes
@@ -138,21 +135,20 @@ module _ {M : Mode} {L R : List ℕ} {t : Table} (of : TableOf M L R t)
             (page_written M L R (groups_in t) begin wanted)
         values = λ i. record { written = whole.how_many i; more = whole.whether_more i; weighed = same_weighed i }
 
-  module _ {key : ℕ} {out : List ℕ} (enough : values_buffer ≤ length out) {found : Lookup}
-      (told : LookedUp (keys M layout L R (groups_in t)) key found) where
+  module _ {key : ℕ} {out : List ℕ} (enough : values_buffer ≤ length out) where
     -- Values: 13 and 14 change no buffer
-    pub values_refused : {why : Refusal} → found ≡ lookup.Refused why
+    pub values_refused : {why : Refusal} → LookedUp (keys M layout L R (groups_in t)) key (Err why)
         → ValuesPromise M L R key out (refused (said_of why)) out
-    values_refused {why} e =
+    values_refused {why} told =
         is_refused (refuses_carried (values_first of.the_groups none enough)
-        (refuses_alone refl why (told_refused told e)))
+        (refuses_alone refl why (told_refused told refl)))
 
     -- of a listed key its values
-    pub values_promised : found ≡ lookup.Listed → {n : ℕ} {out' : List ℕ}
+    pub values_promised : LookedUp (keys M layout L R (groups_in t)) key (Ok tt) → {n : ℕ} {out' : List ℕ}
         → (Memᴰ key (keys M layout L R (groups_in t)) → WritesValues (values_of M L R (groups_in t) key) out n out')
         → ValuesPromise M L R key out (given n) out'
-    values_promised e writes =
-        let listed = told_listed told e in
+    values_promised told writes =
+        let listed = told_listed told refl in
         let written = writes listed in
         subst₂ (λ n b. ValuesPromise M L R key out (given n) b) (sym written.the_length) (sym written.the_buffer)
         (is_given (values_none of.the_groups none enough listed) (its_values.values of.the_groups))

@@ -6,20 +6,20 @@ use native.Mathlib.Numerals.{add-one}
 use mathlib.Core.Path.{◌≡◌, refl, sym, ap, ◌∙◌}
 use mathlib.Core.List.Memᴰ
 use mathlib.Core.List.{List, [], ◌∷◌, ◌++◌, map, append-nil, Memᴰ}
-use lib.ListN.{length, get_or, take, drop, length-append, length-drop, length-map, get_or-eq_default}
+use lib.ListN.{length, get_or, take, drop, length-append, length-drop, length-map}
 use lib.Seq.{length-take-le}
 use Rattle.ac.specs.Lists.{from, below, flat_map}
 use Rattle.ac.specs.Limits.{limits}
 use Rattle.ac.specs.Rows.{Group}
 use Rattle.buffer.specs.Put.{Put}
 use Rattle.buffer.proofs.Puts.{put_then, put_as, put-length}
-use Rattle.table.specs.Table.{most_rows, row_start, room_of_rows, row_in, group_in, group_at, groups_from, groups_in, InRoom}
+use Rattle.table.specs.Table.{most_rows, group_start, row_start, room_of_rows, row_in, group_in, group_at, groups_from, groups_in}
 use Rattle.table.specs.declared.Table.{Table}
-use Rattle.table.proofs.TableGroups.{length_group_at, length_groups_from, how_many_constants}
-use Rattle.solver.specs.Rows.{size, all_rows, bytes_of}
+use Rattle.table.proofs.TableGroups.{in_room, length_group_at, length_groups_from, how_many_constants}
+use Rattle.solver.specs.Rows.{rows_buffer, size, all_rows, bytes_of}
 use Rattle.ac.proofs.Members.{flat_map_append}
 use Rattle.table.proofs.Lists.{map_from_last, flat_map_from_last}
-use Rattle.table.proofs.Rows.{row_fits}
+use Rattle.table.proofs.Rows.{row_fits, group_room, group_within}
 use Rattle.ac.proofs.Keys.{length_from}
 use Rattle.ac.proofs.Members.{below_members}
 
@@ -113,7 +113,7 @@ abbrev pub rows_before : Table → ℕ → List (List ℕ)
 rows_before t group = flat_map (group_at t) (below group)
 
 -- one group more is put
-pub put-group : (t : Table) (group : ℕ) {at next n : ℕ} {out mid after : List ℕ}
+put-group : (t : Table) (group : ℕ) {at next n : ℕ} {out mid after : List ℕ}
     → Put out at (bytes_of (rows_before t group)) next mid
     → Put mid next (bytes_of (group_at t group)) n after → Put out at (bytes_of (rows_before t (group + 1))) n after
 put-group t group before put =
@@ -125,6 +125,23 @@ put-group t group before put =
     ∙ ap (rows_before t) (sym (add-one group))))
     (put_then before put)
 
+-- and keeps within its room
+pub group_put : (t : Table) → length t.rows ≡ room_of_rows → {group : ℕ} → group ≤ t.unbalanced
+    → {next n : ℕ} {out mid after : List ℕ} → next ≤ group_start group
+    → Put out 0 (bytes_of (rows_before t group)) next mid → Put mid next (bytes_of (group_at t group)) n after
+    → (n ≤ group_start (group + 1)) × Put out 0 (bytes_of (rows_before t (group + 1))) n after
+group_put t size {group} used {next} room before put =
+    let few : group ≤ limits.constants = omega (arith, t.constants_fit) in (
+      omega (
+        arith,
+        put.place,
+        bytes_length t.rows size t.places_fit few (get_or t.sizes group 0) (t.sizes_fit group),
+        group_room group (t.sizes_fit group) t.places_fit,
+        ap group_start (add-one group),
+      ),
+      put-group t group before put,
+    )
+
 -- the rows of the constants' groups stand by number
 rows_groups_from : (t : Table) (first : ℕ) (cs : List ℕ)
     → flat_map (λ (g : Group). g.rows) (groups_from t first cs) ≡ flat_map (group_at t) (from first (length cs))
@@ -132,13 +149,22 @@ rows_groups_from t first [] = refl
 rows_groups_from t first (c ∷ cs) = ap (λ l. group_at t first ++ l) (rows_groups_from t (suc first) cs)
 
 -- all rows are those of the groups up to the last constant's
-pub all_rows_lem : {t : Table} → InRoom t → all_rows (groups_in t) ≡ rows_before t (t.unbalanced + 1)
-all_rows_lem {t} within =
+all_rows_lem : (t : Table) → all_rows (groups_in t) ≡ rows_before t (t.unbalanced + 1)
+all_rows_lem t =
     ap (λ l. group_at t 0 ++ l)
     (rows_groups_from t 1 (take t.unbalanced t.constants)
     ∙ ap (λ n. flat_map (group_at t) (from 1 n))
-    (length-take-le t.unbalanced t.constants within.constants_held))
+    (length-take-le t.unbalanced t.constants t.constants_held))
     ∙ ap (rows_before t) (sym (add-one t.unbalanced))
+
+-- after the last group all rows are put
+pub all_put : (t : Table) → {next : ℕ} {out after : List ℕ} → next ≤ group_start (t.unbalanced + 1)
+    → Put out 0 (bytes_of (rows_before t (t.unbalanced + 1))) next after
+    → Put out 0 (bytes_of (all_rows (groups_in t))) next after × (next ≤ rows_buffer)
+all_put t room put = (
+  put_as (ap bytes_of (sym (all_rows_lem t))) put,
+  omega (arith, group_within (t.unbalanced + 1) (omega (arith, t.constants_fit))),
+)
 
 -- The sizes of the constants' groups.
 
@@ -152,7 +178,7 @@ size-from t first (c ∷ cs) (suc i) h =
     size-from t (suc first) cs i (omega arith)
     ∙ ap (λ g. get_or t.sizes g 0) (let e : suc first + i ≡ first + suc i = omega arith in e)
 
-module _ {t : Table} (within : InRoom t) where
+module _ (t : Table) where
   abbrev used : List ℕ
   used = take t.unbalanced t.constants
 
@@ -160,16 +186,5 @@ module _ {t : Table} (within : InRoom t) where
   pub size_there : (place : ℕ) → place < t.unbalanced → get_or t.sizes (place + 1) 0 ≡ size (groups_in t) place
   size_there place h =
       sym
-      (size-from t 1 used place (omega (arith, how_many_constants t within, length_groups_from t 1 used))
+      (size-from t 1 used place (omega (arith, how_many_constants t (in_room t), length_groups_from t 1 used))
       ∙ ap (λ g. get_or t.sizes g 0) (let e : 1 + place ≡ place + 1 = omega arith in e))
-
-  -- and of one that is not
-  pub size_beyond : (place : ℕ) → t.unbalanced ≤ place → 0 ≡ size (groups_in t) place
-  size_beyond place h =
-      sym
-      (get_or-eq_default (map (λ (g : Group). length g.rows) (groups_in t).constants) 0
-      (omega (
-        arith,
-        how_many_constants t within,
-        length-map (groups_in t).constants (λ (g : Group). length g.rows),
-      )))

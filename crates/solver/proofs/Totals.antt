@@ -3,18 +3,24 @@ use Prim.Native.Nat.{ℕ, zero, suc, ◌+◌, ◌<◌, ◌≤◌}
 use native.Mathlib.Numerals.{add-one}
 use native.Mathlib.Omega.{arith}
 use native.Mathlib.Decide.{dec_lt}
-use mathlib.Core.Path.{◌≡◌, ap, ap₂, sym, ◌∙◌}
-use mathlib.Core.List.{List, ◌++◌}
+use mathlib.Core.Path.{◌≡◌, refl, ap, ap₂, sym, ◌∙◌}
+use mathlib.Core.List.{List, ◌++◌, map}
 use lib.ListN.{length, replicate}
+use Rattle.std.specs.Prelude.{sum}
+use Rattle.std.specs.List.{range_with_len}
+use Rattle.std.proofs.lemmas.List.FromFn.{sum_by-map-range_with_len_more}
 use Rattle.buffer.specs.Put.{Put}
 use Rattle.buffer.proofs.Puts.{put_then, put_as, put-length}
 use Rattle.list.specs.Runs.{runs, total}
 use Rattle.list.proofs.Runs.{length_runs}
 
--- one more is counted
-pub total_next : {n sum more : ℕ} (times : ℕ → ℕ) → sum ≡ total n times → more ≡ times n
-    → sum + more ≡ total (n + 1) times
-total_next {n} times e f = ap₂ (λ a b. a + b) e f ∙ ap (λ (k : ℕ). total k times) (sym (add-one n))
+-- a total is a sum over the numbers
+pub total_summed : (n : ℕ) (times : ℕ → ℕ) → sum (map times (range_with_len 0 n)) ≡ total n times
+total_summed zero times = refl
+total_summed (suc n) times =
+    ap (λ (k : ℕ). sum (map times (range_with_len 0 k))) (sym (add-one n))
+    ∙ sum_by-map-range_with_len_more (λ k. k) times 0 n n (omega arith)
+    ∙ ap (λ k. k + times n) (total_summed n times)
 
 -- one more run stands behind
 pub runs_next : (n : ℕ) (times atom : ℕ → ℕ)

@@ -2,7 +2,7 @@
 use Prim.Native.Nat.{ℕ, ◌-◌, ◌≤◌}
 use native.Mathlib.Omega.{arith}
 use native.Mathlib.Decide.{dec_le}
-use mathlib.Core.Path.{◌≡◌, refl, sym, ap, subst, ◌∙◌}
+use mathlib.Core.Path.{◌≡◌, refl, sym, ap, ◌∙◌}
 use mathlib.Core.List.Memᴰ
 use mathlib.Core.List.{List, [], ◌∷◌, Memᴰ}
 use lib.ListN.{length}
@@ -57,10 +57,3 @@ module _ {m : Masks} {last upto : ℕ} (rank_last : RankIn m.sizes m.unbalanced 
         rank_last M (groups_in t) (its_must its of) its.sized fits candidate,
         rank_key M (groups_in t) (its_must its of) its.sized fits (begins key refl),
       )
-
-  -- which is none where the last does not come later
-  pub weighed_no_later : {key passed : ℕ} → RankIn m.sizes m.unbalanced m.must key passed → upto ≤ passed
-      → WeighedUpto m (after key) last 0
-  weighed_no_later {key} {passed} rank_key le =
-      let none : upto - passed ≡ 0 = omega arith in
-      subst (WeighedUpto m (after key) last) none (weighed_after rank_key)

@@ -1,5 +1,5 @@
 -- The question Count (document 02, R-7): what it promises.
-use Rattle.std.specs.Prelude.{ℕ, List, length}
+use Rattle.std.specs.Prelude.{ℕ, List, length, Result, Ok, Err}
 use Rattle.ac.specs.Limits.{limits}
 use Rattle.ac.specs.Pair.{Mode}
 use Rattle.ac.specs.Rows.{Groups, GroupsOf}
@@ -7,14 +7,13 @@ use Rattle.ac.specs.Keys.{layout, keys}
 use Rattle.numbers.specs.Numbers.{said_of}
 use Rattle.numbers.specs.Order.{count_numbers}
 use Rattle.numbers.specs.Outcome.{Outcome, refused, given, Promise}
+use Rattle.numbers.specs.declared.Refusal.{Refusal}
 use Rattle.pair.specs.Given.{LowestFar, PairGiven}
-use Rattle.solver.specs.declared.count.CountAnswer.{CountAnswer}
-use Rattle.solver.specs.declared.count.CountAnswer.TheVariants.{Count, Refused}
 
--- document 01's number, and the number of unifiers, for each case of the answer
-abbrev pub told_count : CountAnswer → Outcome ℕ
-told_count (Count unifiers) = given unifiers
-told_count (Refused refusal) = refused (said_of refusal)
+-- the number of unifiers, or document 01's number, for each case of the result
+abbrev pub told_count : Result ℕ Refusal → Outcome ℕ
+told_count (Ok unifiers) = given unifiers
+told_count (Err refusal) = refused (said_of refusal)
 
 -- "the exact number of unifiers", which is "the length of the list"; nothing is lent
 pub data CountGives (M : Mode) (L R : List ℕ) : ℕ → Unit {0} → Type 0 where

@@ -1,5 +1,5 @@
 -- The question Page (document 01, "The questions"): its request, which numbers it gives, and what it promises.
-use Rattle.std.specs.Prelude.{ℕ, zero, suc, ◌<◌, Bool, List, length}
+use Rattle.std.specs.Prelude.{ℕ, zero, suc, ◌<◌, Bool, List, length, Result, Ok, Err}
 use Rattle.ac.specs.Lists.{receives}
 use Rattle.ac.specs.Limits.{limits}
 use Rattle.ac.specs.Pair.{Mode}
@@ -10,12 +10,12 @@ use Rattle.ac.specs.Weighed.{candidates, weighed}
 use Rattle.numbers.specs.Numbers.{said_of}
 use Rattle.numbers.specs.Order.{page_numbers}
 use Rattle.numbers.specs.Outcome.{Outcome, refused, given, Promise}
+use Rattle.numbers.specs.declared.Refusal.{Refusal}
 use Rattle.pair.specs.Given.{LowestFar, PairGiven}
 use Rattle.list.specs.Given.{ListGiven}
 use Rattle.solver.specs.declared.page.Begin.{Begin}
 use Rattle.solver.specs.declared.page.Begin.TheVariants.{Start, After}
-use Rattle.solver.specs.declared.page.PageAnswer.{PageAnswer}
-use Rattle.solver.specs.declared.page.PageAnswer.TheVariants.{Page, Refused}
+use Rattle.solver.specs.declared.page.Written.{Written}
 
 -- where to begin, either the start or after a key
 abbrev pub beginning_of : Begin → Beginning
@@ -44,10 +44,10 @@ pub record PageWritten : Type 0 where
   pub more : Bool
   pub weighed : ℕ
 
--- document 01's number and values for each case of the answer
-abbrev pub told_page : PageAnswer → Outcome PageWritten
-told_page (Page written more weighed) = given (record { written = written; more = more; weighed = weighed })
-told_page (Refused refusal) = refused (said_of refusal)
+-- document 01's values or its number for each case of the result
+abbrev pub told_page : Result Written Refusal → Outcome PageWritten
+told_page (Ok page) = given (record { written = page.written; more = page.more; weighed = page.weighed })
+told_page (Err refusal) = refused (said_of refusal)
 
 module _ (M : Mode) (L R : List ℕ) (G : Groups) (begin : Beginning) (wanted : ℕ) where
   -- the next keys, as many as are wanted or, if fewer remain, all that remain

@@ -1,5 +1,5 @@
 -- The question Rows (document 01, "The questions"): which numbers it gives, and what it promises.
-use Rattle.std.specs.Prelude.{ℕ, ◌+◌, ◌*◌, ◌<◌, List, ◌++◌, map, length, get_or}
+use Rattle.std.specs.Prelude.{ℕ, ◌+◌, ◌*◌, ◌<◌, List, ◌++◌, map, length, get_or, Result, Ok, Err}
 use Rattle.ac.specs.Lists.{flat_map, receives}
 use Rattle.ac.specs.Limits.{limits}
 use Rattle.ac.specs.Pair.{Mode}
@@ -7,9 +7,9 @@ use Rattle.ac.specs.Rows.{Group, Groups, GroupsOf}
 use Rattle.numbers.specs.Numbers.{said_of}
 use Rattle.numbers.specs.Order.{rows_numbers}
 use Rattle.numbers.specs.Outcome.{Outcome, refused, given, Promise}
+use Rattle.numbers.specs.declared.Refusal.{Refusal}
 use Rattle.pair.specs.Given.{LowestFar, PairGiven}
-use Rattle.solver.specs.declared.rows.RowsAnswer.{RowsAnswer}
-use Rattle.solver.specs.declared.rows.RowsAnswer.TheVariants as answer
+use Rattle.solver.specs.declared.rows.Sizes.{Sizes}
 
 -- a lent buffer of at least 480 bytes: room for the most rows, one byte for each variable
 abbrev pub rows_buffer : ℕ
@@ -44,11 +44,11 @@ sizes_as balanced constants first second third fourth =
       fourth = fourth;
     }
 
--- document 01's number and values for each case of the answer
-abbrev pub told_rows : RowsAnswer → Outcome GroupSizes
-told_rows (answer.Groups balanced constants first second third fourth) =
-    given (sizes_as balanced constants first second third fourth)
-told_rows (answer.Refused refusal) = refused (said_of refusal)
+-- document 01's values or its number for each case of the result
+abbrev pub told_rows : Result Sizes Refusal → Outcome GroupSizes
+told_rows (Ok sizes) =
+    given (sizes_as sizes.balanced sizes.constants sizes.first sizes.second sizes.third sizes.fourth)
+told_rows (Err refusal) = refused (said_of refusal)
 
 -- the size of a constant's group, by the constant's place among the unbalanced ones
 abbrev pub size : Groups → ℕ → ℕ

@@ -1,5 +1,5 @@
 -- What the steps of the questions give, on a pair that is already solved (document 01, "The questions").
-use Rattle.std.specs.Prelude.{ℕ, ◌≡◌, false, ltb, length, take}
+use Rattle.std.specs.Prelude.{ℕ, ◌≡◌, false, ltb, length, take, Result, Ok, Err}
 use mathlib.Core.List.{List, [], ◌∷◌, ◌++◌, Memᴰ}
 use Rattle.ac.specs.Lists.{receives}
 use Rattle.ac.specs.Limits.{limits}
@@ -23,9 +23,7 @@ use Rattle.solver.specs.Page.{PageWritten, beginning_of, PagePromise}
 use Rattle.solver.specs.Values.{values_of, ValuesPromise}
 use Rattle.solver.specs.Count.{CountPromise}
 use Rattle.solver.specs.declared.page.PageRequest.{PageRequest}
-use Rattle.solver.specs.declared.page.Settled.{Settled}
 use Rattle.solver.specs.declared.page.WrittenKeys.{WrittenKeys}
-use Rattle.solver.specs.declared.page.Settled.TheVariants.{FirstKey, Refused}
 
 -- it is so for all sides whose table it is and that give no number
 abbrev pub OfSolved : Table → (Mode → List ℕ → List ℕ → Type 0) → Type 0
@@ -49,13 +47,13 @@ abbrev pub CountOfTable : Table → Outcome ℕ → Type 0
 CountOfTable table outcome = OfSolved table (λ M L R. M.empties ≡ false → CountPromise M L R outcome)
 
 -- 13, 14 or 15, or the first of the keys that remain, and that the key after which to begin, if any, is listed
-pub data SettledOf (listed : List ℕ) (begin : Beginning) : Settled → Type 0 where
+pub data SettledOf (listed : List ℕ) (begin : Beginning) : Result ℕ Refusal → Type 0 where
   to_refuse : {why : Refusal} → First (ListGiven listed begin) beginning_numbers (number_of why)
-      → SettledOf listed begin (Refused why)
+      → SettledOf listed begin (Err why)
   to_answer : {key : ℕ} → NoneOf (ListGiven listed begin) beginning_numbers
       → remaining begin listed ≡ key ∷ remaining (after key) listed
       → ((k : ℕ) → begin ≡ after k → Memᴰ k listed)
-      → SettledOf listed begin (FirstKey key)
+      → SettledOf listed begin (Ok key)
 
 -- of the keys that remain as many are written as are wanted, and it is told how many they are, whether more
 -- follow, and which is the last

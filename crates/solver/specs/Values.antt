@@ -1,5 +1,5 @@
 -- The question Values (document 01, "The questions"): which numbers it gives, and what it promises.
-use Rattle.std.specs.Prelude.{ℕ, ◌+◌, ◌*◌, ◌<◌, List, length}
+use Rattle.std.specs.Prelude.{ℕ, ◌+◌, ◌*◌, ◌<◌, List, length, Result, Ok, Err}
 use Rattle.ac.specs.Lists.{receives}
 use Rattle.ac.specs.Limits.{limits}
 use Rattle.ac.specs.Pair.{Mode, variables}
@@ -10,10 +10,9 @@ use Rattle.ac.specs.Values.{laid_out, bindings}
 use Rattle.numbers.specs.Numbers.{said_of}
 use Rattle.numbers.specs.Order.{values_numbers}
 use Rattle.numbers.specs.Outcome.{Outcome, refused, given, Promise}
+use Rattle.numbers.specs.declared.Refusal.{Refusal}
 use Rattle.pair.specs.Given.{LowestFar, PairGiven}
 use Rattle.list.specs.Given.{ListGiven}
-use Rattle.solver.specs.declared.values.ValuesAnswer.{ValuesAnswer}
-use Rattle.solver.specs.declared.values.ValuesAnswer.TheVariants.{Values, Refused}
 
 -- Within the limits no value has more than 160 atoms (document 02, R-9): a selection takes a row of each unbalanced
 -- constant and any balanced rows, and each names its atom at most as often as a net count may be far from 0.
@@ -34,10 +33,10 @@ pub data ValuesGiven (M : Mode) (L R : List ℕ) (key : ℕ) (out : List ℕ) : 
   -- a lent buffer is too short
   short_buffer : length out < values_buffer → ValuesGiven M L R key out 16
 
--- document 01's number and values for each case of the answer: the length is returned
-abbrev pub told_values : ValuesAnswer → Outcome ℕ
-told_values (Values length) = given length
-told_values (Refused refusal) = refused (said_of refusal)
+-- document 01's value, the length that is returned, or its number, for each case of the result
+abbrev pub told_values : Result ℕ Refusal → Outcome ℕ
+told_values (Ok length) = given length
+told_values (Err refusal) = refused (said_of refusal)
 
 -- For each variable ascending, its byte, a byte count and the atoms.
 abbrev pub values_of : Mode → List ℕ → List ℕ → Groups → ℕ → List ℕ

@@ -5,22 +5,23 @@ ghost use Rattle.std.specs.Int.Count.{ones};
 ghost use Rattle.ac.specs.Limits.{limits};
 ghost use Rattle.ac.specs.Pair.{unifying};
 ghost use Rattle.ac.specs.Counting.{selections_missing, selections_reaching};
-ghost use Rattle.table.specs.Table.{most_rows, InRoom};
+ghost use Rattle.table.specs.Rows.{most_rows};
 ghost use Rattle.solver.specs.Count.{told_count, CountPromise};
 ghost use Rattle.solver.specs.Missing.{RowsLeft, ReachingLeft, AllRows, Without, NotReaching};
 ghost use Rattle.solver.specs.Steps.{CountOfTable};
 
+use numbers::Refusal;
 use numbers::limits::VARIABLES;
-use numbers::{Refusal, Verdict};
 use pair::ways::Way;
-use table::masks::{MASKS, masks_of};
+use table::masks::{MASKS, Masks};
 use table::{GROUPS, Table, solve};
 
-// The number of unifiers, or why it is not told.
-#[derive(Clone, Copy)]
-pub enum CountAnswer {
-    Count { unifiers: u64 },
-    Refused(Refusal),
+// The first rows of a group, so many, as a mask.
+fn first_rows(size: usize) -> u64
+    requires { size < 64 }
+    ensures { AllRows size result }
+{
+    (1 << size) - 1
 }
 
 // All rows of each group, as masks.
@@ -29,10 +30,8 @@ fn all_rows(sizes: &[usize; GROUPS]) -> [u64; GROUPS]
     ensures { (g : ℕ) → g ≤ limits.constants → AllRows (get_or sizes.now g 0) (get_or result g 0) }
 {
     let mut rows = [0u64; GROUPS];
-    let mut g: usize = 0;
-    while g < GROUPS {
-        rows[g] = (1 << sizes[g]) - 1;
-        g += 1;
+    for g in 0..GROUPS {
+        rows[g] = first_rows(sizes[g]);
     }
     rows
 }
@@ -50,10 +49,8 @@ fn not_reaching(reaching: &[u64; MASKS], rows: [u64; GROUPS], place: usize) -> [
     ensures { NotReaching reaching.now rows place result }
 {
     let mut fewer = [0u64; GROUPS];
-    let mut g: usize = 0;
-    while g < GROUPS {
+    for g in 0..GROUPS {
         fewer[g] = without(rows[g], reaching[VARIABLES * g + place]);
-        g += 1;
     }
     fewer
 }
@@ -62,7 +59,7 @@ fn not_reaching(reaching: &[u64; MASKS], rows: [u64; GROUPS], place: usize) -> [
 fn row_count(rows: u64) -> u64
     ensures { result ≡ ones rows }
 {
-    u64::count_ones(rows) as u64
+    u64::from(rows.count_ones())
 }
 
 // How many selections take rows of the masks alone: one of each constant, and any set of the balanced ones.
@@ -71,10 +68,8 @@ fn selections_of(rows: [u64; GROUPS], unbalanced: usize) -> u64
     ensures { (left : RowsLeft unbalanced rows) → result ≡ selections_missing left.missed left.groups }
 {
     let mut tuples: u64 = 1;
-    let mut g: usize = 0;
-    while g < unbalanced {
-        g += 1;
-        tuples *= row_count(rows[g]);
+    for mask in &rows[1..=unbalanced] {
+        tuples *= row_count(*mask);
     }
     tuples << row_count(rows[0])
 }
@@ -102,25 +97,18 @@ fn selections_reaching(
 }
 
 // The question Count on a solved pair: the selections of all rows that reach every variable.
-pub fn count_of(table: Table) -> CountAnswer
-    requires { InRoom table }
+pub fn count_of(table: Table) -> Result<u64, Refusal>
     ensures { CountOfTable table (told_count result) }
 {
-    let masks = masks_of(table);
+    let masks = Masks::of(table);
     let rows = all_rows(&masks.sizes);
-    let unifiers = selections_reaching(&masks.reaching, rows, masks.unbalanced, masks.places);
-    CountAnswer::Count { unifiers }
+    Ok(selections_reaching(&masks.reaching, rows, masks.unbalanced, masks.places))
 }
 
 // The question Count: how many unifiers two sides have, after what solving the pair refuses.
-pub fn count(left: &[u8], right: &[u8]) -> CountAnswer
+pub fn count(left: &[u8], right: &[u8]) -> Result<u64, Refusal>
     ensures { CountPromise unifying left.now right.now (told_count result) }
 {
-    let solved = solve(Way::Unifying, left, right);
-    let verdict = solved.verdict;
-    let table = solved.table;
-    match verdict {
-        Verdict::Refused(refusal) => CountAnswer::Refused(refusal),
-        Verdict::Accepted => count_of(table),
-    }
+    let table = solve(Way::Unifying, left, right)?;
+    count_of(table)
 }

@@ -1,20 +1,17 @@
 // The question Page: the next keys of the list, from the start or after a key.
 ghost use Rattle.std.specs.Prelude.{◌≡◌, ◌∷◌, ◌<◌, ◌≤◌, length};
 ghost use Rattle.ac.specs.Keys.{after, remaining};
-ghost use Rattle.ac.specs.Pair.{unifying, matching, identity};
 ghost use Rattle.pair.specs.Ways.{mode_of};
-ghost use Rattle.table.specs.Table.{InRoom};
-ghost use Rattle.table.specs.Masks.{Coherent};
 ghost use Rattle.list.specs.List.{OfTheirList};
 ghost use Rattle.solver.specs.Page.{wanted_count, beginning_of, told_page, PagePromise};
 ghost use Rattle.solver.specs.Existence.{PageExistence};
 ghost use Rattle.solver.specs.Steps.{SettledOf, KeysWritten, WeighedUpto, PageOfTable};
 
 use list::rank::rank;
-use list::{Key, Lookup, NextKey, find_key, least_listed};
-use numbers::{Refusal, Verdict};
+use list::{Key, find_key, least_listed};
+use numbers::Refusal;
 use pair::ways::Way;
-use table::masks::{Masks, masks_of};
+use table::masks::Masks;
 use table::{Table, solve};
 
 // How many keys a page has if the request says 0.
@@ -34,15 +31,12 @@ pub struct PageRequest {
     pub wanted: usize,
 }
 
-// The number of keys written, whether more follow and how many candidate keys were weighed, or why there are none.
+// What is told of a page: the number of keys written, whether more follow and how many candidate keys were weighed.
 #[derive(Clone, Copy)]
-pub enum PageAnswer {
-    Page {
-        written: usize,
-        more: bool,
-        weighed: u64,
-    },
-    Refused(Refusal),
+pub struct Written {
+    pub written: usize,
+    pub more: bool,
+    pub weighed: u64,
 }
 
 // How many keys are wanted, where 0 means 200.
@@ -52,45 +46,17 @@ fn wanted_count(wanted: usize) -> usize
     if wanted == 0 { DEFAULT_COUNT } else { wanted }
 }
 
-// The first key of a page, or why there is none.
-#[derive(Clone, Copy)]
-enum Settled {
-    FirstKey(Key),
-    Refused(Refusal),
-}
-
-// After a key: 13 or 14 if it is not listed, else the next one, unless it is the last.
-fn settle_after(masks: Masks, key: Key) -> Settled
-    requires { Coherent masks }
-    ensures { OfTheirList masks (λ listed. SettledOf listed (after key) result) }
-{
-    let found = find_key(masks, key);
-    match found {
-        Lookup::Refused(refusal) => Settled::Refused(refusal),
-        Lookup::Listed => {
-            let next = least_listed(masks, key as u64 + 1);
-            match next {
-                NextKey::Key(first) => Settled::FirstKey(first),
-                NextKey::None => Settled::Refused(Refusal::LastKey),
-            }
-        }
-    }
-}
-
-// The first key of the page that begins there, or 13, 14 or 15.
-fn settle(masks: Masks, begin: Begin) -> Settled
-    requires { Coherent masks }
-    ensures { OfTheirList masks (λ listed. SettledOf listed (beginning_of begin) result) }
+// The first key of the page that begins there. At the start it is the least listed key, or 13. After a key it is 13 or 14
+// if that is not listed, else the next one, unless it is the last: then it is 15.
+fn settle(masks: &Masks, begin: Begin) -> Result<Key, Refusal>
+    ensures { OfTheirList masks.now (λ listed. SettledOf listed (beginning_of begin) result) }
 {
     match begin {
-        Begin::Start => {
-            let first = least_listed(masks, 0);
-            match first {
-                NextKey::Key(key) => Settled::FirstKey(key),
-                NextKey::None => Settled::Refused(Refusal::NoUnifier),
-            }
+        Begin::Start => least_listed(masks, 0).ok_or(Refusal::NoUnifier),
+        Begin::After(key) => {
+            find_key(masks, key)?;
+            least_listed(masks, key as u64 + 1).ok_or(Refusal::LastKey)
         }
-        Begin::After(key) => settle_after(masks, key),
     }
 }
 
@@ -104,16 +70,14 @@ struct WrittenKeys {
 
 // Write the keys from the first one on, as many as are wanted or, if fewer remain, all that remain. Each is sought
 // from the one before on, so that no key is weighed twice.
-fn write_keys(masks: Masks, first: Key, wanted: usize, out: &mut [Key]) -> WrittenKeys
-    requires { Coherent masks × (0 < wanted) × (wanted ≤ length out.old) }
-    ensures { OfTheirList masks (λ listed. KeysWritten (first ∷ remaining (after first) listed) wanted out.old result out.new) }
+fn write_keys(masks: &Masks, first: Key, wanted: usize, out: &mut [Key]) -> WrittenKeys
+    requires { (0 < wanted) × (wanted ≤ length out.old) }
+    ensures { OfTheirList masks.now (λ listed. KeysWritten (first ∷ remaining (after first) listed) wanted out.old result out.new) }
 {
     out[0] = first;
     let mut last = first;
-    let mut written: usize = 1;
-    while written < wanted {
-        let next = least_listed(masks, last as u64 + 1);
-        let NextKey::Key(key) = next else {
+    for written in 1..wanted {
+        let Some(key) = least_listed(masks, last as u64 + 1) else {
             return WrittenKeys {
                 written,
                 more: false,
@@ -122,111 +86,67 @@ fn write_keys(masks: Masks, first: Key, wanted: usize, out: &mut [Key]) -> Writt
         };
         out[written] = key;
         last = key;
-        written += 1;
     }
-    let next = least_listed(masks, last as u64 + 1);
-    match next {
-        NextKey::Key(_) => WrittenKeys {
-            written,
-            more: true,
-            last,
-        },
-        NextKey::None => WrittenKeys {
-            written,
-            more: false,
-            last,
-        },
+    let more = least_listed(masks, last as u64 + 1).is_some();
+    WrittenKeys {
+        written: wanted,
+        more,
+        last,
     }
 }
 
 // How many candidates lie after the beginning, up to and including the last key: the difference of two ranks. From the
 // start on it is the rank of the last; where that does not come after the key, none lies between them.
-fn weigh_up_to(masks: Masks, begin: Begin, last: Key) -> u64
-    requires { Coherent masks }
-    ensures { WeighedUpto masks (beginning_of begin) last result }
+fn weigh_up_to(masks: &Masks, begin: Begin, last: Key) -> u64
+    ensures { WeighedUpto masks.now (beginning_of begin) last result }
 {
     let upto = rank(&masks.sizes, masks.unbalanced, masks.must, last);
     match begin {
         Begin::Start => upto,
         Begin::After(key) => {
             let passed = rank(&masks.sizes, masks.unbalanced, masks.must, key);
-            if passed < upto { upto - passed } else { 0 }
+            upto.saturating_sub(passed)
         }
     }
 }
 
 // The question Page on a solved pair: every refusal is settled before the first key is written. Which rows
 // reach which variable is worked out once.
-pub fn page_of(table: Table, request: PageRequest, out: &mut [Key]) -> PageAnswer
-    requires { InRoom table }
+pub fn page_of(table: Table, request: PageRequest, out: &mut [Key]) -> Result<Written, Refusal>
     ensures { PageOfTable table request out.old (told_page result) out.new }
 {
     let wanted = wanted_count(request.wanted);
     if out.len() < wanted {
-        return PageAnswer::Refused(Refusal::ShortBuffer);
+        return Err(Refusal::ShortBuffer);
     }
-    let masks = masks_of(table);
-    let begin = request.begin;
-    let settled = settle(masks, begin);
-    match settled {
-        Settled::FirstKey(first) => {
-            let keys = write_keys(masks, first, wanted, out);
-            let weighed = weigh_up_to(masks, begin, keys.last);
-            PageAnswer::Page {
-                written: keys.written,
-                more: keys.more,
-                weighed,
-            }
-        }
-        Settled::Refused(refusal) => PageAnswer::Refused(refusal),
-    }
+    let masks = Masks::of(table);
+    let first = settle(&masks, request.begin)?;
+    let keys = write_keys(&masks, first, wanted, out);
+    let weighed = weigh_up_to(&masks, request.begin, keys.last);
+    Ok(Written {
+        written: keys.written,
+        more: keys.more,
+        weighed,
+    })
 }
 
-// The question Page: puts the next keys of the list of two sides into the buffer.
-pub fn page(left: &[u8], right: &[u8], request: PageRequest, out: &mut [Key]) -> PageAnswer
-    ensures promise { PagePromise unifying left.now right.now (beginning_of request.begin) request.wanted out.old
-        (told_page result) out.new }
-    ensures existence { PageExistence unifying left.now right.now (beginning_of request.begin) request.wanted
-        out.old (told_page result) out.new }
-{
-    page_by(Way::Unifying, left, right, request, out)
-}
-
-// Page for matching: the left side's variables move.
-pub fn match_page(left: &[u8], right: &[u8], request: PageRequest, out: &mut [Key]) -> PageAnswer
-    ensures promise { PagePromise (matching left.now) left.now right.now (beginning_of request.begin)
-        request.wanted out.old (told_page result) out.new }
-    ensures existence { PageExistence (matching left.now) left.now right.now (beginning_of request.begin)
-        request.wanted out.old (told_page result) out.new }
-{
-    page_by(Way::Matching, left, right, request, out)
-}
-
-// Page in sums with an identity: a variable may be empty, and a side may have no atoms.
-pub fn identity_page(left: &[u8], right: &[u8], request: PageRequest, out: &mut [Key]) -> PageAnswer
-    ensures promise { PagePromise identity left.now right.now (beginning_of request.begin) request.wanted out.old
-        (told_page result) out.new }
-    ensures existence { PageExistence identity left.now right.now (beginning_of request.begin) request.wanted
-        out.old (told_page result) out.new }
-{
-    page_by(Way::Identity, left, right, request, out)
-}
-
-// Page by a way of listing: 16 first, then what solving the pair refuses, then the page of the solved pair.
-fn page_by(way: Way, left: &[u8], right: &[u8], request: PageRequest, out: &mut [Key]) -> PageAnswer
+// The question Page by a way of listing: puts the next keys of the list of two sides into the buffer. 16 comes first,
+// then what solving the pair refuses.
+pub fn page(
+    way: Way,
+    left: &[u8],
+    right: &[u8],
+    request: PageRequest,
+    out: &mut [Key],
+) -> Result<Written, Refusal>
     ensures promise { PagePromise (mode_of way left.now right.now) left.now right.now
         (beginning_of request.begin) request.wanted out.old (told_page result) out.new }
     ensures existence { PageExistence (mode_of way left.now right.now) left.now right.now
         (beginning_of request.begin) request.wanted out.old (told_page result) out.new }
 {
     if out.len() < wanted_count(request.wanted) {
-        return PageAnswer::Refused(Refusal::ShortBuffer);
+        return Err(Refusal::ShortBuffer);
     }
-    let solved = solve(way, left, right);
-    let verdict = solved.verdict;
-    let table = solved.table;
-    match verdict {
-        Verdict::Refused(refusal) => PageAnswer::Refused(refusal),
-        Verdict::Accepted => page_of(table, request, out),
-    }
+    let table = solve(way, left, right)?;
+    page_of(table, request, out)
 }

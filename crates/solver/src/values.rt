@@ -2,22 +2,20 @@
 ghost use Rattle.std.specs.Prelude.{◌≡◌, ◌∷◌, ◌+◌, ◌≤◌, ◌<◌, length};
 ghost use Rattle.ac.specs.Limits.{limits};
 ghost use Rattle.ac.specs.Lists.{NoneAbove};
-ghost use Rattle.ac.specs.Pair.{unifying, matching, identity};
 ghost use Rattle.pair.specs.Ways.{mode_of};
 ghost use Rattle.ac.specs.Values.{laid_out};
 ghost use Rattle.buffer.specs.Put.{Put};
-ghost use Rattle.table.specs.Table.{InRoom};
 ghost use Rattle.list.specs.Runs.{Fit, run_count, atom_of, atoms_at, length_at};
 ghost use Rattle.solver.specs.Bindings.{bindings_below};
 ghost use Rattle.solver.specs.Values.{longest_value, values_buffer, told_values, ValuesPromise};
 ghost use Rattle.solver.specs.Steps.{ValuesWritten, ValuesOfTable};
 
 use buffer::put_repeated;
-use list::{Key, KeyedSelection, Lookup, find_key, selection_of, times};
+use list::{Key, KeyedSelection, find_key, selection_of, times};
+use numbers::Refusal;
 use numbers::limits::{BALANCED_ROWS, CONSTANTS, NET_COUNT, VARIABLES};
-use numbers::{Refusal, Verdict};
 use pair::ways::Way;
-use table::masks::masks_of;
+use table::masks::Masks;
 use table::{ROWS, Table, solve};
 
 // No value has more than 160 atoms: each row that is taken names its atom at most as often as a net count may be
@@ -29,13 +27,6 @@ pub const NEW: u8 = 192;
 
 // The buffer has to have room for each variable, with its byte, its count and its atoms.
 pub const ROOM: usize = VARIABLES * (2 + LONGEST);
-
-// The length written, or why there is nothing.
-#[derive(Clone, Copy)]
-pub enum ValuesAnswer {
-    Values { length: usize },
-    Refused(Refusal),
-}
 
 // The atom of a run of the selection: the constant, or the new variable of the balanced row.
 fn atom(selection: KeyedSelection, run: usize) -> u8
@@ -55,13 +46,9 @@ fn value_length(rows: &[u8; ROWS], selection: KeyedSelection, place: usize) -> u
     ensures { result ≡ length_at rows.now selection place }
 {
     let runs = selection.unbalanced + selection.balanced;
-    let mut length: usize = 0;
-    let mut run: usize = 0;
-    while run < runs {
-        length += times(rows, selection, place, run);
-        run += 1;
-    }
-    length
+    (0..runs)
+        .map(|run| times(rows, selection, place, run))
+        .sum()
 }
 
 // The atoms of the value at the place: that of each run, as often as the run names it.
@@ -76,13 +63,10 @@ fn put_atoms(
     requires place_in_bounds { at + length_at rows.now selection place ≤ length out.old }
     ensures { Put out.old at (atoms_at rows.now selection place) result out.new }
 {
-    let runs = selection.unbalanced + selection.balanced;
     let mut next = at;
-    let mut run: usize = 0;
-    while run < runs {
+    for run in 0..selection.unbalanced + selection.balanced {
         let named = times(rows, selection, place, run);
         next = put_repeated(out, next, atom(selection, run), named);
-        run += 1;
     }
     next
 }
@@ -110,92 +94,65 @@ fn put_binding(
 // The variables, ascending, each with its value.
 fn put_bindings(
     rows: &[u8; ROWS],
-    variables: &[u8; VARIABLES],
-    places: usize,
+    variables: &[u8],
     selection: KeyedSelection,
     out: &mut [u8],
 ) -> usize
-    requires fit { Fit selection × (places ≤ limits.variables) }
+    requires fit { Fit selection × (length variables.now ≤ limits.variables) }
     requires none_above { NoneAbove limits.net_count rows.now }
     requires values_buffer_in_bounds { values_buffer ≤ length out.old }
     ensures put { Put out.old 0
-        (laid_out (bindings_below variables.now (atoms_at rows.now selection) places)) result out.new }
+        (laid_out (bindings_below variables.now (atoms_at rows.now selection) (length variables.now))) result out.new }
     ensures upper_bound { result ≤ values_buffer }
 {
-    let mut next: usize = 0;
-    let mut place: usize = 0;
-    while place < places {
-        next = put_binding(rows, variables[place], selection, place, out, next);
-        place += 1;
+    let mut next = 0;
+    for (place, variable) in variables.iter().enumerate() {
+        next = put_binding(rows, *variable, selection, place, out, next);
     }
     next
 }
 
 // The values of a key on the list, and how long they are.
 pub fn write_values(table: Table, key: Key, out: &mut [u8]) -> usize
-    requires in_room { InRoom table }
-    requires values_buffer_in_bounds { values_buffer ≤ length out.old }
+    requires { values_buffer ≤ length out.old }
     ensures values_written { ValuesWritten table key out.old result out.new }
     ensures upper_bound { result ≤ values_buffer }
 {
     let selection = selection_of(table, key);
-    let variables = table.variables;
-    put_bindings(&table.rows, &variables, table.places, selection, out)
+    put_bindings(
+        &table.rows,
+        &table.variables[..table.places],
+        selection,
+        out,
+    )
 }
 
-// Values of a solved pair: 16, 13, 14 or the values.
-pub fn values_of(table: Table, key: Key, out: &mut [u8]) -> ValuesAnswer
-    requires { InRoom table }
+// Values of a solved pair: 16, 13, 14 or the values, and how long they are.
+pub fn values_of(table: Table, key: Key, out: &mut [u8]) -> Result<usize, Refusal>
     ensures { ValuesOfTable table key out.old (told_values result) out.new }
 {
     if out.len() < ROOM {
-        return ValuesAnswer::Refused(Refusal::ShortBuffer);
+        return Err(Refusal::ShortBuffer);
     }
-    let masks = masks_of(table);
-    let found = find_key(masks, key);
-    match found {
-        Lookup::Refused(refusal) => ValuesAnswer::Refused(refusal),
-        Lookup::Listed => ValuesAnswer::Values {
-            length: write_values(table, key, out),
-        },
-    }
+    let masks = Masks::of(table);
+    find_key(&masks, key)?;
+    Ok(write_values(table, key, out))
 }
 
-// The question Values: puts what a key gives the variables of two sides into the buffer.
-pub fn values(left: &[u8], right: &[u8], key: Key, out: &mut [u8]) -> ValuesAnswer
-    ensures { ValuesPromise unifying left.now right.now key out.old (told_values result) out.new }
-{
-    values_by(Way::Unifying, left, right, key, out)
-}
-
-// Values for matching: the left side's variables move.
-pub fn match_values(left: &[u8], right: &[u8], key: Key, out: &mut [u8]) -> ValuesAnswer
-    ensures { ValuesPromise (matching left.now) left.now right.now key out.old (told_values result)
-        out.new }
-{
-    values_by(Way::Matching, left, right, key, out)
-}
-
-// Values in sums with an identity: a value of no atoms has count 0.
-pub fn identity_values(left: &[u8], right: &[u8], key: Key, out: &mut [u8]) -> ValuesAnswer
-    ensures { ValuesPromise identity left.now right.now key out.old (told_values result) out.new }
-{
-    values_by(Way::Identity, left, right, key, out)
-}
-
-// Values by a way of listing: 16 first, then what solving the pair refuses, then the values of the solved pair.
-fn values_by(way: Way, left: &[u8], right: &[u8], key: Key, out: &mut [u8]) -> ValuesAnswer
-    ensures { ValuesPromise (mode_of way left.now right.now) left.now right.now key
-        out.old (told_values result) out.new }
+// The question Values by a way of listing: puts what a key gives the variables of two sides into the buffer, and tells
+// how long it is. 16 comes first, then what solving the pair refuses.
+pub fn values(
+    way: Way,
+    left: &[u8],
+    right: &[u8],
+    key: Key,
+    out: &mut [u8],
+) -> Result<usize, Refusal>
+    ensures { ValuesPromise (mode_of way left.now right.now) left.now right.now key out.old (told_values result) out.new }
 {
     if out.len() < ROOM {
-        return ValuesAnswer::Refused(Refusal::ShortBuffer);
+        return Err(Refusal::ShortBuffer);
     }
-    let solved = solve(way, left, right);
-    let verdict = solved.verdict;
-    let table = solved.table;
-    match verdict {
-        Verdict::Refused(refusal) => ValuesAnswer::Refused(refusal),
-        Verdict::Accepted => values_of(table, key, out),
-    }
+    let table = solve(way, left, right)?;
+    values_of(table, key, out)
 }

@@ -10,6 +10,7 @@ use lib.Bits.{bit_and, bit_or, and_shr, and_mod, or_shr, or_mod, or_shifted_r}
 use lib.Dec.{ltb, eqb}
 use lib.Pow.{pow_pos, pow_mono, pow-add, field, low, high, shl_exact, shl-shr, shr-shr, mod-mod-pow}
 use Rattle.ac.specs.Keys.{bit}
+use Rattle.table.specs.Masks.{MarkedTo}
 
 -- what is not true is false
 pub not_so : (b : Bool) → (b ≡ true → ⊥) → b ≡ false
@@ -88,18 +89,6 @@ no_bit_zero (suc n) x small none = no_bit_zero n x below (λ i h. none i (omega 
             let z : x / 2 ^ n < 1 = omega arith in
             omega (arith, (div-lt_iff_lt-mul (pow_pos n)).0 z)
 
--- A mask of those of the first numbers that pass a test.
-pub record MarkedTo (test : ℕ → Bool) (i mask : ℕ) : Type 0 where
-  pub small : mask < 2 ^ i
-  pub marks : (j : ℕ) → bit mask j ≡ (ltb j i && test j)
-
-pub marked_none : (test : ℕ → Bool) → MarkedTo test 0 0
-marked_none test = record {
-  small = omega arith;
-  marks = λ j. no_bit_from {n = 0} {w = 0} {i = j} (omega arith) (omega arith)
-      ∙ sym (ap (λ b. b && test j) (le-ltb j 0 (omega arith)));
-}
-
 module _ {test : ℕ → Bool} {i mask : ℕ} (marked : MarkedTo test i mask) where
   -- below i nothing changes, and beyond it there is nothing
   pub marked_below : {j : ℕ} → j < i → bit mask j ≡ test j
@@ -121,10 +110,6 @@ module _ {test : ℕ → Bool} {i mask : ℕ} (marked : MarkedTo test i mask) wh
       go j (no below) (no above) =
           let e : i ≡ j = omega arith in
           subst (λ (k : ℕ). bit next k ≡ (ltb k (i + 1) && test k)) e (here ∙ within (omega arith))
-
-  -- all that were looked at are marked
-  pub marked_all : {n : ℕ} → i ≡ n → (j : ℕ) → bit mask j ≡ (ltb j n && test j)
-  marked_all end = (subst (λ (k : ℕ). MarkedTo test k mask) end marked).marks
 
   power : 2 ^ (i + 1) ≡ 2 ^ i * 2
   power = pow-add 2 i 1

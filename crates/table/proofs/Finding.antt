@@ -18,6 +18,8 @@ use Rattle.pair.specs.Parted.{PairOf}
 use Rattle.pair.specs.declared.Pair.{Pair}
 use Rattle.pair.proofs.Laws.{take_left, take_right, left_at, right_at}
 use Rattle.equation.specs.Flat.{rows_of}
+use Rattle.std.specs.Prelude.{Option, IfSome}
+use Rattle.equation.specs.declared.FoundRows.{FoundRows}
 use Rattle.equation.specs.Found.{equation_with, Finds, Finds.few, Finds.more}
 use Rattle.table.specs.Groups.{offsets_in, RowIn, FoundUpto}
 
@@ -27,20 +29,13 @@ beyond-map f g [] = refl
 beyond-map f g (x ∷ xs) = ap (λ l. (f x - g x) ∷ l) (beyond-map f g xs)
 
 -- what is found of an equation's minimal solutions is found of the rows that they are
-found_as : {limit n : ℕ} {E : Equation} {Row : List ℕ → Type 0} {bytes : List ℕ} {places : ℕ}
-    → ((v : List ℕ) → Minimal E v ↔ Row v)
-    → length E.left ≡ places → Finds limit E bytes n → FoundUpto limit Row places bytes n
-found_as {n = n} {Row = Row} {bytes = bytes} same size (few within exact) =
-    record {
-      few = λ h. subst (λ k. Exactly Row (rows_of k n bytes)) size (exactly_same same exact);
-      more = λ above. absurd (omega arith);
-    }
+found_as : {limit : ℕ} {E : Equation} {found : Option FoundRows} {Row : List ℕ → Type 0} {places : ℕ}
+    → ((v : List ℕ) → Minimal E v ↔ Row v) → length E.left ≡ places → Finds limit E found
+    → FoundUpto limit Row places found
+found_as {Row = Row} same size (few {found} within exact) =
+    subst (λ k. Exactly Row (rows_of k found.number found.rows)) size (exactly_same same exact)
 found_as same size (more {rows} exact above) =
-    record {
-      few = λ h. absurd (omega arith);
-      more = λ h. record
-          { rows = rows; exactly = exactly_same same exact; above = above };
-    }
+    record { rows = rows; exactly = exactly_same same exact; above = above }
 
 module _ {M : Mode} {L R : List ℕ} {pair : Pair} (of : PairOf M L R pair) where
   abbrev occurrences_of : List ℕ → List ℕ
@@ -63,14 +58,14 @@ module _ {M : Mode} {L R : List ℕ} {pair : Pair} (of : PairOf M L R pair) wher
       take_right of.the_variables ∙ sym (beyond-map (λ x. count x R) (λ x. count x L) (variables M L R))
 
   -- an equation with them, and with the net parts of two offsets, finds the rows that are its minimal solutions
-  found_rows : {limit left_offset right_offset n : ℕ} {homogeneous : Bool} {bytes : List ℕ} {Row : List ℕ → Type 0}
+  found_rows : {limit left_offset right_offset : ℕ} {homogeneous : Bool} {found : Option FoundRows} {Row : List ℕ → Type 0}
       → ((v : List ℕ) → Row v ↔ Minimal (whole left_offset right_offset homogeneous) v)
-      → Finds limit (parts (left_offset - right_offset) (right_offset - left_offset) homogeneous) bytes n
-      → FoundUpto limit Row pair.variables.count bytes n
-  found_rows {limit} {left_offset} {right_offset} {n} {homogeneous} {bytes} rows found =
+      → Finds limit (parts (left_offset - right_offset) (right_offset - left_offset) homogeneous) found
+      → FoundUpto limit Row pair.variables.count found
+  found_rows {limit} {left_offset} {right_offset} {homogeneous} {found} rows finds =
       found_as (λ v. Iff.trans (netted_minimal (whole left_offset right_offset homogeneous) v)
       (Iff.symm (rows v))) size
-      (subst (λ E. Finds limit E bytes n) netted_parts found)
+      (subst (λ E. Finds limit E found) netted_parts finds)
     where
       size : length (beyond (occurrences_of L) (occurrences_of R)) ≡ pair.variables.count
       size = length-beyond (occurrences_of L) (occurrences_of R) ∙ length-map (variables M L R) (λ x. count x L)
@@ -88,12 +83,12 @@ module _ {M : Mode} {L R : List ℕ} {pair : Pair} (of : PairOf M L R pair) wher
           }
 
   -- the rows of a constant: its net parts are the offsets
-  found_constant : {limit g n : ℕ} {bytes : List ℕ} → g < pair.constants.count
-      → Finds limit (parts (get_or pair.constants.left g 0) (get_or pair.constants.right g 0) false) bytes n
-      → FoundUpto limit (RowIn M L R (suc g)) pair.variables.count bytes n
-  found_constant {limit} {g} {n} {bytes} within found =
+  found_constant : {limit g : ℕ} {found : Option FoundRows} → g < pair.constants.count
+      → Finds limit (parts (get_or pair.constants.left g 0) (get_or pair.constants.right g 0) false) found
+      → FoundUpto limit (RowIn M L R (suc g)) pair.variables.count found
+  found_constant {limit} {g} {found} within finds =
       found_rows (row_of_constant_is_minimal M L R constant)
-      (subst (λ o. Finds limit (parts o.0 o.1 false) bytes n) offsets found)
+      (subst (λ o. Finds limit (parts o.0 o.1 false) found) offsets finds)
     where
       constant : ℕ
       constant = get_or (unbalanced M L R) g 0
@@ -106,9 +101,15 @@ module _ {M : Mode} {L R : List ℕ} {pair : Pair} (of : PairOf M L R pair) wher
       offsets = ap₂ (λ l r. (l, r)) (left_at of.the_constants g there) (right_at of.the_constants g there)
 
   -- the rows of a group; the balanced ones have no offset, and are not all zero
-  pub found_group : (g : ℕ) {limit n : ℕ} {bytes : List ℕ} → g ≤ pair.constants.count
+  pub found_group : (g : ℕ) {limit : ℕ} {found : Option FoundRows} → g ≤ pair.constants.count
       → Finds limit (equation_with (take pair.variables.count pair.variables.left)
-      (take pair.variables.count pair.variables.right) (offsets_in pair.constants g)) bytes n
-      → FoundUpto limit (RowIn M L R g) pair.variables.count bytes n
-  found_group zero within found = found_rows (balanced_row_is_minimal M L R) found
-  found_group (suc g) within found = found_constant (omega (arith, within)) found
+      (take pair.variables.count pair.variables.right) (offsets_in pair.constants g)) found
+      → FoundUpto limit (RowIn M L R g) pair.variables.count found
+  found_group zero within finds = found_rows (balanced_row_is_minimal M L R) finds
+  found_group (suc g) within finds = found_constant (omega (arith, within)) finds
+
+-- what is found is no more than the limit
+pub few_found : {limit : ℕ} {E : Equation} {found : Option FoundRows} → Finds limit E found
+    → IfSome found (λ rows. rows.number ≤ limit)
+few_found (few within exact) = within
+few_found (more exact above) = tt

@@ -8,4 +8,4 @@ pub mod Spreading
 pub mod Finding
 pub mod Counting
 pub mod Accepting
-pub mod Solving
+pub mod Solvable

@@ -1,9 +1,9 @@
 -- Where the rows of a table stand: each within the room, and no two of them in one place.
-use Prim.Native.Nat.{ℕ, zero, suc, ◌+◌, ◌*◌, ◌-◌, ◌≤◌, ◌<◌}
+use Prim.Native.Nat.{ℕ, zero, suc, ◌+◌, ◌*◌, ◌≤◌, ◌<◌}
 use native.Mathlib.Omega.{arith}
 use native.Mathlib.Decide.{dec_lt}
 use native.Mathlib.Nat.{mul-le-mul}
-use mathlib.Core.Path.{◌≡◌, refl}
+use mathlib.Core.Path.{◌≡◌}
 use mathlib.Core.Logic.{◌⊎◌, inl, inr}
 use Rattle.ac.specs.Limits.{limits}
 use Rattle.table.specs.Table.{most_rows, group_start, row_start, room_of_rows}
@@ -40,24 +40,6 @@ group_within (suc g) few = omega (arith, few)
 pub most_rows_least : (g : ℕ) → most_rows g ≤ limits.balanced_rows
 most_rows_least zero = omega arith
 most_rows_least (suc g) = omega arith
-
--- what there is of a group that is not the balanced one
-module _ {g : ℕ} (of_a_constant : g ≡ 0 → ⊥) where
-  pub most_rows_constant : most_rows g ≡ limits.constant_rows
-  most_rows_constant = go g of_a_constant
-    where
-      go : (h : ℕ) → (h ≡ 0 → ⊥) → most_rows h ≡ limits.constant_rows
-      go zero not_zero = absurd (not_zero refl)
-      go (suc h) not_zero = refl
-
-  pub row_start_constant : (i : ℕ)
-      → row_start g i ≡ limits.variables * (limits.balanced_rows + limits.constant_rows * (g - 1) + i)
-  row_start_constant i = go g of_a_constant
-    where
-      go : (h : ℕ) → (h ≡ 0 → ⊥)
-          → row_start h i ≡ limits.variables * (limits.balanced_rows + limits.constant_rows * (h - 1) + i)
-      go zero not_zero = absurd (not_zero refl)
-      go (suc h) not_zero = omega arith
 
 -- rows of two groups have no place in common
 pub rows_apart : {g h i j : ℕ} → (h ≡ g → ⊥) → i < most_rows g → j < most_rows h

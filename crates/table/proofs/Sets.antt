@@ -3,53 +3,32 @@ use Prim.Native.Nat.{ℕ, ◌+◌, ◌-◌, ◌*◌, ◌%◌, ◌^◌, ◌<◌, 
 use native.Mathlib.Omega.{arith}
 use native.Mathlib.Decide.{dec_lt}
 use mathlib.Core.Path.{◌≡◌, sym, ◌∙◌, ap, subst}
-use mathlib.Core.Bool.{true, false, ◌&&◌, ◌||◌, false≢true, or-true, and-eq-true_iff}
+use mathlib.Core.Bool.{true, ◌&&◌, ◌||◌, false≢true, or-true, and-eq-true_iff}
 use mathlib.Core.List.{List}
-use borrow.Author.Tests.{eqb-true}
+use borrow.Author.Tests.{eqb-true, lt-ltb}
 use lib.Bits.{bit_and, bit_or, and_le_l}
 use lib.Dec.{ltb, eqb}
 use lib.ListN.{length, get_or, set}
 use lib.Seq.{get_or-set_same, get_or-set_other}
 use Rattle.ac.specs.Keys.{bit}
 use Rattle.table.specs.Choices.{ReachedFrom, Indexes, Complete, WithRow}
-use Rattle.table.specs.Masks.{MissedBy}
+use Rattle.table.specs.Masks.{MarkedTo, MissedBy}
 use Rattle.table.proofs.Bits.{not_so, bit-bit_and, bit-bit_or, power_bit, no_bit_zero, no_bit_from}
 
 -- a number has a bit that both have
 pub both_bits : (a b i : ℕ) → bit (bit_and a b) i ≡ true → (bit a i ≡ true) × (bit b i ≡ true)
 both_bits a b i e = (and-eq-true_iff (bit a i) (bit b i)).0 (sym (bit-bit_and a b i) ∙ e)
 
--- a bit that is set stays so, and one is set
-bit_stays : (sets more i : ℕ) → bit sets i ≡ true → bit (bit_or sets more) i ≡ true
-bit_stays sets more i e = bit-bit_or sets more i ∙ ap (λ b. b || bit more i) e
-
-bit_added : (sets i : ℕ) → i < 64 → bit (bit_or sets (1 * 2 ^ i % 2 ^ 64)) i ≡ true
-bit_added sets i few =
-    bit-bit_or sets (1 * 2 ^ i % 2 ^ 64) i ∙ ap (λ b. bit sets i || b) (power_bit i few) ∙ or-true (bit sets i)
-
-pub with_row_none : (found later missed : ℕ) → WithRow found later missed 0 found
-with_row_none found later missed = record { kept = λ s e. e; added = λ s less e. absurd (omega arith) }
-
-module _ {found later missed end sets : ℕ} (with : WithRow found later missed end sets) where
-  one_more : {next : ℕ} → ((s : ℕ) → bit sets s ≡ true → bit next s ≡ true)
-      → (bit later (bit_and end missed) ≡ true → bit next end ≡ true) → WithRow found later missed (end + 1) next
-  one_more {next} stays here =
-      record { kept = λ s e. stays s (with.kept s e); added = λ s less e. go s less e (dec_lt s end) }
-    where
-      go : (s : ℕ) → s < end + 1 → bit later (bit_and s missed) ≡ true → Dec (s < end) → bit next s ≡ true
-      go s less e (yes before) = stays s (with.added s before e)
-      go s less e (no beyond) =
-          let same : end ≡ s = omega arith in
-          subst (λ (n : ℕ). bit later (bit_and n missed) ≡ true → bit next n ≡ true) same here e
-
-  pub with_row_in : end < 64 → WithRow found later missed (end + 1) (bit_or sets (1 * 2 ^ end % 2 ^ 64))
-  with_row_in few = one_more (λ s. bit_stays sets (1 * 2 ^ end % 2 ^ 64) s) (λ e. bit_added sets end few)
-
-  pub with_row_out : bit later (bit_and end missed) ≡ false → WithRow found later missed (end + 1) sets
-  with_row_out none = one_more (λ s e. e) (λ e. absurd (false≢true (sym none ∙ e)))
-
-  pub with_row_all : {n : ℕ} → end ≡ n → WithRow found later missed n sets
-  with_row_all same = subst (λ (n : ℕ). WithRow found later missed n sets) same with
+-- the sets that were found, and those that a mask of the sets before an end marks
+pub with_row_marked : {later missed end : ℕ} (found : ℕ) {mask : ℕ}
+    → MarkedTo (λ set. bit later (bit_and set missed)) end mask → WithRow found later missed end (bit_or found mask)
+with_row_marked {later} {missed} {end} found {mask} marked =
+    record {
+      kept = λ s e. bit-bit_or found mask s ∙ ap (λ b. b || bit mask s) e;
+      added = λ s less e. bit-bit_or found mask s
+          ∙ ap (λ b. bit found s || b) (marked.marks s ∙ ap (λ b. ltb s end && b) e
+          ∙ ap (λ b. b && true) (lt-ltb s end less)) ∙ or-true (bit found s);
+    }
 
 -- a missed place is 0 in the row
 pub missed_row : (reaching : List ℕ) (places g i missed p : ℕ) → i < 64

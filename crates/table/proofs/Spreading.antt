@@ -110,17 +110,6 @@ pub record SpreadTo (places group : ℕ) (found before : List ℕ) (i : ℕ) (ro
   pub none_above : (most : ℕ) → ((j : ℕ) → j < i → NoneAbove most (row_at places found j)) → NoneAbove most before
       → NoneAbove most rows
 
--- before the first turn
-pub spread_none : {places group : ℕ} {found before : List ℕ} → length before ≡ room_of_rows
-    → SpreadTo places group found before 0 before
-spread_none size =
-    record {
-      size = size;
-      stored = λ j h. absurd (omega arith);
-      others = λ other j differs h. refl;
-      none_above = λ most found all. all;
-    }
-
 -- a row of another group
 others_apart : {places g h i j : ℕ} → places ≤ limits.variables → (h ≡ g → ⊥) → i < most_rows g → j < most_rows h
     → Apart (row_start h j) places (row_start g i) places

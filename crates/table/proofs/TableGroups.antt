@@ -14,6 +14,17 @@ use Rattle.table.specs.Table.{row_start, row_at, group_at, groups_from, groups_i
 use Rattle.table.specs.Masks.{group, Sized}
 use Rattle.table.specs.declared.Table.{Table}
 
+-- a table is in its room
+pub in_room : (t : Table) → InRoom t
+in_room t =
+    record {
+      places_fit = t.places_fit;
+      constants_fit = t.constants_fit;
+      constants_held = t.constants_held;
+      sizes_fit = t.sizes_fit;
+      entries_fit = t.entries_fit;
+    }
+
 module _ (t : Table) where
   -- a group has as many rows as its size says
   pub length_group_at : (g : ℕ) → length (group_at t g) ≡ get_or t.sizes g 0

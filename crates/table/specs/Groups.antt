@@ -1,6 +1,6 @@
 -- The groups of a pair as they are found (document 01, "From sides to equations"): group 0 has the balanced
 -- rows, and the groups after it those of each unbalanced constant, ascending.
-use Rattle.std.specs.Prelude.{ℕ, zero, suc, ◌≤◌, ◌<◌, ◌≡◌, true, false, length, get_or}
+use Rattle.std.specs.Prelude.{ℕ, zero, suc, ◌≤◌, ◌<◌, ◌≡◌, true, false, Option, MatchOption, length, get_or}
 use mathlib.Core.List.{List, Memᴰ}
 use Rattle.ac.specs.Lists.{NoneAbove}
 use Rattle.ac.specs.Pair.{Mode, unbalanced}
@@ -13,7 +13,8 @@ use Rattle.pair.specs.declared.Gathered.{Gathered}
 use Rattle.equation.specs.declared.Offsets.{Offsets}
 use Rattle.equation.specs.Flat.{rows_of}
 use Rattle.equation.specs.declared.FoundRows.{FoundRows}
-use Rattle.table.specs.Table.{most_rows, group_in}
+use Rattle.table.specs.Rows.{most_rows}
+use Rattle.table.specs.Table.{group_in}
 use Rattle.table.specs.declared.groups.FoundGroups.{FoundGroups}
 
 -- the pair has no more variables and unbalanced constants than there is room for
@@ -38,17 +39,16 @@ pub record More (limit : ℕ) (Row : List ℕ → Type 0) : Type 0 where
   pub exactly : Exactly Row rows
   pub above : limit < length rows
 
--- what is found of the rows of a kind: a number up to the limit, and then exactly they stand one after the
--- other, or one above it
-pub record FoundUpto (limit : ℕ) (Row : List ℕ → Type 0) (places : ℕ) (bytes : List ℕ) (count : ℕ) : Type 0 where
-  pub few : count ≤ limit → Exactly Row (rows_of places count bytes)
-  pub more : limit < count → More limit Row
+-- exactly the rows of a kind are found, one after the other, or there are more than the limit
+abbrev pub FoundUpto : ℕ → (List ℕ → Type 0) → ℕ → Option FoundRows → Type 0
+FoundUpto limit Row places found =
+    MatchOption found (More limit Row) (λ rows. Exactly Row (rows_of places rows.number rows.rows))
 
 -- the rows of a group are found, for all sides that the pair is of
-abbrev pub FindsGroup : Pair → ℕ → FoundRows → Type 0
+abbrev pub FindsGroup : Pair → ℕ → Option FoundRows → Type 0
 FindsGroup pair group found =
     (M : Mode) (L R : List ℕ) → PairOf M L R pair
-    → FoundUpto (most_rows group) (RowIn M L R group) pair.variables.count found.rows found.number
+    → FoundUpto (most_rows group) (RowIn M L R group) pair.variables.count found
 
 -- the group has the rows that were found one after the other, every other group is as it was, and no byte is above
 -- a number that none was above
@@ -67,12 +67,12 @@ pub record GroupsUpto (Row : ℕ → List ℕ → Type 0) (places : ℕ) (rows s
   pub none_above : (most : ℕ) → ((g : ℕ) (v : List ℕ) → Row g v → NoneAbove most v) → NoneAbove most rows
 
 -- all groups of the pair stand at their places, or number 12 is given
-pub record GroupsFound (M : Mode) (L R : List ℕ) (places : ℕ) (groups : FoundGroups) : Type 0 where
-  pub if_true : groups.fits ≡ true
-      → GroupsUpto (RowIn M L R) places groups.rows groups.sizes (suc (length (unbalanced M L R)))
-  pub if_false : groups.fits ≡ false → PairGiven limits M L R 12
+abbrev pub GroupsFound : Mode → List ℕ → List ℕ → ℕ → Option FoundGroups → Type 0
+GroupsFound M L R places found =
+    MatchOption found (PairGiven limits M L R 12)
+    (λ groups. GroupsUpto (RowIn M L R) places groups.rows groups.sizes (suc (length (unbalanced M L R))))
 
 -- all groups are found, for all sides that the pair is of
-abbrev pub FindsGroups : Pair → FoundGroups → Type 0
-FindsGroups pair groups =
-    (M : Mode) (L R : List ℕ) → PairOf M L R pair → GroupsFound M L R pair.variables.count groups
+abbrev pub FindsGroups : Pair → Option FoundGroups → Type 0
+FindsGroups pair found =
+    (M : Mode) (L R : List ℕ) → PairOf M L R pair → GroupsFound M L R pair.variables.count found

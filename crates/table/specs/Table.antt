@@ -1,29 +1,12 @@
 -- What a table says: the groups of rows that it holds, and that it is the table of a pair (document 01, "From
 -- sides to equations").
-use Rattle.std.specs.Prelude.{ℕ, zero, suc, ◌+◌, ◌*◌, ◌≤◌, ◌≡◌, List, [], ◌∷◌, map, length, get_or, take, drop}
+use Rattle.std.specs.Prelude.{ℕ, suc, ◌≤◌, ◌≡◌, List, [], ◌∷◌, map, length, get_or, take, drop}
 use Rattle.ac.specs.Lists.{below, NoneAbove}
 use Rattle.ac.specs.Limits.{limits}
 use Rattle.ac.specs.Pair.{Mode, variables}
 use Rattle.ac.specs.Rows.{Group, Groups, GroupsOf}
+pub use Rattle.table.specs.Rows.{most_rows, group_start, row_start, room_of_rows}
 use Rattle.table.specs.declared.Table.{Table}
-
--- the most rows of a group: the balanced rows are group 0, those of each unbalanced constant the groups after it
-abbrev pub most_rows : ℕ → ℕ
-most_rows zero = limits.balanced_rows
-most_rows (suc g) = limits.constant_rows
-
--- Where group g begins: each group has room for as many rows as it may have.
-abbrev pub group_start : ℕ → ℕ
-group_start zero = 0
-group_start (suc g) = limits.variables * limits.balanced_rows + limits.variables * limits.constant_rows * g
-
--- Where row i of group g begins.
-abbrev pub row_start : ℕ → ℕ → ℕ
-row_start g i = group_start g + limits.variables * i
-
--- the room of all groups: where one more would begin
-abbrev pub room_of_rows : ℕ
-room_of_rows = group_start (suc limits.constants)
 
 -- row i of group g, where rows have fixed places: an entry for each variable
 abbrev pub row_in : ℕ → List ℕ → ℕ → ℕ → List ℕ

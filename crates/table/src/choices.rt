@@ -5,7 +5,7 @@ ghost use Rattle.ac.specs.Limits.{limits};
 ghost use Rattle.table.specs.Choices.{WithRow, Complete};
 
 use crate::GROUPS;
-use crate::masks::{MASKS, has_bit, missed_by};
+use crate::masks::{MASKS, has_bit, mask_where, missed_by};
 
 // The sets that were found, and those of which a row leaves only places that rows of the later constants can
 // reach together.
@@ -13,15 +13,7 @@ fn with_row(found: u64, later: u64, missed: usize, largest: usize) -> u64
     requires { largest < 64 }
     ensures { WithRow found later missed (largest + 1) result }
 {
-    let mut sets = found;
-    let mut set: usize = 0;
-    while set <= largest {
-        if has_bit(later, set & missed) {
-            sets |= 1 << set;
-        }
-        set += 1;
-    }
-    sets
+    found | mask_where(largest + 1, |set| has_bit(later, set & missed))
 }
 
 // The sets that rows of constant number `g` and of the later ones can reach together, by each of its rows.
@@ -37,12 +29,10 @@ fn with_constant(
     ensures { (sizes : List ℕ) (unbalanced : ℕ) → g < unbalanced → size ≡ get_or sizes (g + 1) 0
         → Complete reaching.now sizes unbalanced largest (g + 1) later → Complete reaching.now sizes unbalanced largest g result }
 {
-    let mut sets: u64 = 0;
-    let mut i: usize = 0;
-    while i < size {
+    let mut sets = 0;
+    for i in 0..size {
         let missed = missed_by(reaching, places, g + 1, 1 << i);
         sets = with_row(sets, later, missed, largest);
-        i += 1;
     }
     sets
 }
@@ -61,12 +51,8 @@ pub fn choices_of(
 {
     let mut choices = [0u64; GROUPS];
     choices[unbalanced] = 1;
-    let mut g = unbalanced;
-    while g > 0 {
-        let later = choices[g];
-        let size = sizes[g];
-        g -= 1;
-        choices[g] = with_constant(reaching, places, g, size, later, largest);
+    for g in (0..unbalanced).rev() {
+        choices[g] = with_constant(reaching, places, g, sizes[g + 1], choices[g + 1], largest);
     }
     choices
 }

@@ -6,18 +6,15 @@
 pub mod choices;
 mod groups;
 pub mod masks;
+mod solving;
 
-ghost use Rattle.std.specs.Prelude.{◌≡◌, ◌≤◌, take};
+ghost use Rattle.std.specs.Prelude.{◌≡◌, ◌≤◌, ℕ, length, get_or};
 ghost use Rattle.ac.specs.Limits.{limits};
-ghost use Rattle.pair.specs.Ways.{mode_of};
-ghost use Rattle.table.specs.Table.{most_rows, row_start};
-ghost use Rattle.table.specs.Groups.{Roomy};
-ghost use Rattle.table.specs.Solved.{SolvesSides, SolvesPair};
+ghost use Rattle.ac.specs.Lists.{NoneAbove};
+ghost use Rattle.table.specs.Rows.{most_rows, row_start};
 
 use numbers::limits::{BALANCED_ROWS, CONSTANT_ROWS, CONSTANTS, VARIABLES};
-use numbers::{Refusal, Verdict};
-use pair::ways::{Way, may_be_empty};
-use pair::{Pair, take_apart};
+pub use solving::solve;
 
 // The groups of a pair: the balanced rows, and those of each unbalanced constant.
 pub const GROUPS: usize = 1 + CONSTANTS;
@@ -40,6 +37,12 @@ pub struct Table {
     pub sizes: [usize; GROUPS],
     // whether a variable may be empty
     pub empties: bool,
+    pub ghost places_fit: { places ≤ limits.variables },
+    pub ghost constants_fit: { unbalanced ≤ limits.constants },
+    pub ghost constants_held: { unbalanced ≤ length constants },
+    pub ghost sizes_fit: { (g : ℕ) → get_or sizes g 0 ≤ most_rows g },
+    // no entry of a row is above the limit of net counts (document 02, R-9)
+    pub ghost entries_fit: { NoneAbove limits.net_count rows },
 }
 
 // How many rows a group may have: the balanced ones are group 0.
@@ -63,83 +66,5 @@ pub fn row_start(group: usize, row: usize) -> usize
         VARIABLES * row
     } else {
         VARIABLES * (BALANCED_ROWS + CONSTANT_ROWS * (group - 1) + row)
-    }
-}
-
-// What solving gives. The table says something only where the sides are accepted.
-#[derive(Clone, Copy)]
-pub struct Solved {
-    pub verdict: Verdict,
-    pub table: Table,
-}
-
-// A refusal, with a table that says nothing.
-fn refused(refusal: Refusal) -> Solved
-    ensures { result.verdict ≡ Verdict.Refused refusal }
-{
-    let table = Table {
-        variables: [0; VARIABLES],
-        places: 0,
-        constants: [0; CONSTANTS],
-        unbalanced: 0,
-        rows: [0; ROWS],
-        sizes: [0; GROUPS],
-        empties: false,
-    };
-    Solved {
-        verdict: Verdict::Refused(refusal),
-        table: table,
-    }
-}
-
-// The first four of six atoms: a table has room for four constants.
-fn first_four(atoms: [u8; VARIABLES]) -> [u8; CONSTANTS]
-    ensures { result ≡ take limits.constants atoms }
-{
-    [atoms[0], atoms[1], atoms[2], atoms[3]]
-}
-
-// The table of a pair whose variables may be empty or not, or number 12.
-fn solve_pair(pair: Pair, empties: bool) -> Solved
-    requires { Roomy pair }
-    ensures { SolvesPair pair empties result }
-{
-    let found = groups::find_groups(pair);
-    if !found.fits {
-        return refused(Refusal::Rows);
-    }
-    let variables = pair.variables;
-    let constants = pair.constants;
-    let variable_atoms = variables.atoms;
-    let gathered = constants.atoms;
-    let constant_atoms = first_four(gathered);
-    let rows = found.rows;
-    let sizes = found.sizes;
-    let table = Table {
-        variables: variable_atoms,
-        places: variables.count,
-        constants: constant_atoms,
-        unbalanced: constants.count,
-        rows: rows,
-        sizes: sizes,
-        empties: empties,
-    };
-    Solved {
-        verdict: Verdict::Accepted,
-        table: table,
-    }
-}
-
-// Solves two sides: the first of the numbers 7 to 12 and 19 that is given, or their table.
-pub fn solve(way: Way, left: &[u8], right: &[u8]) -> Solved
-    ensures { SolvesSides (mode_of way left.now right.now) left.now right.now result }
-{
-    let empties = may_be_empty(way);
-    let parted = take_apart(way, left, right);
-    let verdict = parted.verdict;
-    let pair = parted.pair;
-    match verdict {
-        Verdict::Refused(refusal) => refused(refusal),
-        Verdict::Accepted => solve_pair(pair, empties),
     }
 }

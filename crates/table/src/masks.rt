@@ -1,9 +1,9 @@
 // Which rows of a solved pair reach which variable, as masks (document 02, R-5).
-ghost use Rattle.std.specs.Prelude.{◌≡◌, ℕ, ◌<◌, ◌≤◌, get_or};
+ghost use Rattle.std.specs.Prelude.{◌≡◌, Bool, ℕ, ◌<◌, ◌≤◌, ◌^◌, get_or};
 ghost use Rattle.ac.specs.Limits.{limits};
 ghost use Rattle.ac.specs.Keys.{bit};
-ghost use Rattle.table.specs.Table.{most_rows, InRoom};
-ghost use Rattle.table.specs.Masks.{MarksIn, MarksAt, MissedBy, places_to_reach, rows_to_take, MasksOf, Coherent};
+ghost use Rattle.table.specs.Rows.{most_rows};
+ghost use Rattle.table.specs.Marks.{Tests, MarkedTo, MarksIn, MarksAt, MissedBy, places_to_reach, rows_to_take, SetsOf};
 
 use crate::choices::choices_of;
 use crate::{GROUPS, ROWS, Table, row_start};
@@ -31,6 +31,12 @@ pub struct Masks {
     // for each number g sets of such places, bit s for the set s: all that rows of the constants from number g
     // on, one of each, can reach together
     pub choices: [u64; GROUPS],
+    pub ghost places_fit: { places ≤ limits.variables },
+    pub ghost constants_fit: { unbalanced ≤ limits.constants },
+    pub ghost sizes_fit: { (g : ℕ) → get_or sizes g 0 ≤ most_rows g },
+    pub ghost unreached_fits: { unreached < 64 },
+    pub ghost must_fits: { must < 2 ^ limits.balanced_rows },
+    pub ghost sets: { SetsOf reaching sizes unbalanced places unreached choices },
 }
 
 // Whether bit `i` of a mask is set.
@@ -41,34 +47,37 @@ pub fn has_bit(mask: u64, i: usize) -> bool
     mask >> i & 1 == 1
 }
 
+// The numbers below an end that pass a test, as a mask whose bit i is number i.
+pub(crate) fn mask_where<F: Fn(usize) -> bool>(end: usize, passes: F) -> u64
+    requires end { end ≤ 64 }
+    requires callable { (i : ℕ) → i < end → F.pre passes i }
+    ensures { (test : ℕ → Bool) → Tests (F.post passes) end test → MarkedTo test end result }
+{
+    let mut mask = 0;
+    for i in 0..end {
+        if passes(i) {
+            mask |= 1 << i;
+        }
+    }
+    mask
+}
+
 // The mask of a group at a place, row by row.
 fn mask_at(rows: &[u8; ROWS], g: usize, size: usize, place: usize) -> u64
     requires { (g ≤ limits.constants) × (size ≤ most_rows g) × (place < limits.variables) }
     ensures { MarksIn rows.now g size place result }
 {
-    let mut mask: u64 = 0;
-    let mut i: usize = 0;
-    while i < size {
-        if rows[row_start(g, i) + place] > 0 {
-            mask |= 1 << i;
-        }
-        i += 1;
-    }
-    mask
+    mask_where(size, |row| rows[row_start(g, row) + place] > 0)
 }
 
 // The masks of all groups, and in each place after place.
 fn reaching_of(table: Table) -> [u64; MASKS]
-    requires { InRoom table }
-    ensures { (at : ℕ) → at < 30 → MarksAt table at (get_or result at 0) }
+    ensures { (at : ℕ) → at < 30 → MarksAt table.rows table.sizes at (get_or result at 0) }
 {
-    let mut reaching = [0u64; MASKS];
-    let mut at: usize = 0;
-    while at < MASKS {
-        let g = at / VARIABLES;
-        let size = table.sizes[g];
-        reaching[at] = mask_at(&table.rows, g, size, at % VARIABLES);
-        at += 1;
+    let mut reaching = [0; MASKS];
+    for (at, mask) in reaching.iter_mut().enumerate() {
+        let group = at / VARIABLES;
+        *mask = mask_at(&table.rows, group, table.sizes[group], at % VARIABLES);
     }
     reaching
 }
@@ -79,15 +88,7 @@ pub fn missed_by(reaching: &[u64; MASKS], places: usize, g: usize, rows: u64) ->
     ensures missed_by { MissedBy reaching.now places g rows result }
     ensures upper_bound { result < 64 }
 {
-    let mut missed: usize = 0;
-    let mut place: usize = 0;
-    while place < places {
-        if reaching[VARIABLES * g + place] & rows == 0 {
-            missed |= 1 << place;
-        }
-        place += 1;
-    }
-    missed
+    mask_where(places, |place| reaching[VARIABLES * g + place] & rows == 0) as usize
 }
 
 // How many places a listed selection has to reach: that of each variable, but none where a variable may be empty.
@@ -99,7 +100,6 @@ fn places_to_reach(table: Table) -> usize
 
 // The balanced rows that it has to take, as a mask: none, but all of them where a variable may be empty.
 fn rows_to_take(table: Table) -> u64
-    requires { InRoom table }
     ensures { result ≡ rows_to_take table.empties (get_or table.sizes 0 0) }
 {
     if table.empties {
@@ -109,25 +109,27 @@ fn rows_to_take(table: Table) -> u64
     }
 }
 
-// The masks of a solved pair, with what they say of sets of places.
-pub fn masks_of(table: Table) -> Masks
-    requires { InRoom table }
-    ensures masks_of { MasksOf table result }
-    ensures coherent { Coherent result }
-{
-    let reaching = reaching_of(table);
-    let places = places_to_reach(table);
-    let must = rows_to_take(table);
-    let unreached = missed_by(&reaching, places, 0, ALL_ROWS);
-    let sizes = table.sizes;
-    let choices = choices_of(&reaching, &sizes, table.unbalanced, places, unreached);
-    Masks {
-        places,
-        must,
-        unbalanced: table.unbalanced,
-        sizes,
-        reaching,
-        unreached,
-        choices,
+impl Masks {
+    ghost use Rattle.table.specs.Masks.{MasksOf};
+
+    // The masks of a solved pair, with what they say of sets of places.
+    pub fn of(table: Table) -> Masks
+        ensures { MasksOf table result }
+    {
+        let reaching = reaching_of(table);
+        let places = places_to_reach(table);
+        let must = rows_to_take(table);
+        let unreached = missed_by(&reaching, places, 0, ALL_ROWS);
+        let sizes = table.sizes;
+        let choices = choices_of(&reaching, &sizes, table.unbalanced, places, unreached);
+        Masks {
+            places,
+            must,
+            unbalanced: table.unbalanced,
+            sizes,
+            reaching,
+            unreached,
+            choices,
+        }
     }
 }

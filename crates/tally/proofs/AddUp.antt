@@ -1,10 +1,8 @@
 -- The counts add up: in a listing every block has one line of the three kinds, so B is L, U and F together.
-use Prim.Native.Nat.{ℕ, ◌+◌, ◌-◌, ◌^◌, ◌<◌}
-use native.Mathlib.Omega.{arith}
-use mathlib.Core.Path.{◌≡◌, refl}
+use Rattle.std.proofs.Common.{ℕ, ◌+◌, ◌-◌, ◌^◌, ◌<◌, arith, ◌≡◌, refl}
 use Rattle.tally.specs.Counts.{counted}
 use Rattle.tally.specs.declared.Line.{Line}
-use Rattle.tally.specs.declared.Line.TheVariants.{Listed, Counted, NoUnifier, Refused, RefusedNaming}
+use Rattle.tally.specs.declared.Line.TheVariants.{Listed, Counted, NoUnifier, Refused}
 use Rattle.tally.specs.declared.Totals.{Totals}
 
 -- B is L, U and F together
@@ -17,5 +15,4 @@ pub counted-add-up : (c : Totals) (line : Line) → ((n : ℕ) → line ≡ Coun
 counted-add-up c (Listed balanced constants lines more) listing few before = omega arith
 counted-add-up c (Counted n) listing few before = absurd (listing n refl)
 counted-add-up c NoUnifier listing few before = omega arith
-counted-add-up c (Refused n) listing few before = omega arith
-counted-add-up c (RefusedNaming n atom) listing few before = omega arith
+counted-add-up c (Refused n atom) listing few before = omega arith

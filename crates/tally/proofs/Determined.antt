@@ -1,5 +1,5 @@
 -- The tally's contract determines what it gives.
-use mathlib.Core.Path.{◌≡◌, sym, ◌∙◌}
+use Rattle.std.proofs.Common.{◌≡◌, sym, ◌∙◌}
 use Rattle.numbers.specs.Outcome.{Outcome}
 use Rattle.tally.specs.Line.{BlockFound, line_of}
 use Rattle.tally.specs.Counts.{Tallies, counted}

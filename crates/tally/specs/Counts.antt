@@ -1,10 +1,10 @@
 -- The counts, and the lines that stand at the end, of a listing (document 01, "The nightly program") and of a census
 -- (document 02, R-7).
-use Rattle.std.specs.Prelude.{ℕ, ◌+◌, ◌-◌, ◌^◌, min, ◌≡◌, Bool, cond, eqb}
+use Rattle.std.specs.Prelude.{ℕ, ◌+◌, ◌-◌, ◌^◌, min, ◌≡◌, Bool, if◌then◌else◌, ◌==◌}
 use Rattle.numbers.specs.Outcome.{Outcome}
 use Rattle.tally.specs.Line.{BlockFound, line_of}
 use Rattle.tally.specs.declared.Line.{Line}
-use Rattle.tally.specs.declared.Line.TheVariants.{Listed, Counted, NoUnifier, Refused, RefusedNaming}
+use Rattle.tally.specs.declared.Line.TheVariants.{Listed, Counted, NoUnifier, Refused}
 use Rattle.tally.specs.declared.Totals.{Totals}
 use Rattle.tally.specs.declared.Tallied.{Tallied}
 use Rattle.tally.specs.declared.Report.{Report}
@@ -33,9 +33,7 @@ counted c (Counted unifiers) =
     totals (one_more c.blocks) c.listed c.none c.refused (added c.unifiers unifiers)
 counted c NoUnifier =
     totals (one_more c.blocks) c.listed (one_more c.none) c.refused c.unifiers
-counted c (Refused n) =
-    totals (one_more c.blocks) c.listed c.none (one_more c.refused) c.unifiers
-counted c (RefusedNaming n atom) =
+counted c (Refused n atom) =
     totals (one_more c.blocks) c.listed c.none (one_more c.refused) c.unifiers
 
 -- What is said of a block, from the counts so far and what the questions returned for it.
@@ -47,7 +45,7 @@ pub record Tallies (c : Totals) (returned : Outcome BlockFound) (r : Tallied) : 
 
 -- Last comes `blocks B listed L none U refused F`, and for an empty input `nothing read`; in a census `total T`.
 abbrev pub last_of : Report → Totals → LastLine
-last_of (Listing way) c = cond (eqb c.blocks 0) NothingRead (Counts c)
+last_of (Listing way) c = if c.blocks == 0 then NothingRead else Counts c
 last_of Census c = Total c.unifiers
 
 -- If input remains, the line `too long` stands before the last line.

@@ -5,17 +5,17 @@
 
 #![tactic(auto)]
 
-ghost use Rattle.std.specs.Prelude.{◌≡◌, ◌+◌, ◌-◌, ◌%◌, ◌^◌, min};
+ghost use Rattle.std.specs.Prelude.{◌≡◌, ◌%◌, MatchResult};
 ghost use Rattle.numbers.specs.Numbers.{said_of};
-ghost use Rattle.tally.specs.Line.{told_list, told_number, told_block, line_of, line_of_said, constants_rows};
+ghost use Rattle.numbers.specs.Outcome.{refused};
+ghost use Rattle.tally.specs.Line.{told_block, line_of, line_of_said, constants_rows};
 ghost use Rattle.tally.specs.Counts.{one_more, counted, Tallies, last_of, closing_of};
 
-use block::ReadAnswer;
+use block::Sides;
 use numbers::Refusal;
 use pair::ways::Way;
-use solver::count::CountAnswer;
-use solver::page::PageAnswer;
-use solver::rows::RowsAnswer;
+use solver::page::Written;
+use solver::rows::Sizes;
 
 // What a program reports of a library: the list of each block by a way of listing, or a census, the number of unifiers
 // of each.
@@ -28,8 +28,11 @@ pub enum Report {
 // What the questions on a block's sides returned: Rows and Page for a listing, Count for a census.
 #[derive(Clone, Copy)]
 pub enum Answers {
-    Listing { rows: RowsAnswer, page: PageAnswer },
-    Census(CountAnswer),
+    Listing {
+        rows: Result<Sizes, Refusal>,
+        page: Result<Written, Refusal>,
+    },
+    Census(Result<u64, Refusal>),
 }
 
 // What a block's line says beside its place, and what stands after its page: `end` and the number of lines
@@ -45,10 +48,9 @@ pub enum Line {
     },
     Counted(u64),
     NoUnifier,
-    Refused(u8),
-    RefusedNaming {
+    Refused {
         number: u8,
-        atom: u8,
+        atom: Option<u8>,
     },
 }
 
@@ -86,67 +88,45 @@ pub struct Closing {
 }
 
 // What is said of a block, from the counts so far, what Read returned for it and what the other questions did.
-pub fn tally(counts: Totals, read: ReadAnswer, answers: Answers) -> Tallied
+pub fn tally(counts: Totals, read: Result<Sides, Refusal>, answers: Answers) -> Tallied
     ensures { Tallies counts (told_block read answers) result }
 {
     let line = line_of(read, answers);
-    let after = count_line(counts, line);
     Tallied {
         place: counts.blocks,
         line,
-        counts: after,
+        counts: count_line(counts, line),
     }
 }
 
 // The block's line: a refusal of Read decides, and then what was returned for its sides.
-fn line_of(read: ReadAnswer, answers: Answers) -> Line
+fn line_of(read: Result<Sides, Refusal>, answers: Answers) -> Line
     ensures { result ≡ line_of (told_block read answers) }
 {
-    if let ReadAnswer::Refused(refusal) = read {
-        return refused_line(refusal);
+    match found_line(read, answers) {
+        Ok(line) => line,
+        Err(refusal) => refused_line(refusal),
     }
+}
+
+// The line of a block that no question refuses. The first refusal decides, in the order Read, Rows, Page.
+fn found_line(read: Result<Sides, Refusal>, answers: Answers) -> Result<Line, Refusal>
+    ensures { MatchResult result (λ line. line ≡ line_of (told_block read answers))
+        (λ refusal. told_block read answers ≡ refused (said_of refusal)) }
+{
+    read?;
     match answers {
-        Answers::Listing { rows, page } => listed_line(rows, page),
-        Answers::Census(count) => counted_line(count),
-    }
-}
-
-// The line in a census: the number of unifiers, or why there is none.
-fn counted_line(count: CountAnswer) -> Line
-    ensures { result ≡ line_of (told_number count) }
-{
-    match count {
-        CountAnswer::Count { unifiers } => Line::Counted(unifiers),
-        CountAnswer::Refused(refusal) => refused_line(refusal),
-    }
-}
-
-// The line in a listing: the first refusal of Rows and Page decides, in this order.
-fn listed_line(rows: RowsAnswer, page: PageAnswer) -> Line
-    ensures { result ≡ line_of (told_list rows page) }
-{
-    match rows {
-        RowsAnswer::Refused(refusal) => refused_line(refusal),
-        RowsAnswer::Groups {
-            balanced,
-            constants: _,
-            first,
-            second,
-            third,
-            fourth,
-        } => match page {
-            PageAnswer::Refused(refusal) => refused_line(refusal),
-            PageAnswer::Page {
-                written,
-                more,
-                weighed: _,
-            } => Line::Listed {
-                balanced: balanced as u64,
-                of_constants: all_constants(first, second, third, fourth),
-                lines: written as u64,
-                more,
-            },
-        },
+        Answers::Listing { rows, page } => {
+            let sizes = rows?;
+            let page = page?;
+            Ok(Line::Listed {
+                balanced: sizes.balanced as u64,
+                of_constants: all_constants(sizes),
+                lines: page.written as u64,
+                more: page.more,
+            })
+        }
+        Answers::Census(count) => Ok(Line::Counted(count?)),
     }
 }
 
@@ -154,82 +134,71 @@ fn listed_line(rows: RowsAnswer, page: PageAnswer) -> Line
 fn refused_line(refusal: Refusal) -> Line
     ensures { result ≡ line_of_said (said_of refusal) }
 {
-    let number = numbers::number(refusal);
+    let number = u8::from(refusal);
     match refusal {
         Refusal::NoUnifier => Line::NoUnifier,
-        Refusal::NetCount(atom) => Line::RefusedNaming { number, atom },
-        _ => Line::Refused(number),
+        Refusal::NetCount(atom) => Line::Refused {
+            number,
+            atom: Some(atom),
+        },
+        _ => Line::Refused { number, atom: None },
     }
 }
 
 // The rows of all constants, as far as a number of 64 bits goes.
-fn all_constants(first: usize, second: usize, third: usize, fourth: usize) -> u64
-    ensures { result ≡ constants_rows first second third fourth }
+fn all_constants(sizes: Sizes) -> u64
+    ensures { result ≡ constants_rows sizes.first sizes.second sizes.third sizes.fourth }
 {
-    let two = sum(first as u64, second as u64);
-    let three = sum(two, third as u64);
-    sum(three, fourth as u64)
-}
-
-// The sum of two numbers, or the largest number of 64 bits where it would be more.
-fn sum(a: u64, b: u64) -> u64
-    ensures { result ≡ min (a + b) (2 ^ 64 - 1) }
-{
-    if b < u64::MAX - a {
-        return a + b;
-    }
-    u64::MAX
+    (sizes.first as u64)
+        .saturating_add(sizes.second as u64)
+        .saturating_add(sizes.third as u64)
+        .saturating_add(sizes.fourth as u64)
 }
 
 // The counts after a block with this line: each is counted by its own kind of line.
 fn count_line(counts: Totals, line: Line) -> Totals
     ensures { result ≡ counted counts line }
 {
-    let mut after = counts;
-    after.blocks = one_more(counts.blocks);
+    let after = Totals {
+        blocks: one_more(counts.blocks),
+        ..counts
+    };
     match line {
-        Line::Listed {
-            balanced: _,
-            of_constants: _,
-            lines: _,
-            more: _,
-        } => {
-            after.listed = one_more(counts.listed);
-        }
-        Line::Counted(unifiers) => {
-            after.unifiers = sum(counts.unifiers, unifiers);
-        }
-        Line::NoUnifier => {
-            after.none = one_more(counts.none);
-        }
-        Line::Refused(_) => {
-            after.refused = one_more(counts.refused);
-        }
-        Line::RefusedNaming { number: _, atom: _ } => {
-            after.refused = one_more(counts.refused);
-        }
+        Line::Listed { .. } => Totals {
+            listed: one_more(counts.listed),
+            ..after
+        },
+        Line::Counted(unifiers) => Totals {
+            unifiers: counts.unifiers.saturating_add(unifiers),
+            ..after
+        },
+        Line::NoUnifier => Totals {
+            none: one_more(counts.none),
+            ..after
+        },
+        Line::Refused { .. } => Totals {
+            refused: one_more(counts.refused),
+            ..after
+        },
     }
-    after
 }
 
 // One more, as far as a number of 64 bits goes.
 fn one_more(count: u64) -> u64
     ensures { result ≡ one_more count }
 {
-    sum(count, 1)
+    count.saturating_add(1)
 }
 
 // The last line: in a census the total, in a listing the counts, where some block was read.
 fn last_line(report: Report, counts: Totals) -> LastLine
     ensures { result ≡ last_of report counts }
 {
-    if let Report::Census = report {
-        return LastLine::Total(counts.unifiers);
+    match report {
+        Report::Census => LastLine::Total(counts.unifiers),
+        Report::Listing(_) if counts.blocks == 0 => LastLine::NothingRead,
+        Report::Listing(_) => LastLine::Counts(counts),
     }
-    if counts.blocks == 0 {
-        return LastLine::NothingRead;
-    }
-    LastLine::Counts(counts)
 }
 
 // The lines at the end, from the counts and whether input remains after the last block that was read.

@@ -128,7 +128,3 @@ decimal_short (suc k) n h =
 -- a 64-bit number has at most 20 digits
 pub decimal_fits : (n : ℕ) → n < 2 ^ 64 → length (decimal n) ≤ 20
 decimal_fits n h = decimal_short 19 n (omega arith)
-
--- and so have the digits that `io` finds of it
-pub digits_fit : (n k : ℕ) {text : List ℕ} → n < 2 ^ 64 → IsDigitCount 10 1 n k → text ≡ last_digits 10 k n → length text ≤ 20
-digits_fit n k h fewest e = omega (arith, ap length (e ∙ digits_decimal k n fewest), decimal_fits n h)

@@ -2,7 +2,7 @@
 use Prim.Native.Nat.{ℕ, zero, suc, ◌+◌, ◌-◌, ◌*◌, ◌<◌, ◌≤◌}
 use native.Mathlib.Omega.{arith}
 use native.Mathlib.Decide.{dec_lt}
-use mathlib.Core.Path.{◌≡◌, refl, ap, sym, ◌∙◌}
+use mathlib.Core.Path.{◌≡◌, ap, sym, ◌∙◌}
 use mathlib.Core.Bool.{Bool, cond}
 use mathlib.Core.List.{List, [], ◌∷◌, ◌++◌, append_assoc, append-nil}
 use lib.ListN.{length, length-append, length-take, length-drop, take, drop, get_or}
@@ -71,11 +71,6 @@ further_short (a ∷ atoms) (suc n) bytes =
       further_short
           atoms n (λ i. bytes (suc i)),
     )
-
--- a value without atoms has no text
-pub joined_none : (atoms : List ℕ) → length atoms ≡ 0 → [] ≡ joined atoms
-joined_none [] h = refl
-joined_none (a ∷ atoms) h = absurd (omega arith)
 
 -- the atoms after the first
 unfoldable pub tail : List ℕ → List ℕ

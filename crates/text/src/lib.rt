@@ -13,7 +13,7 @@ ghost use Rattle.ac.specs.Values.{Binding, laid_out};
 ghost use Rattle.buffer.specs.Put.{Put};
 ghost use Rattle.text.specs.Text.{name, further, joined, binding_of, bound, spaced, substitution};
 
-use buffer::{least, put_bytes, wide};
+use buffer::put_bytes;
 
 // The number in decimal.
 pub fn put_number(out: &mut [u8], at: usize, number: u64) -> usize
@@ -31,7 +31,7 @@ fn put_lettered(out: &mut [u8], at: usize, letter: u8, number: u8) -> usize
     ensures { Put out.old at (letter ∷ decimal number) result out.new }
 {
     out[at] = letter;
-    put_number(out, at + 1, wide(number) as u64)
+    put_number(out, at + 1, u64::from(number))
 }
 
 // The name of an atom: v, c or n and its number.
@@ -39,12 +39,10 @@ pub fn put_name(out: &mut [u8], at: usize, atom: u8) -> usize
     requires { at + 24 ≤ length out.old }
     ensures { Put out.old at (name atom) result out.new }
 {
-    if atom < 64 {
-        put_lettered(out, at, b'v', atom)
-    } else if atom < 192 {
-        put_lettered(out, at, b'c', atom - 64)
-    } else {
-        put_lettered(out, at, b'n', atom - 192)
+    match atom {
+        0..=63 => put_lettered(out, at, b'v', atom),
+        64..=191 => put_lettered(out, at, b'c', atom - 64),
+        192.. => put_lettered(out, at, b'n', atom - 192),
     }
 }
 
@@ -63,10 +61,8 @@ fn put_rest(out: &mut [u8], at: usize, atoms: &[u8]) -> usize
     ensures { Put out.old at (further atoms.now) result out.new }
 {
     let mut next = at;
-    let mut i = 0;
-    while i < atoms.len() {
-        next = put_further(out, next, atoms[i]);
-        i += 1;
+    for atom in atoms {
+        next = put_further(out, next, *atom);
     }
     next
 }
@@ -76,11 +72,11 @@ pub fn put_value(out: &mut [u8], at: usize, atoms: &[u8]) -> usize
     requires { at + 5 * length atoms.now + 24 ≤ length out.old }
     ensures { Put out.old at (joined atoms.now) result out.new }
 {
-    if atoms.len() == 0 {
+    let [first, rest @ ..] = atoms else {
         return at;
-    }
-    let next = put_name(out, at, atoms[0]);
-    put_rest(out, next, &atoms[1..])
+    };
+    let next = put_name(out, at, *first);
+    put_rest(out, next, rest)
 }
 
 // A variable with its value, from its bytes in the layout of Values: the variable's byte, a count and the
@@ -88,25 +84,22 @@ pub fn put_value(out: &mut [u8], at: usize, atoms: &[u8]) -> usize
 fn put_bound(out: &mut [u8], at: usize, bytes: &[u8]) -> usize
     requires bytes_nonzero { 0 < length bytes.now }
     requires bytes_in_bounds { at + 5 * length bytes.now + 30 ≤ length out.old }
-    ensures { Put out.old at (bound (binding_of bytes.now)) result out.new }
+    ensures put { Put out.old at (bound (binding_of bytes.now)) result out.new }
+    ensures upper_bound { result ≤ at + 5 * length bytes.now }
 {
     let next = put_name(out, at, bytes[0]);
     out[next] = b'=';
-    let skipped = least(2, bytes.len());
-    put_value(out, next + 1, &bytes[skipped..])
+    put_value(out, next + 1, &bytes[bytes.len().min(2)..])
 }
 
-// The place after the binding that begins at `from`, or the end where the bytes run out before.
-fn binding_end(values: &[u8], from: usize) -> usize
-    requires { from < length values.now }
-    ensures { result ≡ min (from + (2 + get_or values.now (from + 1) 0)) (length values.now) }
+// How many bytes the first binding has: its variable, its count and its atoms, or all where the bytes run out before.
+fn binding_length(values: &[u8]) -> usize
+    ensures { result ≡ min (2 + get_or values.now 1 0) (length values.now) }
 {
-    let left = values.len() - from;
-    if left < 2 {
-        return values.len();
+    match values {
+        [_, count, ..] => values.len().min(2 + usize::from(*count)),
+        _ => values.len(),
     }
-    let count = wide(values[from + 1]);
-    from + least(2 + count, left)
 }
 
 // Further variables with their values, each after a space.
@@ -117,12 +110,12 @@ fn put_spaced(out: &mut [u8], at: usize, values: &[u8]) -> usize
     ensures upper_bound { result ≤ at + 6 * length values.now }
 {
     let mut next = at;
-    let mut from = 0;
-    while from < values.len() {
-        let end = binding_end(values, from);
+    let mut rest = values;
+    while !rest.is_empty() {
+        let (binding, others) = rest.split_at(binding_length(rest));
         out[next] = b' ';
-        next = put_bound(out, next + 1, &values[from..end]);
-        from = end;
+        next = put_bound(out, next + 1, binding);
+        rest = others;
     }
     next
 }
@@ -134,11 +127,11 @@ pub fn put_substitution(out: &mut [u8], at: usize, values: &[u8]) -> usize
         → Put out.old at (substitution bs) result out.new }
     ensures upper_bound { result ≤ at + 6 * length values.now + 1 }
 {
-    if values.len() == 0 {
+    if values.is_empty() {
         out[at] = b'-';
         return at + 1;
     }
-    let end = binding_end(values, 0);
-    let next = put_bound(out, at, &values[..end]);
-    put_spaced(out, next, &values[end..])
+    let (binding, others) = values.split_at(binding_length(values));
+    let next = put_bound(out, at, binding);
+    put_spaced(out, next, others)
 }

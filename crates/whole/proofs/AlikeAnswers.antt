@@ -5,6 +5,7 @@ use Prim.Native.Nat.{ℕ}
 use mathlib.Core.Path.{◌≡◌, sym, ap, subst, subst₂}
 use mathlib.Core.List.{List}
 use lib.ListN.{length}
+use Rattle.std.specs.Prelude.{Result}
 use Rattle.ac.specs.Lists.{receives}
 use Rattle.ac.specs.Limits.{limits}
 use Rattle.ac.specs.Pair.{Mode}
@@ -16,6 +17,7 @@ use Rattle.ac.specs.Pages.{page, more}
 use Rattle.ac.specs.Weighed.{weighed}
 use Rattle.numbers.specs.Order.{rows_numbers, page_numbers, values_numbers, count_numbers}
 use Rattle.numbers.specs.Outcome.{Outcome}
+use Rattle.numbers.specs.declared.Refusal.{Refusal}
 use Rattle.numbers.proofs.Alike.{Agree, promise_carried, outcomes_agree}
 use Rattle.pair.specs.Given.{LowestFar, PairGiven}
 use Rattle.list.specs.Given.{ListGiven}
@@ -26,10 +28,8 @@ use Rattle.solver.specs.Page as of_page
 use Rattle.solver.specs.Values.{told_values, ValuesGiven, ValuesGives, ValuesPromise, values_of, values}
 use Rattle.solver.specs.Values as of_values
 use Rattle.solver.specs.Count.{told_count, CountGives, CountPromise, as_listed}
-use Rattle.solver.specs.declared.rows.RowsAnswer.{RowsAnswer}
-use Rattle.solver.specs.declared.page.PageAnswer.{PageAnswer}
-use Rattle.solver.specs.declared.values.ValuesAnswer.{ValuesAnswer}
-use Rattle.solver.specs.declared.count.CountAnswer.{CountAnswer}
+use Rattle.solver.specs.declared.rows.Sizes.{Sizes}
+use Rattle.solver.specs.declared.page.Written.{Written}
 use Rattle.solver.proofs.Determined.{one_rows, one_page, one_values, one_count, rows_determined, page_determined, values_determined, count_determined}
 use Rattle.whole.specs.Alike.{Alike, SameAnswers}
 use Rattle.whole.proofs.Alike.{alike_symmetric, lowest_alike}
@@ -182,21 +182,21 @@ module _ {M M' : Mode} {L R L' R' : List ℕ} (alike : Alike limits M L R M' L' 
   count_carried = promise_carried count_agree
 
   -- .. so the answers that the functions return are identical, too.
-  pub rows_answers : {out : List ℕ} {a a' : RowsAnswer} {b b' : List ℕ} → RowsPromise M L R out (told_rows a) b
+  pub rows_answers : {out : List ℕ} {a a' : Result Sizes Refusal} {b b' : List ℕ} → RowsPromise M L R out (told_rows a) b
       → RowsPromise M' L' R' out (told_rows a') b'
       → (a ≡ a') × (b ≡ b')
   rows_answers promise promise' = rows_determined (rows_carried promise) promise'
 
-  pub page_answers : {begin : Beginning} {wanted : ℕ} {out : List ℕ} {a a' : PageAnswer} {b b' : List ℕ}
+  pub page_answers : {begin : Beginning} {wanted : ℕ} {out : List ℕ} {a a' : Result Written Refusal} {b b' : List ℕ}
       → PagePromise M L R begin wanted out (told_page a) b → PagePromise M' L' R' begin wanted out (told_page a') b'
       → (a ≡ a') × (b ≡ b')
   page_answers promise promise' = page_determined (page_carried promise) promise'
 
-  pub values_answers : {key : ℕ} {out : List ℕ} {a a' : ValuesAnswer} {b b' : List ℕ}
+  pub values_answers : {key : ℕ} {out : List ℕ} {a a' : Result ℕ Refusal} {b b' : List ℕ}
       → ValuesPromise M L R key out (told_values a) b → ValuesPromise M' L' R' key out (told_values a') b'
       → (a ≡ a') × (b ≡ b')
   values_answers promise promise' = values_determined (values_carried promise) promise'
 
-  pub count_answers : {a a' : CountAnswer} → CountPromise M L R (told_count a) → CountPromise M' L' R' (told_count a')
+  pub count_answers : {a a' : Result ℕ Refusal} → CountPromise M L R (told_count a) → CountPromise M' L' R' (told_count a')
       → a ≡ a'
   count_answers promise promise' = count_determined (count_carried promise) promise'

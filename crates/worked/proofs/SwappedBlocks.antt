@@ -2,10 +2,10 @@
 -- the block of v0 and v1+c0 and the block of v1+c0 and v0 get different answers.
 use Prim.Native.Nat.{ℕ}
 use native.Mathlib.Omega.{arith}
-use mathlib.Core.Path.{◌≡◌, refl, ap, subst₂}
+use mathlib.Core.Path.{refl, subst₂}
 use mathlib.Core.List.Memᴰ
 use mathlib.Core.List.{List, [], ◌∷◌}
-use lib.ListN.{get_or, replicate}
+use lib.ListN.{replicate}
 use Rattle.ac.specs.Term.{Term, atom, plus}
 use Rattle.ac.specs.Pair.{unifying}
 use Rattle.block.specs.Front.{two, Writes}
@@ -72,8 +72,7 @@ sides_differ same =
     let out : List ℕ = replicate values_buffer 0 in
     let equal =
     (same.from_values (one_values out (omega arith)).meets (other_values out (omega arith)).meets).1 in
-    let first : ◌≡◌ {A = ℕ} 0 1 = ap (λ (bytes : List ℕ). get_or bytes 0 0) equal in
-    omega arith
+    cc equal
 
 -- The two blocks do not get the same answers, whatever Read was asked and lent.
 pub swapped_blocks_differ : {L R L' R' : List ℕ} → Reads one_way L R → Reads other_way L' R'

@@ -106,7 +106,7 @@ module _ (M : Mode) (L R : List ℕ) (passes : within M L R ≡ true) where
       refuted asked shared.is_variable there test
     where
       refuted : {s v t : Bool} → s ≡ true → v ≡ true → t ≡ true → not (s && v && t) ≡ true → ⊥
-      refuted is_s is_v is_t e = let z : ◌≡◌ {A = ℕ} 0 1 = cc (rw (is_s, is_v, is_t) at e) in omega arith
+      refuted is_s is_v is_t e = cc (rw (is_s, is_v, is_t) at e)
 
   -- no row of the table is given
   pub never_given : {n : ℕ} → PairGiven limits M L R n → ⊥

@@ -1,6 +1,4 @@
 -- Where a question's one answer is known, a program that answers otherwise does not meet the promise there.
-use Prim.Native.Nat.{ℕ}
-use native.Mathlib.Omega.{arith}
 use mathlib.Core.Path.{◌≡◌, sym, ◌∙◌}
 use Rattle.numbers.specs.Outcome.{Outcome, given}
 use Rattle.worked.specs.Questions.{Question}
@@ -29,7 +27,7 @@ module _ {Q : Question} (program : Program Q) where
       → Answers Q asked lent (given values) exit → RefusesEverything program → MeetsAt program asked lent → ⊥
   refusing_fails {asked} {lent} right refuses =
       other_outcome_fails right
-      (λ same. let z : ◌≡◌ {A = ℕ} 0 1 = cc ((refuses asked lent).1, same) in omega arith)
+      (λ same. cc ((refuses asked lent).1, same))
 
   -- one result for two questions with different answers
   pub constant_fails : {asked asked' : Q.Asked} {lent lent' : Q.Lent} {outcome outcome' : Outcome Q.Values}

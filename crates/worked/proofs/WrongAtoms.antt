@@ -44,7 +44,7 @@ module _ {Q : Question} (program : Program Q) {asked : Q.Asked} {lent exit : Q.L
   alone_fails returns =
       other_outcome_fails program right
       (λ e. let same : option.none ≡ some atom = same_atom (subst (λ o. o ≡ refused (said_of (NetCount atom))) returns e)
-      in let z : ◌≡◌ {A = ℕ} 0 1 = cc same in omega arith)
+      in cc same)
 
 -- 9·v0+9·c0 and v1: the lowest atom is v0, the highest c0
 abbrev pair : {Also : Type 0} → Also → SidesAsked Also
@@ -56,7 +56,7 @@ from_start = pair (record { begin = start; wanted = 0 })
 
 -- an atom beside another number than 10 is said where no atom may be
 no_atom_there : {atom : ℕ} {o : Option ℕ} → o ≡ some atom → o ≡ option.none → ⊥
-no_atom_there some_atom none = let z : ◌≡◌ {A = ℕ} 0 1 = cc (some_atom, none) in omega arith
+no_atom_there some_atom none = cc (some_atom, none)
 
 module _ (program : Program rows_question) where
   module _ {out : List ℕ} (enough : rows_buffer ≤ length out) where

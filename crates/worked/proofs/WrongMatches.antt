@@ -2,11 +2,11 @@
 -- wrong programs for them.
 use Prim.Native.Nat.{ℕ, ◌≤◌}
 use native.Mathlib.Omega.{arith}
-use mathlib.Core.Path.{◌≡◌, refl, sym, ap}
+use mathlib.Core.Path.{◌≡◌, refl, sym}
 use mathlib.Core.Bool.{false}
 use mathlib.Core.List.Memᴰ
 use mathlib.Core.List.{List, [], ◌∷◌}
-use lib.ListN.{length, get_or, replicate}
+use lib.ListN.{length, replicate}
 use Rattle.ac.specs.Lists.{receives}
 use Rattle.ac.specs.Limits.{limits}
 use Rattle.ac.specs.Pair.{matching}
@@ -141,7 +141,7 @@ module _ (program : Program (page_question_by Matching)) where
   pub match_page_nothing_fails : WritesNothing program → MeetsAt program first_page (replicate 200 0) → ⊥
   match_page_nothing_fails =
       wrong.writing_nothing_fails program (page_of_match (replicate 200 0) (omega arith))
-      (λ e. let z : ◌≡◌ {A = ℕ} 0 16777216 = ap (λ (b : List ℕ). get_or b 0 0) e in omega arith)
+      (λ e. cc e)
 
 module _ (program : Program (values_question_by Matching)) where
   pub match_values_refusing_fails : {out : List ℕ} → values_buffer ≤ length out → RefusesEverything program
@@ -152,4 +152,4 @@ module _ (program : Program (values_question_by Matching)) where
   pub match_values_nothing_fails : WritesNothing program → MeetsAt program (asked 16777216) (replicate values_buffer 0) → ⊥
   match_values_nothing_fails =
       wrong.writing_nothing_fails program (values_of_match (replicate values_buffer 0) (omega arith))
-      (λ e. let z : ◌≡◌ {A = ℕ} 0 1 = ap (λ (b : List ℕ). get_or b 1 0) e in omega arith)
+      (λ e. cc e)

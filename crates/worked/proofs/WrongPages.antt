@@ -4,7 +4,7 @@ use native.Mathlib.Omega.{arith}
 use mathlib.Core.Path.{◌≡◌, refl, ap, subst}
 use mathlib.Core.Bool.{Bool, false}
 use mathlib.Core.List.{List, [], ◌∷◌, Memᴰ}
-use lib.ListN.{length, get_or, replicate}
+use lib.ListN.{length, replicate}
 use Rattle.ac.specs.Lists.{receives}
 use Rattle.ac.specs.Pair.{unifying}
 use Rattle.ac.specs.Search.{groups}
@@ -65,7 +65,7 @@ module _ (program : Program page_question) where
     pub then_fifteen_fails : ThenFifteen program → MeetsAt program (asked 2 (after 6)) out → ⊥
     then_fifteen_fails claims =
         wrong.other_outcome_fails program (six_follow out enough)
-        (λ e. let z : ◌≡◌ {A = ℕ} 0 1 = cc (e, claims (asked 2 (after 6)) out 6 refl) in omega arith)
+        (λ e. cc (e, claims (asked 2 (after 6)) out 6 refl))
 
     -- It invents the number of keys, that more follow, or what was weighed: pair 2 has seven keys, of sixteen
     -- candidates, and no more follow.
@@ -81,4 +81,4 @@ module _ (program : Program page_question) where
   pub writing_nothing_fails : WritesNothing program → MeetsAt program (asked 2 start) (replicate 200 0) → ⊥
   writing_nothing_fails =
       wrong.writing_nothing_fails program (seven_keys (replicate 200 0) (omega arith))
-      (λ e. let z : ◌≡◌ {A = ℕ} 0 6 = ap (λ (b : List ℕ). get_or b 0 0) e in omega arith)
+      (λ e. cc e)

@@ -2,7 +2,7 @@
 use Prim.Native.Nat.{ℕ, ◌≤◌}
 use native.Mathlib.Omega.{arith}
 use mathlib.Core.Path.{◌≡◌, ap}
-use lib.ListN.{length, get_or, replicate}
+use lib.ListN.{length, replicate}
 use Rattle.numbers.specs.Outcome.{given}
 use Rattle.numbers.proofs.Promises.{same_values}
 use Rattle.block.specs.Read.{SideLengths}
@@ -53,4 +53,4 @@ module _ (program : Program read_question) where
   pub writing_nothing_fails : WritesNothing program → MeetsAt program first zeros → ⊥
   writing_nothing_fails =
       wrong.writing_nothing_fails program (block_0_gives zeros (omega arith) (omega arith))
-      (λ e. let z : ◌≡◌ {A = ℕ} 0 1 = ap (λ (b : TwoBuffers). get_or b.left 1 0) e in omega arith)
+      (λ e. cc e)

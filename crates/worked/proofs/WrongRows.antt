@@ -4,7 +4,7 @@ use Prim.Native.Nat.{ℕ, ◌≤◌}
 use native.Mathlib.Omega.{arith}
 use mathlib.Core.Path.{◌≡◌, ap}
 use mathlib.Core.List.{List, [], ◌∷◌}
-use lib.ListN.{length, get_or, replicate}
+use lib.ListN.{length, replicate}
 use Rattle.numbers.specs.Outcome.{given}
 use Rattle.numbers.proofs.Promises.{same_values}
 use Rattle.solver.specs.Rows.{sizes_as, rows_buffer}
@@ -52,4 +52,4 @@ module _ (program : Program rows_question) where
   pub writing_nothing_fails : WritesNothing program → MeetsAt program (asked 2) (replicate rows_buffer 0) → ⊥
   writing_nothing_fails =
       wrong.writing_nothing_fails program (four_rows (replicate rows_buffer 0) (omega arith))
-      (λ e. let z : ◌≡◌ {A = ℕ} 0 1 = ap (λ (b : List ℕ). get_or b 1 0) e in omega arith)
+      (λ e. cc e)

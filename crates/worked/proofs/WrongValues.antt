@@ -2,10 +2,10 @@
 -- promise. Values never gives 15.
 use Prim.Native.Nat.{ℕ, ◌≤◌}
 use native.Mathlib.Omega.{arith}
-use mathlib.Core.Path.{◌≡◌, refl, ap}
+use mathlib.Core.Path.{◌≡◌, refl}
 use mathlib.Core.List.Memᴰ
 use mathlib.Core.List.{List, [], ◌∷◌}
-use lib.ListN.{length, get_or, replicate}
+use lib.ListN.{length, replicate}
 use Rattle.numbers.specs.Outcome.{Outcome, given}
 use Rattle.solver.specs.Values.{values_buffer}
 use Rattle.worked.specs.Questions.{values_question}
@@ -46,4 +46,4 @@ module _ (program : Program values_question) where
   pub writing_nothing_fails : WritesNothing program → MeetsAt program (of_pair 4 0) (replicate values_buffer 0) → ⊥
   writing_nothing_fails =
       wrong.writing_nothing_fails program (two_values (replicate values_buffer 0) (omega arith))
-      (λ e. let z : ◌≡◌ {A = ℕ} 0 1 = ap (λ (b : List ℕ). get_or b 1 0) e in omega arith)
+      (λ e. cc e)

@@ -1,9 +1,9 @@
 -- Document 01's wrong programs, as programs for Write: at the sides of its example none of them meets the promise.
 use Prim.Native.Nat.{ℕ, ◌≤◌}
 use native.Mathlib.Omega.{arith}
-use mathlib.Core.Path.{◌≡◌, ap, sym, ◌∙◌}
+use mathlib.Core.Path.{◌≡◌, sym, ◌∙◌}
 use mathlib.Core.List.{List, [], ◌∷◌}
-use lib.ListN.{length, get_or, replicate}
+use lib.ListN.{length, replicate}
 use Rattle.writing.specs.Written.{block_of_terms}
 use Rattle.worked.specs.Questions.{SidesAsked, write_question}
 use Rattle.worked.specs.Programs.{Program, MeetsAt, RefusesEverything, ConstantResult, WritesNothing}
@@ -28,7 +28,7 @@ module _ (program : Program write_question) where
     pub constant_fails : ConstantResult program → MeetsAt program (example 0) lent → MeetsAt program empty lent → ⊥
     constant_fails =
         wrong.constant_fails program (block_0_written lent enough) (empty_refused lent enough)
-        (λ e. let z : ◌≡◌ {A = ℕ} 0 1 = cc e in omega arith)
+        (λ e. cc e)
 
     -- It writes one block whatever is asked: the example has others as block 0 and as block 1.
     pub one_block_fails : (program (example 0) lent).exit ≡ (program (example 1) lent).exit
@@ -37,11 +37,10 @@ module _ (program : Program write_question) where
     one_block_fails same meets meets' =
         let zero = ((block_0_written lent enough).alone _ _ meets).1 in
         let one = ((block_1_written lent enough).alone _ _ meets').1 in
-        let z : ◌≡◌ {A = ℕ} 0 1 = ap (λ (b : List ℕ). get_or b 1 0) (sym zero ∙ same ∙ one) in
-        omega arith
+        cc (sym zero ∙ same ∙ one)
 
   -- It writes nothing: where zeros are lent, the length of the left term is missing.
   pub writing_nothing_fails : WritesNothing program → MeetsAt program (example 0) (replicate 512 0) → ⊥
   writing_nothing_fails =
       wrong.writing_nothing_fails program (block_0_written (replicate 512 0) (omega arith))
-      (λ e. let z : ◌≡◌ {A = ℕ} 0 3 = ap (λ (b : List ℕ). get_or b 2 0) e in omega arith)
+      (λ e. cc e)

@@ -1,13 +1,8 @@
 -- Which sides Write accepts: those of 1 to 64 atoms, the left of v0 to v31 and constants, the right of v32 to v63 and
 -- constants.
-use Prim.Native.Nat.{ℕ, ◌≤◌, ◌<◌}
-use native.Mathlib.Omega.{arith}
+use Rattle.std.proofs.Common.{ℕ, ◌≤◌, ◌<◌, arith, ◌≡◌, refl, false, inl, inr, List, length}
 use native.Mathlib.Decide.{dec_lt}
-use mathlib.Core.Path.{◌≡◌, refl}
-use mathlib.Core.Bool.{false}
-use mathlib.Core.Logic.{inl, inr}
-use mathlib.Core.List.{List, Memᴰ}
-use lib.ListN.{length}
+use mathlib.Core.List.{Memᴰ}
 use Rattle.numbers.specs.First.{NoneOf}
 use Rattle.numbers.specs.Order.{write_numbers}
 use Rattle.numbers.proofs.Carried.{elsewhere, its_member, none_given}

@@ -1,10 +1,6 @@
 -- A block put into a buffer piece by piece is the block of its number and its two terms.
-use Prim.Native.Nat.{ℕ, ◌-◌, ◌≤◌, ◌%◌}
-use native.Mathlib.Omega.{arith}
-use mathlib.Core.Path.{◌≡◌, ap, ap₂, ◌∙◌}
-use mathlib.Core.List.{List, [], ◌∷◌, ◌++◌, append-nil}
-use lib.ListN.{length, take, replicate, length-append, length-replicate, drop_of_length-le}
-use lib.Seq.{take_at}
+use Rattle.std.proofs.Common.{ℕ, ◌-◌, ◌≤◌, ◌%◌, arith, ◌≡◌, ap, ap₂, ◌∙◌, List, [], ◌∷◌, ◌++◌, append-nil, length, take, replicate, length-append, drop_of_length-le, take_at}
+use lib.ListN.{length-replicate}
 use Rattle.ac.specs.Lists.{sum}
 use Rattle.block.specs.Block.{check_of_bytes}
 use Rattle.buffer.specs.Put.{Put}

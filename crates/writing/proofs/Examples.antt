@@ -1,11 +1,6 @@
 -- Blocks and refusals of Write, worked by hand.
-use Prim.Native.Nat.{ℕ, ◌≤◌}
-use native.Mathlib.Omega.{arith}
-use mathlib.Core.Path.{◌≡◌, refl}
-use mathlib.Core.Logic.{inl, inr}
+use Rattle.std.proofs.Common.{ℕ, ◌≤◌, arith, ◌≡◌, refl, inl, inr, List, [], ◌∷◌, ◌++◌, length, replicate}
 use mathlib.Core.List.Memᴰ
-use mathlib.Core.List.{List, [], ◌∷◌, ◌++◌}
-use lib.ListN.{length, replicate}
 use Rattle.numbers.specs.Numbers.{said_of}
 use Rattle.numbers.specs.Outcome.{refused}
 use Rattle.numbers.specs.declared.Refusal.TheVariants.{SideLength, NoAtom, ShortBuffer, WrongSide}

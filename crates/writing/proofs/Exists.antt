@@ -1,10 +1,7 @@
 -- For all sides, every number and every buffer something meets Write's promise.
-use Prim.Native.Nat.{ℕ}
+use Rattle.std.proofs.Common.{ℕ, refl, ⊎_elim, List, length}
 use native.Mathlib.Decide.{dec_le, dec_lt}
-use mathlib.Core.Path.{refl}
-use mathlib.Core.Logic.{⊎_elim}
-use mathlib.Core.List.{List, Memᴰ}
-use lib.ListN.{length}
+use mathlib.Core.List.{Memᴰ}
 use Rattle.ac.specs.Limits.{limits}
 use Rattle.numbers.specs.Order.{write_numbers}
 use Rattle.numbers.specs.Outcome.{Outcome, is_refused, is_given}

@@ -1,11 +1,6 @@
 -- Laws of a side in front notation, one atom after the other.
-use Prim.Native.Nat.{ℕ, suc, ◌+◌, ◌*◌, ◌-◌, ◌<◌}
-use native.Mathlib.Numerals.{add-one}
-use native.Mathlib.Omega.{arith}
-use mathlib.Core.Path.{◌≡◌, refl, ap, sym, ◌∙◌}
-use mathlib.Core.List.{List, [], ◌∷◌, ◌++◌}
-use lib.ListN.{length, get_or, take}
-use lib.Seq.{take-suc, take_all}
+use Rattle.std.proofs.Common.{◌≡◌, ℕ, zero, suc, ◌+◌, ◌*◌, ◌<◌, List, [], ◌∷◌, ◌++◌, length, get_or, take, drop, refl, ap, sym, ◌∙◌, arith}
+use Rattle.std.proofs.lemmas.List.{take_more}
 use Rattle.writing.specs.Written.{front}
 
 -- 128 and an atom, for each of the atoms
@@ -18,31 +13,25 @@ paired_more : (atoms : List ℕ) (a : ℕ) → paired (atoms ++ a ∷ []) ≡ pa
 paired_more [] a = refl
 paired_more (b ∷ rest) a = ap (λ (l : List ℕ). 128 ∷ b ∷ l) (paired_more rest a)
 
--- a side is such atoms, and then the last
-front_last : (atoms : List ℕ) (a : ℕ) → front (atoms ++ a ∷ []) ≡ paired atoms ++ a ∷ []
-front_last [] a = refl
-front_last (b ∷ []) a = refl
-front_last (b ∷ c ∷ rest) a = ap (λ (l : List ℕ). 128 ∷ b ∷ l) (front_last (c ∷ rest) a)
+-- n atoms are 2 n bytes
+pub length_paired : (atoms : List ℕ) → length (paired atoms) ≡ 2 * length atoms
+length_paired [] = refl
+length_paired (a ∷ rest) = omega (arith, length_paired rest)
 
-module _ (atoms : List ℕ) (i : ℕ) where
-  -- the first atoms, and the one behind them
-  pub paired_next : i < length atoms
-      → paired (take i atoms) ++ 128 ∷ get_or atoms i 0 ∷ [] ≡ paired (take (i + 1) atoms)
-  paired_next h =
-      sym (paired_more (take i atoms) (get_or atoms i 0))
-      ∙ ap paired (sym (take-suc atoms i 0 h))
-      ∙ ap (λ (n : ℕ). paired (take n atoms)) (sym (add-one i))
+-- the first atoms, and the one behind them
+pub paired_next : (atoms : List ℕ) (i : ℕ) → i < length atoms
+    → paired (take i atoms) ++ 128 ∷ get_or atoms i 0 ∷ [] ≡ paired (take (i + 1) atoms)
+paired_next atoms i h = sym (ap paired (take_more atoms i 0 h) ∙ paired_more (take i atoms) (get_or atoms i 0))
 
-  -- all atoms but the last, and the last
-  pub front_end : i + 1 ≡ length atoms → paired (take i atoms) ++ get_or atoms (length atoms - 1) 0 ∷ [] ≡ front atoms
-  front_end e =
-      let h : i < length atoms = omega arith in
-      let last : length atoms - 1 ≡ i = omega arith in
-      ap (λ (j : ℕ). paired (take i atoms) ++ get_or atoms j 0 ∷ []) last
-      ∙ sym (front_last (take i atoms) (get_or atoms i 0))
-      ∙ ap front (sym (take-suc atoms i 0 h) ∙ take_all (suc i) atoms (omega arith))
+-- a side is all atoms but the last, and the last
+pub front_end : (i : ℕ) (atoms : List ℕ) → i + 1 ≡ length atoms → paired (take i atoms) ++ drop i atoms ≡ front atoms
+front_end i [] e = absurd (omega (arith, e))
+front_end zero (a ∷ []) e = refl
+front_end zero (a ∷ b ∷ rest) e = absurd (omega (arith, e))
+front_end (suc i) (a ∷ []) e = absurd (omega (arith, e))
+front_end (suc i) (a ∷ b ∷ rest) e = ap (λ (l : List ℕ). 128 ∷ a ∷ l) (front_end i (b ∷ rest) (omega (arith, e)))
 
--- n atoms are 2 n - 1 bytes
+-- and n atoms are 2 n - 1 bytes
 pub length_front : (atoms : List ℕ) → 0 < length atoms → length (front atoms) + 1 ≡ 2 * length atoms
 length_front [] h = elim h [ ]
 length_front (a ∷ []) h = refl

@@ -1,11 +1,6 @@
 -- The parts of the block of two terms: they are what the block was made of, and nothing is wrong with it.
-use Prim.Native.Nat.{ℕ, zero, suc, ◌+◌, ◌-◌, ◌*◌, ◌/◌, ◌%◌}
-use native.Mathlib.Omega.{arith}
-use mathlib.Core.Path.{◌≡◌, refl, ap, sym, ◌∙◌}
-use mathlib.Core.Bool.{true}
-use mathlib.Core.List.{List, [], ◌∷◌, ◌++◌, append_assoc}
-use lib.ListN.{length, take, drop, replicate, length-append}
-use lib.Seq.{slice, take-append-add, drop-append_seam, take_at, get_or_at, append_snoc}
+use Rattle.std.proofs.Common.{ℕ, zero, suc, ◌+◌, ◌-◌, ◌*◌, ◌/◌, ◌%◌, arith, ◌≡◌, refl, ap, sym, ◌∙◌, true, List, [], ◌∷◌, ◌++◌, append_assoc, length, take, drop, replicate, length-append, take_at}
+use lib.Seq.{slice, take-append-add, drop-append_seam, get_or_at, append_snoc}
 use Rattle.ac.specs.Lists.{sum}
 use Rattle.block.specs.Block.{byte, block_number, left_term, right_term, filler, check, check_of_bytes}
 use Rattle.block.specs.Inner.{IsLength, all_zero, GoodHeader}

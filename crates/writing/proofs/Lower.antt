@@ -1,20 +1,12 @@
 -- How a right side's atoms are written.
-use Prim.Native.Nat.{ℕ, ◌+◌, ◌-◌, ◌≤◌, ◌<◌}
-use native.Mathlib.Omega.{arith}
-use native.Mathlib.Numerals.{add-one}
+use Rattle.std.proofs.Common.{ℕ, ◌+◌, ◌-◌, ◌≤◌, ◌<◌, arith, ◌≡◌, refl, ap, ap₂, sym, subst, ◌∙◌, inl, inr, List, [], ◌∷◌, ◌++◌, map, lt-ltb, le-ltb, le-leb, length, take, drop, take_all, take_at}
 use native.Mathlib.Decide.{dec_lt}
-use mathlib.Core.Path.{◌≡◌, refl, ap, ap₂, sym, subst, ◌∙◌}
-use mathlib.Core.Logic.{inl, inr}
-use mathlib.Core.List.{List, [], ◌∷◌, ◌++◌, map, Memᴰ}
-use borrow.Author.Tests.{lt-ltb, le-ltb, le-leb, lt-leb}
-use lib.ListN.{length, get_or, take, length-map}
-use lib.Seq.{take-suc, take_all, take_at}
-use Rattle.ac.proofs.Members.{map_append}
+use mathlib.Core.List.{Memᴰ}
+use lib.ListN.{length-map}
+use Rattle.std.proofs.lemmas.List.{drop_all, append-nil}
 use Rattle.block.specs.Front.{MayBeWritten, on_the_right}
 use Rattle.block.proofs.Renamed.{variable_higher}
 use Rattle.block.proofs.Renamed as renamed
-use Rattle.buffer.specs.Put.{Put}
-use Rattle.buffer.proofs.Puts.{put_as, put_received}
 use Rattle.writing.specs.Written.{as_written}
 
 -- v32 to v63 are written 32 lower
@@ -24,10 +16,6 @@ variable_lower {a} from to = rw (le-leb 32 a from, lt-ltb a 64 to)
 -- a constant stays
 pub constant_stays : {a : ℕ} → 64 ≤ a → as_written a ≡ a
 constant_stays {a} above = let from : 32 ≤ a = omega arith in rw (le-leb 32 a from, le-ltb a 64 above)
-
--- and so does a lower variable, which no right side has
-pub lower_stays : {a : ℕ} → a < 32 → as_written a ≡ a
-lower_stays {a} below = rw (lt-leb 32 a below)
 
 -- what is written of the right side's atoms may be written, ..
 pub lower_writable : {a : ℕ} → 32 ≤ a → a < 128 → MayBeWritten (as_written a)
@@ -82,21 +70,11 @@ all-lower-renamed (a ∷ side) all =
     ap₂ {C = List ℕ} (λ b l. b ∷ l) (lower-renamed (all a (Memᴰ.head refl)))
     (all-lower-renamed side (λ b m. all b (Memᴰ.tail m)))
 
--- the first atoms as they are written, and the one behind them
-pub written_next : (atoms : List ℕ) (i : ℕ) {a : ℕ} → i < length atoms → a ≡ as_written (get_or atoms i 0)
-    → map as_written (take i atoms) ++ a ∷ [] ≡ map as_written (take (i + 1) atoms)
-written_next atoms i {a} h is =
-    ap (λ (b : ℕ). map as_written (take i atoms) ++ b ∷ []) is
-    ∙ sym (map_append as_written (take i atoms) (get_or atoms i 0 ∷ []))
-    ∙ ap (map as_written) (sym (take-suc atoms i 0 h))
-    ∙ ap (λ (n : ℕ). map as_written (take n atoms)) (sym (add-one i))
-
--- all of them, at the start of an array that has room
-pub all_written : (atoms : List ℕ) {array after : List ℕ} {i : ℕ} → i ≡ length atoms → length atoms ≤ length array
-    → Put array 0 (map as_written (take i atoms)) i after → take (length atoms) after ≡ map as_written atoms
-all_written atoms {array} {after} {i} all room put =
-    let whole : map as_written (take i atoms) ≡ map as_written atoms =
-    ap (map as_written) (take_all i atoms (omega arith)) in
-    let put' = put_as whole put in
-    ap (take (length atoms)) (put_received put' (omega arith))
-    ∙ take_at (map as_written atoms) _ (length atoms) (length-map atoms as_written)
+-- all of them, at the start of a longer array
+pub all_written : (atoms rest : List ℕ) {copied after : List ℕ} (i : ℕ) → copied ≡ atoms → length copied ≤ i
+    → after ≡ map as_written (take i copied) ++ drop i copied
+    → take (length atoms) (after ++ rest) ≡ map as_written atoms
+all_written atoms rest {copied} {after} i same all is =
+    let whole : after ≡ map as_written atoms =
+    is ∙ (rw (take_all i copied all, drop_all, append-nil) (ap (map as_written) same)) in
+    take_at after rest (length atoms) (ap length whole ∙ length-map atoms as_written) ∙ whole

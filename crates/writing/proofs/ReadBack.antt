@@ -1,12 +1,7 @@
 -- "Reading what was written gives the same sides in the same order" (document 02, R-3), by what the two questions
 -- promise alone.
-use Prim.Native.Nat.{ℕ, ◌≤◌, ◌<◌}
-use native.Mathlib.Omega.{arith}
-use mathlib.Core.Path.{◌≡◌, ap, sym, subst, ◌∙◌}
-use mathlib.Core.Bool.{true}
-use mathlib.Core.List.{List, map}
-use lib.ListN.{length, take, length-map}
-use lib.Seq.{take_at}
+use Rattle.std.proofs.Common.{ℕ, ◌≤◌, ◌<◌, arith, ◌≡◌, ap, sym, subst, ◌∙◌, true, List, map, length, take, take_at}
+use lib.ListN.{length-map}
 use Rattle.ac.specs.Lists.{receives}
 use Rattle.ac.specs.Term.{Term}
 use Rattle.numbers.specs.First.{also}

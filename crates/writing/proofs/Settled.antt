@@ -1,11 +1,8 @@
 -- Which number is the first that Write gives: what tells of each, and a law for each way in which it ends.
-use Prim.Native.Nat.{ℕ, ◌≤◌, ◌<◌}
-use native.Mathlib.Omega.{arith}
-use mathlib.Core.Path.{◌≡◌, refl}
-use mathlib.Core.Bool.{Bool, ◌||◌}
-use mathlib.Core.Logic.{◌⊎◌, inl, inr}
-use mathlib.Core.List.{List}
-use lib.ListN.{length}
+use Rattle.std.proofs.Common.{ℕ, ◌≤◌, ◌<◌, arith, ◌≡◌, refl, sym, ◌∙◌, Bool, true, false, ◌⊎◌, inl, inr, ⊎_elim, List, [], ◌∷◌, nat_le, ◌&&◌, length}
+use Rattle.std.proofs.lemmas.Bool.Decides.{nat_tests}
+use mathlib.Core.List.{Memᴰ}
+use Rattle.std.specs.List.{list_any}
 use Rattle.ac.specs.Limits.{limits}
 use Rattle.ac.specs.Lists.{receives}
 use Rattle.numbers.specs.First.{First, NoneOf, here, later, end, also}
@@ -17,12 +14,44 @@ use Rattle.numbers.specs.declared.Refusal.{Refusal}
 use Rattle.numbers.specs.declared.Refusal.TheVariants as refusal
 use Rattle.numbers.proofs.Said.{refuses_alone}
 use Rattle.pair.specs.Given.{left, right, WrongLength, WrongByte}
-use Rattle.pair.proofs.Parting.{tells_sides}
-use Rattle.pair.proofs.Telling.{tells_either, tells_same, at_most}
+use Rattle.pair.proofs.Telling.{tells_false, tells_either, tells_same, at_most}
 use Rattle.writing.specs.Written.{block_of}
 use Rattle.writing.specs.Table.{HoldsVariable, WrongSide, WriteGiven, side_length, no_atom, wrong_side, short_buffer}
 use Rattle.writing.specs.Write.{WritePromise, written}
 use Rattle.writing.proofs.Sides.{Lengths}
+
+-- two comparisons tell whether a number lies between two
+tells_between : (first a last : ℕ) → Tells ((first ≤ a) × (a ≤ last)) (nat_le first a && nat_le a last)
+tells_between first a last =
+    record { if_true = λ e. grind (arith, nat_tests); if_false = λ e both. grind (arith, nat_tests) }
+
+-- whether one of a side's atoms is from the first number to the last tells whether the side holds such a variable
+pub tells_held : (first last : ℕ) (side : List ℕ)
+    → Tells (HoldsVariable first last side) (list_any (λ atom. nat_le first atom && nat_le atom last) side)
+tells_held first last [] = tells_false (λ holds. elim holds.held [ ])
+tells_held first last (a ∷ side) =
+    tells_same
+    (⊎_elim
+    (λ its. record { variable = a; held = Memᴰ.head refl; from_first = its.0; to_last = its.1 })
+    (λ holds. record {
+      variable = holds.variable;
+      held = Memᴰ.tail holds.held;
+      from_first = holds.from_first;
+      to_last = holds.to_last;
+    }))
+    (λ holds. first_or_later holds holds.held)
+    (tells_either (nat_le first a && nat_le a last) _ (tells_between first a last) (tells_held first last side))
+  where
+    first_or_later : (holds : HoldsVariable first last (a ∷ side)) → Memᴰ holds.variable (a ∷ side)
+        → ((first ≤ a) × (a ≤ last)) ⊎ HoldsVariable first last side
+    first_or_later holds (Memᴰ.head same) =
+        inl (omega (arith, same, holds.from_first), omega (arith, same, holds.to_last))
+    first_or_later holds (Memᴰ.tail held) = inr (record {
+      variable = holds.variable;
+      held = held;
+      from_first = holds.from_first;
+      to_last = holds.to_last;
+    })
 
 module _ {L R block : List ℕ} where
   -- what each number says
@@ -41,22 +70,46 @@ module _ {L R block : List ℕ} where
   pub too_short : WriteGiven L R block 16 → length block < 512
   too_short (short_buffer short) = short
 
-  -- and what tells of it
-  pub tells_7 : {first second : Bool} → Tells (WrongLength limits limits.least_atoms L) first
-      → Tells (WrongLength limits limits.least_atoms R) second
-      → Tells (WriteGiven L R block 7) (first || second)
-  tells_7 =
-      tells_sides {Wrong = WrongLength limits limits.least_atoms} (λ side is_side wrong. side_length is_side wrong)
-      wrong_lengths
+  -- and what tells of it, ..
+  module _ {told : Bool} where
+    pub left_7 : Tells (WrongLength limits limits.least_atoms L) told → told ≡ true → WriteGiven L R block 7
+    left_7 tells e = side_length left (tells.if_true e)
 
-  pub tells_8 : {first second : Bool} → Tells (WrongByte limits L) first → Tells (WrongByte limits R) second
-      → Tells (WriteGiven L R block 8) (first || second)
-  tells_8 = tells_sides {Wrong = WrongByte limits} (λ side is_side wrong. no_atom is_side wrong) wrong_bytes
+    pub right_7 : Tells (WrongLength limits limits.least_atoms R) told → told ≡ true → WriteGiven L R block 7
+    right_7 tells e = side_length right (tells.if_true e)
 
-  pub tells_18 : {first second : Bool} → Tells (HoldsVariable 32 63 L) first → Tells (HoldsVariable 0 31 R) second
-      → Tells (WriteGiven L R block 18) (first || second)
-  tells_18 {first} {second} of_left of_right =
-      tells_same wrong_side wrong_sides (tells_either first second of_left of_right)
+    pub left_8 : Tells (WrongByte limits L) told → told ≡ true → WriteGiven L R block 8
+    left_8 tells e = no_atom left (tells.if_true e)
+
+    pub right_8 : Tells (WrongByte limits R) told → told ≡ true → WriteGiven L R block 8
+    right_8 tells e = no_atom right (tells.if_true e)
+
+    pub left_18 : told ≡ list_any (λ atom. nat_le 32 atom && nat_le atom 63) L → told ≡ true → WriteGiven L R block 18
+    left_18 is e = wrong_side (inl ((tells_held 32 63 L).if_true (sym is ∙ e)))
+
+    pub right_18 : told ≡ list_any (λ atom. nat_le 0 atom && nat_le atom 31) R → told ≡ true → WriteGiven L R block 18
+    right_18 is e = wrong_side (inr ((tells_held 0 31 R).if_true (sym is ∙ e)))
+
+  -- .. or that it is not so
+  module _ {on_left on_right : Bool} where
+    pub not_7 : Tells (WrongLength limits limits.least_atoms L) on_left → on_left ≡ false
+        → Tells (WrongLength limits limits.least_atoms R) on_right
+        → on_right ≡ false
+        → WriteGiven L R block 7 → ⊥
+    not_7 l e r f seven = ⊎_elim (l.if_false e) (r.if_false f) (wrong_lengths seven)
+
+    pub not_8 : Tells (WrongByte limits L) on_left → on_left ≡ false → Tells (WrongByte limits R) on_right
+        → on_right ≡ false
+        → WriteGiven L R block 8 → ⊥
+    not_8 l e r f eight = ⊎_elim (l.if_false e) (r.if_false f) (wrong_bytes eight)
+
+    pub not_18 : on_left ≡ list_any (λ atom. nat_le 32 atom && nat_le atom 63) L → on_left ≡ false
+        → on_right ≡ list_any (λ atom. nat_le 0 atom && nat_le atom 31) R
+        → on_right ≡ false
+        → WriteGiven L R block 18 → ⊥
+    not_18 l e r f eighteen =
+        ⊎_elim ((tells_held 32 63 L).if_false (sym l ∙ e)) ((tells_held 0 31 R).if_false (sym r ∙ f))
+        (wrong_sides eighteen)
 
 -- where 7 is not given, both sides have 1 to 64 atoms
 pub lengths_within : {L R block : List ℕ} → (WriteGiven L R block 7 → ⊥) → Lengths L R

@@ -1,12 +1,8 @@
 -- A side in front notation is a term in the shape in which blocks are written, and such a term is its flattened side in
 -- front notation.
-use Prim.Native.Nat.{ℕ, ◌<◌}
-use native.Mathlib.Omega.{arith}
-use mathlib.Core.Path.{◌≡◌, refl, ap, sym, ◌∙◌, subst}
-use mathlib.Core.Logic.{⊎_elim}
+use Rattle.std.proofs.Common.{ℕ, ◌<◌, arith, ◌≡◌, refl, ap, sym, ◌∙◌, subst, ⊎_elim, List, [], ◌∷◌, ◌++◌, length}
 use mathlib.Core.List.Memᴰ
-use mathlib.Core.List.{List, [], ◌∷◌, ◌++◌, Memᴰ}
-use lib.ListN.{length}
+use mathlib.Core.List.{Memᴰ}
 use Rattle.ac.specs.Term.{Term, atom, plus, flatten}
 use Rattle.block.specs.Front.{encode, MayBeWritten, Writable, one, two, Writes}
 use Rattle.block.proofs.Terms.{one_reading, bytes_of-atoms}

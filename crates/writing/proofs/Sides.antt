@@ -1,9 +1,6 @@
 -- Sides of 1 to 64 atoms: their terms fit into a block, and the block of them has 512 bytes.
-use Prim.Native.Nat.{ℕ, ◌≤◌, ◌<◌}
-use native.Mathlib.Omega.{arith}
-use mathlib.Core.Path.{◌≡◌, ap, sym, ◌∙◌}
-use mathlib.Core.List.{List, ◌++◌, map}
-use lib.ListN.{length, drop, length-map}
+use Rattle.std.proofs.Common.{ℕ, ◌≤◌, ◌<◌, arith, ◌≡◌, ap, sym, ◌∙◌, List, ◌++◌, map, length, drop}
+use lib.ListN.{length-map}
 use Rattle.ac.specs.Lists.{receives}
 use Rattle.block.specs.Inner.{IsLength}
 use Rattle.writing.specs.Written.{front, as_written, block_of}

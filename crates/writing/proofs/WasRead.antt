@@ -1,12 +1,8 @@
 -- What Read gives, of a block that it accepts: the flattened sides of the block's two terms, which Write accepts.
-use Prim.Native.Nat.{ℕ, ◌+◌, ◌≤◌}
-use native.Mathlib.Omega.{arith}
+use Rattle.std.proofs.Common.{ℕ, ◌+◌, ◌≤◌, arith, ◌≡◌, refl, ap, false, inl, inr, List, [], ◌∷◌, map, length, take}
 use native.Mathlib.Decide.{ℕ_discrete}
-use mathlib.Core.Path.{◌≡◌, refl, ap}
-use mathlib.Core.Bool.{false}
-use mathlib.Core.Logic.{inl, inr}
-use mathlib.Core.List.{List, [], ◌∷◌, map, Memᴰ}
-use lib.ListN.{length, take, length-map}
+use mathlib.Core.List.{Memᴰ}
+use lib.ListN.{length-map}
 use lib.Seq.{take-append_seam, length-slice}
 use Rattle.ac.specs.Term.{Term, flatten}
 use Rattle.numbers.specs.First.{NoneOf}

@@ -1,10 +1,7 @@
 -- A block with which nothing is wrong is the block of its number and its two terms.
-use Prim.Native.Nat.{ℕ, ◌+◌, ◌-◌, ◌*◌, ◌/◌, ◌%◌, ◌≤◌, ◌<◌}
-use native.Mathlib.Omega.{arith}
-use mathlib.Core.Path.{◌≡◌, refl, ap, ap₂, sym, ◌∙◌}
-use mathlib.Core.List.{List, [], ◌∷◌, ◌++◌, Memᴰ, append_assoc}
-use lib.ListN.{length, take, drop, replicate, take-append-drop, drop_of_length-le, length-append}
-use lib.Seq.{slice, take-take, drop-cons, length-slice}
+use Rattle.std.proofs.Common.{ℕ, ◌+◌, ◌-◌, ◌*◌, ◌/◌, ◌%◌, ◌≤◌, ◌<◌, arith, ◌≡◌, refl, ap, ap₂, sym, ◌∙◌, List, [], ◌∷◌, ◌++◌, append_assoc, length, take, drop, replicate, take-append-drop, drop_of_length-le, length-append, take-take, drop-cons}
+use mathlib.Core.List.{Memᴰ}
+use lib.Seq.{slice, length-slice}
 use Rattle.ac.specs.Lists.{sum}
 use Rattle.block.specs.Block.{byte, two_bytes, left_length, right_length, left_term, right_term, filler}
 use Rattle.writing.specs.Written.{high_first, up_to_terms, up_to_filler, block_of_terms}

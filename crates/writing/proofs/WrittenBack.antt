@@ -1,10 +1,6 @@
 -- "Writing what was read gives the same block exactly when it was already in this shape" (document 02, R-3), by what
 -- the two questions promise alone.
-use Prim.Native.Nat.{ℕ, ◌≤◌, ◌<◌}
-use mathlib.Core.Path.{◌≡◌, refl, ap, ap₂, sym, subst, ◌∙◌}
-use mathlib.Core.Logic.{◌↔◌}
-use mathlib.Core.List.{List, map}
-use lib.ListN.{length, take}
+use Rattle.std.proofs.Common.{ℕ, ◌≤◌, ◌<◌, ◌≡◌, refl, ap, ap₂, sym, subst, ◌∙◌, ◌↔◌, List, map, length, take}
 use Rattle.ac.specs.Term.{Term, flatten}
 use Rattle.numbers.specs.First.{NoneOf}
 use Rattle.numbers.specs.Order.{write_numbers}

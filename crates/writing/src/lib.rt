@@ -2,11 +2,10 @@
 
 #![tactic(auto)]
 
-ghost use Rattle.std.specs.Prelude.{◌≡◌, ◌+◌, ◌-◌, ◌*◌, ◌≤◌, ◌<◌, map, length, take};
+ghost use Rattle.std.specs.Prelude.{◌≡◌, ◌+◌, ◌-◌, ◌*◌, ◌≤◌, ◌<◌, ◌&&◌, nat_le, map, length, take};
+ghost use Rattle.std.specs.List.{list_any};
 ghost use Rattle.buffer.specs.Put.{Put};
-ghost use Rattle.numbers.specs.Tells.{Tells};
 ghost use Rattle.writing.specs.Written.{front, as_written, high_first, up_to_terms, block_of};
-ghost use Rattle.writing.specs.Table.{HoldsVariable};
 ghost use Rattle.writing.specs.Write.{told_write, WritePromise};
 
 use block::header::check_of;
@@ -15,54 +14,32 @@ use numbers::Refusal;
 use numbers::limits::{LEAST_ATOMS, MOST_ATOMS};
 use pair::limits::{wrong_byte, wrong_length};
 
-// What Write answers: that the block is written, or why the sides are refused.
-#[derive(Clone, Copy)]
-pub enum WriteAnswer {
-    Written,
-    Refused(Refusal),
-}
-
 // The question Write: writes the block of two flattened sides that has this number into the buffer.
-pub fn write(left: &[u8], right: &[u8], number: u16, block: &mut [u8]) -> WriteAnswer
+pub fn write(left: &[u8], right: &[u8], number: u16, block: &mut [u8]) -> Result<(), Refusal>
     ensures { WritePromise left.now right.now number block.old
         (told_write result) block.new }
 {
-    let wrong_lengths = wrong_length(LEAST_ATOMS, left) | wrong_length(LEAST_ATOMS, right);
-    let wrong_bytes = wrong_byte(left) | wrong_byte(right);
-    let wrong_sides = holds_variable(left, 32, 63) | holds_variable(right, 0, 31);
     if block.len() < 512 {
-        return WriteAnswer::Refused(Refusal::ShortBuffer);
+        return Err(Refusal::ShortBuffer);
     }
-    if wrong_lengths {
-        return WriteAnswer::Refused(Refusal::SideLength);
+    if wrong_length(LEAST_ATOMS, left) || wrong_length(LEAST_ATOMS, right) {
+        return Err(Refusal::SideLength);
     }
-    if wrong_bytes {
-        return WriteAnswer::Refused(Refusal::NoAtom);
+    if wrong_byte(left) || wrong_byte(right) {
+        return Err(Refusal::NoAtom);
     }
-    if wrong_sides {
-        return WriteAnswer::Refused(Refusal::WrongSide);
+    if holds_variable(left, 32, 63) || holds_variable(right, 0, 31) {
+        return Err(Refusal::WrongSide);
     }
     write_block(left, right, number, &mut block[..512]);
-    WriteAnswer::Written
+    Ok(())
 }
 
 // Whether the side holds a variable from the first number to the last.
 fn holds_variable(side: &[u8], first: u8, last: u8) -> bool
-    ensures { Tells (HoldsVariable first last side.now) result }
+    ensures { result ≡ list_any (λ atom. nat_le first atom && nat_le atom last) side.now }
 {
-    for i in 0..side.len() {
-        if is_between(side[i], first, last) {
-            return true;
-        }
-    }
-    false
-}
-
-// Whether the atom is one of those from the first number to the last.
-fn is_between(atom: u8, first: u8, last: u8) -> bool
-    ensures { Tells ((first ≤ atom) × (atom ≤ last)) result }
-{
-    first <= atom && atom <= last
+    side.iter().any(|atom| first <= *atom && *atom <= last)
 }
 
 // Writes the block of two sides that may be written, all its 512 bytes.
@@ -100,8 +77,7 @@ fn put_number(out: &mut [u8], at: usize, number: u16) -> usize
     requires { at + 2 ≤ length out.old }
     ensures { Put out.old at (high_first number) result out.new }
 {
-    let bytes = [(number / 256) as u8, (number % 256) as u8];
-    put_bytes(out, at, &bytes)
+    put_bytes(out, at, &number.to_be_bytes())
 }
 
 // How many bytes a side of so many atoms is written in: each but the last has 128 before it.
@@ -120,13 +96,10 @@ fn put_term(out: &mut [u8], at: usize, atoms: &[u8]) -> usize
 {
     let last = atoms.len() - 1;
     let mut place = at;
-    for i in 0..last {
-        out[place] = 128;
-        out[place + 1] = atoms[i];
-        place += 2;
+    for atom in &atoms[..last] {
+        place = put_bytes(out, place, &[128, *atom]);
     }
-    out[place] = atoms[last];
-    place + 1
+    put_bytes(out, place, &atoms[last..])
 }
 
 // A right side's atoms as they are written, at the start of an array that is long enough for every side.
@@ -135,8 +108,10 @@ fn lowered(right: &[u8]) -> [u8; MOST_ATOMS]
     ensures { take (length right.now) result ≡ map as_written right.now }
 {
     let mut lowered = [0u8; MOST_ATOMS];
-    for i in 0..right.len() {
-        lowered[i] = as_written(right[i]);
+    let atoms = &mut lowered[..right.len()];
+    atoms.copy_from_slice(right);
+    for atom in atoms.iter_mut() {
+        *atom = as_written(*atom);
     }
     lowered
 }

@@ -1,26 +1,20 @@
--- `library::took` meets its contract: what is tested and counted is the answer that was given. Assumes
--- nothing.
-use mathlib.Core.Path.{ap, subst, ◌∙◌}
-use mir.Syntax.{w32}
-use mir.ValLaws.{to_z-of_z}
-use Rattle.io.specs.Counts.{clamp_len}
-use Rattle.library.specs.Reading.{Misses}
-use Rattle.library.proofs.Taking.{read, room_length, takes_missed, takes_end, takes_bytes}
+-- `library::took` meets its contract: each arm is a case of `Takes`. Assumes nothing.
+use Rattle.std.proofs.Common.{subst, w32, SFits, to_z-of_z, rules}
+use Rattle.library.specs.Reading.{Takes, Misses}
+use Rattle.library.proofs.Taking.{takes_bytes}
 use Rattle.library.proofs.took.Goals as goal
 
-pub returns-then-answer-lt0 : goal.returns-then-answer-lt0
-returns-then-answer-lt0 c =
-    takes_missed c.ranges.answer c.if-answer-lt0.true
-    (subst (λ error. Misses c.args.reader error c.missed.result)
-    (to_z-of_z w32 c.args.error c.ranges.error) c.missed.ensures)
+pub returns-in-Ok-eq0 : goal.returns-in-Ok-eq0
+returns-in-Ok-eq0 c = Takes.the_end (cc (c.in-Ok-eq0.is, c.in-Ok-eq0.field-0-is))
 
-pub returns-then-answer-eq0 : goal.returns-then-answer-eq0
-returns-then-answer-eq0 c =
-    rw c.told.ensures (takes_end c.ranges.answer c.if-answer-eq0.true)
+pub returns-in-Ok : goal.returns-in-Ok
+returns-in-Ok c =
+    let some = rw c.in-Ok.is at c.in-Ok.count-test.1 in
+    rw c.min.ensures (takes_bytes c.in-Ok.is some)
 
-pub returns : goal.returns
-returns c =
-    takes_bytes c.ranges.answer c.if-answer-lt0.false
-    c.if-answer-eq0.false
-    (c.count-count.ensures.value ∙ ap (clamp_len (read c.args.answer))
-    (room_length c.args.reader.filled c.args.buffer.now))
+pub returns-in-Err : goal.returns-in-Err
+returns-in-Err c =
+    let error = c.in-Err.error in
+    let fits : SFits w32 error = search rules in
+    Takes.missed c.in-Err.is
+    (subst (λ e. Misses c.args.reader e c.missed.result) (to_z-of_z fits) c.missed.ensures)

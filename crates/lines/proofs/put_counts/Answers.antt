@@ -1,10 +1,10 @@
 -- `lines::put_counts` meets its contract: its parts are put one behind the other. Assumes nothing.
-use Rattle.lines.proofs.Putting.{within_length, within_more, within_then}
-use native.Mathlib.Omega.{arith}
+use Rattle.lines.proofs.Putting.{within_end, within_then}
+use Rattle.std.proofs.Common.{arith}
 use Rattle.lines.proofs.put_counts.Goals as goal
 
 pub returns : goal.returns
 returns c =
     let two = within_then c.put_labelled-next.ensures c.put_labelled-next-2.ensures in
     let four = within_then (within_then two c.put_labelled-next-3.ensures) c.put_labelled-next-4.ensures in
-    within_more (within_then four (within_length c.put_bytes.ensures)) (omega arith)
+    within_end four c.put_bytes.ensures (omega arith)

@@ -1,6 +1,6 @@
 -- `lines::put_labelled` meets its contract: the word, and the number behind it. Assumes nothing.
 use Rattle.lines.proofs.Putting.{within_length, within_then}
-use native.Mathlib.Omega.{arith}
+use Rattle.std.proofs.Common.{arith}
 use Rattle.text.proofs.Decimals.{decimal_fits}
 use Rattle.lines.proofs.put_labelled.Goals as goal
 

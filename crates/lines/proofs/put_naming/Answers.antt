@@ -1,9 +1,8 @@
 -- `lines::put_naming` meets its contract: its parts are put one behind the other. Assumes nothing.
-use native.Mathlib.Omega.{arith}
-use Rattle.lines.proofs.Putting.{within_length, within_more, within_then}
+use Rattle.std.proofs.Common.{arith}
+use Rattle.lines.proofs.Putting.{within_end, within_then}
 use Rattle.lines.proofs.put_naming.Goals as goal
 
 pub returns : goal.returns
 returns c =
-    within_more (within_then (within_then c.put_refusal-next.ensures c.put_named-next.ensures)
-    (within_length c.put_bytes.ensures)) (omega arith)
+    within_end (within_then c.put_refusal-next.ensures c.put_named-next.ensures) c.put_bytes.ensures (omega arith)

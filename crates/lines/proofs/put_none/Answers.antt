@@ -1,9 +1,7 @@
 -- `lines::put_none` meets its contract: its parts are put one behind the other. Assumes nothing.
-use Rattle.lines.proofs.Putting.{within_length, within_more, within_then}
-use native.Mathlib.Omega.{arith}
+use Rattle.lines.proofs.Putting.{within_end}
+use Rattle.std.proofs.Common.{arith}
 use Rattle.lines.proofs.put_none.Goals as goal
 
 pub returns : goal.returns
-returns c =
-    let none = within_length c.put_bytes.ensures in
-    within_more (within_then c.put_labelled-next.ensures none) (omega arith)
+returns c = within_end c.put_labelled-next.ensures c.put_bytes.ensures (omega arith)

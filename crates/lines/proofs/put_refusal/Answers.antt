@@ -1,9 +1,9 @@
 -- `lines::put_refusal` meets its contract: its parts are put one behind the other. Assumes nothing.
-use native.Mathlib.Omega.{arith}
+use Rattle.std.proofs.Common.{arith}
 use Rattle.lines.proofs.Putting.{within_more, within_then}
 use Rattle.lines.proofs.put_refusal.Goals as goal
 
 pub returns : goal.returns
 returns c =
-    within_more (within_then c.put_labelled-next.ensures c.put_labelled.ensures)
-    (omega arith)
+    let number = rw c.from.ensures at c.put_labelled.ensures in
+    within_more (within_then c.put_labelled-next.ensures number) (omega arith)

@@ -1,9 +1,7 @@
 -- `lines::put_refused` meets its contract: its parts are put one behind the other. Assumes nothing.
-use native.Mathlib.Omega.{arith}
-use Rattle.lines.proofs.Putting.{within_length, within_more, within_then}
+use Rattle.std.proofs.Common.{arith}
+use Rattle.lines.proofs.Putting.{within_end}
 use Rattle.lines.proofs.put_refused.Goals as goal
 
 pub returns : goal.returns
-returns c =
-    within_more (within_then c.put_refusal-next.ensures
-    (within_length c.put_bytes.ensures)) (omega arith)
+returns c = within_end c.put_refusal-next.ensures c.put_bytes.ensures (omega arith)

@@ -1,6 +1,6 @@
 -- `lines::put_substitution_line` meets its contract: the substitution, and a line feed behind it. Assumes nothing.
 use Rattle.buffer.proofs.Puts.{put_then}
-use native.Mathlib.Omega.{arith}
+use Rattle.std.proofs.Common.{arith}
 use Rattle.lines.proofs.put_substitution_line.Goals as goal
 
 pub returns : goal.returns

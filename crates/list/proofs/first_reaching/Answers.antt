@@ -1,14 +1,8 @@
 -- `list::first_reaching` meets its contract: the key itself, or the end of the block of the lowest row that is
 -- above 0 at the place.
 use mathlib.Core.Path.{sym, ◌∙◌}
-use Rattle.list.proofs.Weighing.{in_tuple_itself, in_tuple_block, weighs_itself, weighs_jump}
+use Rattle.list.proofs.Weighing.{in_tuple_block, weighs_jump}
 use Rattle.list.proofs.first_reaching.Goals as goal
-
-pub returns-then-reached : goal.returns-then-reached
-returns-then-reached c = record {
-  in_tuple = in_tuple_itself c.args.key;
-  weighs = weighs_itself (sym c.reached.ensures ∙ c.if-reached.true);
-}
 
 pub returns : goal.returns
 returns c =
@@ -17,6 +11,6 @@ returns c =
     record {
       in_tuple = rw c.block_end.ensures (in_tuple_block at.key lowest.0);
       weighs = rw c.block_end.ensures
-          (weighs_jump at.reaching.now at.unbalanced at.place lowest.0 lowest.1
+          (weighs_jump at.masks.now.reaching at.masks.now.unbalanced at.place lowest.0 lowest.1
           (sym c.reached.ensures ∙ c.if-reached.false));
     }

@@ -1,80 +1,53 @@
--- `list::reached` meets its contract. The invariant: no row taken of the constants before this one reaches the
--- place.
-use Prim.Native.Nat.{ℕ, ◌+◌, ◌*◌}
-use native.Mathlib.Omega.{arith}
-use mathlib.Core.Path.{◌≡◌, refl, sym, ap, subst, ◌∙◌}
-use mathlib.Core.Bool.{Bool, false, ◌||◌}
+-- `list::reached` meets its contract: whether the row taken of one of the constants reaches the place, or a balanced one.
+use Rattle.std.proofs.Common.{rules, arith}
+use Rattle.std.proofs.lemmas.Iterator.Adapters.{option_map_id}
+use Rattle.std.proofs.Common.{Some}
+use Rattle.std.proofs.iter.runs.Sources.{ranges, range_listed}
+use Rattle.std.specs.declared.ops.Range.{Range}
+use Prim.Native.Nat.{ℕ, ◌+◌, ◌*◌, ◌<◌}
+use mathlib.Core.Path.{◌≡◌, sym, ap, ◌∙◌}
+use mathlib.Core.Bool.{Bool, true, false, ◌||◌}
+use mathlib.Core.List.{List}
 use lib.ListN.{get_or}
-use Rattle.ac.specs.Keys.{bit}
-use Rattle.list.specs.Reach.{any, takes_any}
-use Rattle.list.proofs.Any.{any_found, any-more}
-use Rattle.list.proofs.reached.Invariants.{by_constant}
+use Rattle.ac.specs.Keys.{layout, bit, field_at}
+use Rattle.list.specs.Reach.{takes_any}
+use Rattle.list.proofs.Any.{any_found, any_fails}
 use Rattle.list.proofs.reached.Goals as goal
 
--- what was told of the index that the key takes
-told : (rows : ℕ) {index taken : ℕ} {r : Bool} → index ≡ taken → r ≡ bit rows index → bit rows taken ≡ r
-told rows same e = ap (bit rows) (sym same) ∙ sym e
+-- the row taken of constant number g reaches the place
+abbrev by_constant : List ℕ → ℕ → ℕ → ℕ → Bool
+by_constant reaching place key g = bit (get_or reaching (6 * (g + 1) + place) 0) (field_at layout key g)
 
-pub loop-g-init : goal.loop-g-init
-loop-g-init c = (omega arith, refl)
+pub returns-then-by_constant : goal.returns-then-by_constant
+returns-then-by_constant c =
+    let m = c.args.masks.now in
+    let place = c.args.place in
+    let key = c.args.key in
+    let run = c.if-by_constant.ensures.runs in
+    let listed = range_listed run.0 run.0.seen in
+    let from_0 = ap (λ (s : Range ℕ). s.start) run.1 in
+    let one = run.2 (search (rules, ranges)) in
+    let same : listed.0 + one.0 ≡ one.0 = omega (arith, from_0) in
+    let item = sym (option_map_id (run.0.at one.0)) ∙ listed.4.3 one.0 one.1 ∙ ap Some same in
+    let few : one.0 < m.unbalanced =
+    omega (arith, listed.4.0, one.1, from_0, ap (λ (s : Range ℕ). s.end) run.1) in
+    let reached : by_constant m.reaching place key one.0 ≡ true = let called = rw item at one.2 in search rules in
+    c.if-by_constant.true
+    ∙ sym (ap (λ b. b || takes_any (get_or m.reaching place 0) key)
+    (any_found m.unbalanced one.0 (by_constant m.reaching place key) few reached))
 
-pub index_at-index-requires : goal.index_at-index-requires
-index_at-index-requires c = omega arith
-
-pub overflow_add-g : goal.overflow_add-g
-overflow_add-g c = omega arith
-
-pub overflow_mul-g : goal.overflow_mul-g
-overflow_mul-g c = omega arith
-
-pub overflow_add-g-in-loop-g : goal.overflow_add-g-in-loop-g
-overflow_add-g-in-loop-g c = omega arith
-
-pub offset_bounds-reaching-g : goal.offset_bounds-reaching-g
-offset_bounds-reaching-g c = omega arith
-
-pub bounds-reaching-g : goal.bounds-reaching-g
-bounds-reaching-g c = omega arith
-
-pub has_bit-requires : goal.has_bit-requires
-has_bit-requires c = omega (arith, c.index_at-index.ensures)
-
-pub returns-then-has_bit : goal.returns-then-has_bit
-returns-then-has_bit c =
-    let a = c.args in
-    let g = c.loop-g.g in
-    sym (ap (λ b. b || takes_any (get_or a.reaching.now a.place 0) a.key)
-    (any_found a.unbalanced g (by_constant a.reaching.now a.place a.key) (omega arith)
-    (told (get_or a.reaching.now (6 * (g + 1) + a.place) 0) c.index_at-index.ensures
-    c.has_bit.ensures ∙ c.if-has_bit.true)))
-
-pub overflow_add-g-in-loop-g-2 : goal.overflow_add-g-in-loop-g-2
-overflow_add-g-in-loop-g-2 c = omega arith
-
-pub loop-g-smaller : goal.loop-g-smaller
-loop-g-smaller c = omega arith
-
-pub loop-g-preserved : goal.loop-g-preserved
-loop-g-preserved c =
-    let a = c.args in
-    let at = c.loop-g in (
-      omega arith,
-      any-more at.g (by_constant a.reaching.now a.place a.key) at.invariant.1
-          (told (get_or a.reaching.now (6 * (at.g + 1) + a.place) 0)
-          c.index_at-index.ensures c.has_bit.ensures ∙ c.if-has_bit.false),
-    )
-
-pub offset_bounds-reaching-place : goal.offset_bounds-reaching-place
-offset_bounds-reaching-place c = omega arith
-
-pub bounds-reaching-place : goal.bounds-reaching-place
-bounds-reaching-place c = omega arith
-
-pub returns : goal.returns
-returns c =
-    let a = c.args in
-    let end : c.loop-g.g ≡ a.unbalanced = omega arith in
+pub returns-else-by_constant : goal.returns-else-by_constant
+returns-else-by_constant c =
+    let m = c.args.masks.now in
+    let place = c.args.place in
+    let key = c.args.key in
+    let run = c.if-by_constant.ensures.runs in
+    let listed = range_listed run.0 run.0.seen in
+    let all : run.0.len ≡ m.unbalanced =
+    omega (arith, listed.4.1 run.2.0, ap (λ (s : Range ℕ). s.start) run.1, ap (λ (s : Range ℕ). s.end) run.1) in
+    let missed : (g : ℕ) → g < m.unbalanced → by_constant m.reaching place key g ≡ false = λ g h.
+    let item = listed.4.3 g (omega (arith, all)) in
+    grind (arith, ranges, item, run.2.1 (search (rules, ranges)) g) in
     c.takes_any.ensures
-    ∙ sym (ap (λ b. b || takes_any (get_or a.reaching.now a.place 0) a.key)
-    (subst (λ (n : ℕ). any n (by_constant a.reaching.now a.place a.key) ≡ false) end
-    c.loop-g.invariant.1))
+    ∙ sym (ap (λ b. b || takes_any (get_or m.reaching place 0) key)
+    (any_fails m.unbalanced (by_constant m.reaching place key) missed))

@@ -1,9 +1,9 @@
-use Prim.Native.Nat.{◌≤◌}
-use Rattle.output.proofs.Answers.{to_write}
+use Rattle.std.proofs.Common.{◌+◌, ◌*◌, ◌-◌, ◌≤◌}
 use Rattle.output.proofs.write_out.Given as goal
 
-abbrev pub invariant-loop-written : goal.invariant-loop-written
-invariant-loop-written g l = l.written ≤ l.filled
+abbrev pub invariant-loop-onward : goal.invariant-loop-onward
+invariant-loop-onward g l = l.onward.written ≤ l.filled
 
-abbrev pub decreases-loop-written : goal.decreases-loop-written
-decreases-loop-written g l = to_write l.written l.filled l.tries
+-- how much is left to do: bytes to write and, of the next one, tries
+abbrev pub decreases-loop-onward : goal.decreases-loop-onward
+decreases-loop-onward g l = (l.filled - l.onward.written) * 1000001 + l.onward.tries

@@ -14,13 +14,13 @@ use Rattle.pair.proofs.part.Goals as goal
 pub returns-then-many_variables : goal.returns-then-many_variables
 returns-then-many_variables c M L R counted =
     let nine = tells_9 (c.gather-variables.ensures M L R counted).how_many in
-    decides_refused {why = Variables} (search rules) refl (here (nine.if_true (lt-ltb _ _ c.if-many_variables.true)))
+    decides_refused {why = Variables} refl refl (here (nine.if_true (lt-ltb _ _ c.if-many_variables.true)))
 
-pub returns-in-Far : goal.returns-in-Far
-returns-in-Far c M L R counted =
+pub returns-in-Some : goal.returns-in-Some
+returns-in-Some c M L R counted =
     let nine = tells_9 (c.gather-variables.ensures M L R counted).how_many in
-    let lowest = far_found (c.lowest_far-net_counts.ensures M L R counted) c.in-Far.is in
-    decides_naming c.refused-in-Far.ensures
+    let lowest = far_found (c.lowest_far-lowest_far.ensures M L R counted) c.in-Some.is in
+    decides_naming refl
     (later (nine.if_false (le-ltb _ _ c.if-many_variables.false)) (here (far_net_count _ lowest.far)))
     lowest
 
@@ -28,9 +28,9 @@ pub returns-then-many_constants : goal.returns-then-many_constants
 returns-then-many_constants c M L R counted =
     let nine = tells_9 (c.gather-variables.ensures M L R counted).how_many in
     let eleven = tells_11 (c.gather-constants.ensures M L R counted).how_many in
-    decides_refused {why = Constants} (search rules) refl
+    decides_refused {why = Constants} refl refl
     (later (nine.if_false (le-ltb _ _ (omega arith)))
-    (later (near_found (c.lowest_far-net_counts.ensures M L R counted) (search rules))
+    (later (near_found (c.lowest_far-lowest_far.ensures M L R counted) (search rules))
     (here (eleven.if_true (lt-ltb _ _ c.if-many_constants.true)))))
 
 pub returns : goal.returns
@@ -38,7 +38,7 @@ returns c M L R counted =
     let nine = tells_9 (c.gather-variables.ensures M L R counted).how_many in
     let eleven = tells_11 (c.gather-constants.ensures M L R counted).how_many in
     let not9 = nine.if_false (le-ltb _ _ c.if-many_variables.false) in
-    let not10 = near_found (c.lowest_far-net_counts.ensures M L R counted) c.in_default.is in
+    let not10 = near_found (c.lowest_far-lowest_far.ensures M L R counted) c.in_default.is in
     let not11 = eleven.if_false (le-ltb _ _ c.if-many_constants.false) in
     decides_accepted refl (also not9 (also not10 (also not11 end)))
     (pair_held (c.gather-variables.ensures M L R counted) (c.gather-constants.ensures M L R counted) not9 not11)

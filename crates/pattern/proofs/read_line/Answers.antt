@@ -1,21 +1,14 @@
 -- `pattern::read_line` meets its contract: the line is cut at its remark. Assumes nothing.
-use mathlib.Core.Path.{sym}
-use lib.ListN.{drop, take-append-drop}
-use lib.Seq.{length-take-le}
-use Rattle.pattern.specs.Characters.{remark_sign}
-use Rattle.pattern.proofs.Texts.{first_found, remark_found}
+use Rattle.std.proofs.Common.{drop, take-append-drop}
+use Rattle.pattern.proofs.Texts.{remark_cut}
 use Rattle.pattern.proofs.read_line.Goals as goal
 
-pub slice_bounds-read_text-end : goal.slice_bounds-read_text-end
-slice_bounds-read_text-end c =
-    sym (length-take-le _ _ (first_found remark_sign c.args.line.now c.find-end.ensures.place).within)
-
 pub read_text-requires : goal.read_text-requires
-read_text-requires c = (first_found remark_sign c.args.line.now c.find-end.ensures.place).before
+read_text-requires c = (remark_cut c.find.ensures c.unwrap_or-end.ensures).plain
 
 pub returns : goal.returns
 returns c =
     let line = c.args.line.now in
-    let end = c.find-end.result in
-    let first = first_found remark_sign line c.find-end.ensures.place in
-    rw (take-append-drop end line) at (c.read_text.ensures (drop end line) (remark_found first))
+    let end = c.unwrap_or-end.result in
+    rw (take-append-drop end line)
+    at (c.read_text.ensures (drop end line) (remark_cut c.find.ensures c.unwrap_or-end.ensures).rest)

@@ -8,7 +8,7 @@ use borrow.Author.Rules.{rules}
 use Rattle.lines.specs.Lines.{closing_lines}
 use Rattle.lines.proofs.Putting.{within_as}
 use Rattle.printing.specs.Library.{Finishes}
-use Rattle.printing.proofs.Running.{not_over, finish_as, finish_failed}
+use Rattle.printing.proofs.Running.{finish_as, finish_failed}
 use Rattle.printing.proofs.finish.Goals as goal
 
 pub returns-in-End : goal.returns-in-End
@@ -30,7 +30,3 @@ returns-in-Failed c =
     let error = c.in-Failed.error in
     let fits : SFits w32 error = search rules in
     finish_failed c.in-Failed.is (sym (to_z-of_z w32 error fits))
-
-pub returns-in_default : goal.returns-in_default
-returns-in_default c =
-    absurd (not_over _ c.in_default.not-End c.in_default.not-Remains c.in_default.not-Failed c.requires.over)

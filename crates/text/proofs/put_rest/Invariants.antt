@@ -1,11 +1,7 @@
-use Prim.Native.Nat.{◌≤◌, ◌-◌}
-use lib.ListN.{length, take}
+use lib.ListN.{take}
 use Rattle.buffer.specs.Put.{Put}
 use Rattle.text.specs.Text.{further}
 use Rattle.text.proofs.put_rest.Given as goal
 
-abbrev pub invariant-loop-i : goal.invariant-loop-i
-invariant-loop-i l = (l.i ≤ length l.atoms) × Put l.initial.out l.at (further (take l.i l.atoms)) l.next l.out
-
-abbrev pub decreases-loop-i : goal.decreases-loop-i
-decreases-loop-i l = length l.atoms - l.i
+abbrev pub invariant-loop-atom : goal.invariant-loop-atom
+invariant-loop-atom l = Put l.initial.out l.at (further (take l.atom-index l.atoms)) l.next l.out

@@ -2,12 +2,9 @@
 use Prim.Native.Nat.{◌<◌}
 use native.Mathlib.Omega.{arith}
 use lib.ListN.{length}
-use Rattle.buffer.proofs.Puts.{put_nothing, put_then, put_as, put-length}
-use Rattle.text.proofs.Names.{joined_none, joined_first, name_short, tail, length_tail}
+use Rattle.buffer.proofs.Puts.{put_then, put_as, put-length}
+use Rattle.text.proofs.Names.{joined_first, name_short, tail, length_tail}
 use Rattle.text.proofs.put_value.Goals as goal
-
-pub returns-then-atoms-eq0 : goal.returns-then-atoms-eq0
-returns-then-atoms-eq0 c = put_as (joined_none c.args.atoms.now c.if-atoms-eq0.true) (put_nothing _ _)
 
 pub put_rest-requires : goal.put_rest-requires
 put_rest-requires c =
@@ -20,7 +17,7 @@ put_rest-requires c =
       n.ensures.place,
       put-length n.ensures,
       name_short _
-          (c.shared_slice_known-2-1.given 0).fits,
+          (c.type_inv.atoms 0).fits,
     )
 
 pub returns : goal.returns

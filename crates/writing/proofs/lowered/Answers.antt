@@ -1,36 +1,21 @@
--- `writing::lowered` meets its contract. The loop's invariant: the atoms before place i stand in the array as they are
--- written. Assumes nothing.
-use native.Mathlib.Omega.{arith}
-use mathlib.Core.Path.{refl}
-use Rattle.buffer.proofs.Puts.{put_nothing, put_byte, put_then, put_as}
-use Rattle.writing.proofs.Lower.{written_next, all_written}
+-- `writing::lowered` meets its contract: one atom more is as it is written in each turn. Assumes nothing.
+use Rattle.std.proofs.Common.{get_or, arith}
+use Rattle.std.proofs.lemmas.List.{get_or_default}
+use Rattle.std.proofs.lemmas.List.Edits.{map_over_more}
+use Rattle.writing.specs.Written.{as_written}
+use Rattle.writing.proofs.Lower.{all_written}
 use Rattle.writing.proofs.lowered.Goals as goal
 
-pub loop-i-init : goal.loop-i-init
-loop-i-init c = (omega arith, refl, put_nothing _ _)
-
-pub bounds-right-i : goal.bounds-right-i
-bounds-right-i c = omega arith
-
-pub as_written-requires : goal.as_written-requires
-as_written-requires c = tt
-
-pub bounds-lowered-i : goal.bounds-lowered-i
-bounds-lowered-i c = omega arith
-
-pub overflow_step-i : goal.overflow_step-i
-overflow_step-i c = omega arith
-
-pub loop-i-smaller : goal.loop-i-smaller
-loop-i-smaller c = omega arith
-
-pub loop-i-preserved : goal.loop-i-preserved
-loop-i-preserved c =
-    let right = c.args.right.now in
-    let l = c.loop-i in
-    let put = put_then l.invariant.2 (put_byte l.lowered l.i c.as_written.result) in
-    (omega arith, refl, put_as (written_next right l.i (omega arith) c.as_written.ensures) put)
+pub loop-atom-preserved : goal.loop-atom-preserved
+loop-atom-preserved c =
+    let atoms = c.loop-atom.atoms in
+    let i = c.loop-atom.atom-index in
+    rw c.as_written.ensures
+    (map_over_more as_written c.copy_from_slice.new.self atoms i (get_or atoms i 0) c.loop-atom-test.true
+    c.loop-atom.invariant
+    (get_or_default atoms i 0 _ (omega arith)))
 
 pub returns : goal.returns
 returns c =
-    all_written c.args.right.now (omega arith) (omega arith) c.loop-i.invariant.2
+    all_written c.args.right.now _ c.loop-atom.atom-index c.copy_from_slice.ensures.after c.loop-atom-test.false
+    c.loop-atom.invariant

@@ -1,5 +1,5 @@
 -- `writing::put_terms` meets its contract: one piece behind the other. Assumes nothing.
-use native.Mathlib.Omega.{arith}
+use Rattle.std.proofs.Common.{arith}
 use Rattle.buffer.proofs.Puts.{put-length}
 use Rattle.writing.proofs.Fronts.{length_front}
 use Rattle.writing.proofs.Blocks.{terms_put}

@@ -1,41 +1,40 @@
--- `writing::write` meets its contract: 16, then what the flags tell of 7, 8 and 18, then the block. Assumes nothing.
-use native.Mathlib.Omega.{arith}
-use lib.ListN.{length-take}
-use Rattle.writing.proofs.Sides.{block_received}
-use Rattle.writing.proofs.Settled.{tells_7, tells_8, tells_18, lengths_within, short_promised, length_promised, byte_promised, side_promised, block_promised}
+-- `writing::write` meets its contract: 16, then 7, 8 and 18, then the block. Assumes nothing.
+use Rattle.std.proofs.Common.{arith, length-take}
+use Rattle.writing.proofs.Sides.{Lengths, block_received}
+use Rattle.writing.proofs.Settled.{left_7, right_7, not_7, left_8, right_8, not_8, left_18, right_18, not_18, lengths_within, short_promised, length_promised, byte_promised, side_promised, block_promised}
 use Rattle.writing.proofs.write.Goals as goal
+use Rattle.writing.proofs.write.Goals.{then-wrong_length-via-then-wrong_length, then-wrong_length-via-else-wrong_length+then-wrong_length-2, then-wrong_byte-via-then-wrong_byte, then-wrong_byte-via-else-wrong_byte+then-wrong_byte-2, then-holds_variable-via-then-holds_variable, then-holds_variable-via-else-holds_variable+then-holds_variable-2}
 
 pub returns-then-block-lt512 : goal.returns-then-block-lt512
-returns-then-block-lt512 c = short_promised c.if-block-lt512.true
+returns-then-block-lt512 c = short_promised (omega arith)
 
-pub returns-then-wrong_lengths : goal.returns-then-wrong_lengths
-returns-then-wrong_lengths c =
-    let seven = tells_7 {block = c.args.block.now} c.wrong_length.ensures c.wrong_length-2.ensures in
-    length_promised (omega arith) (seven.if_true c.if-wrong_lengths.true)
+pub returns-then-wrong_length : goal.returns-then-wrong_length
+returns-then-wrong_length c =
+    length_promised (omega arith)
+    (elim c.then-wrong_length.branch [
+      | then-wrong_length-via-then-wrong_length w ↦ search left_7
+      | then-wrong_length-via-else-wrong_length+then-wrong_length-2 w ↦ search right_7
+    ])
 
-pub returns-then-wrong_bytes : goal.returns-then-wrong_bytes
-returns-then-wrong_bytes c =
-    let seven = tells_7 {block = c.args.block.now} c.wrong_length.ensures c.wrong_length-2.ensures in
-    let eight = tells_8 {block = c.args.block.now} c.wrong_byte.ensures c.wrong_byte-2.ensures in
-    byte_promised c.if-block-lt512.false (seven.if_false c.if-wrong_lengths.false)
-    (eight.if_true c.if-wrong_bytes.true)
+pub returns-then-wrong_byte : goal.returns-then-wrong_byte
+returns-then-wrong_byte c =
+    byte_promised (omega arith) (search not_7)
+    (elim c.then-wrong_byte.branch [
+      | then-wrong_byte-via-then-wrong_byte w ↦ search left_8
+      | then-wrong_byte-via-else-wrong_byte+then-wrong_byte-2 w ↦ search right_8
+    ])
 
-pub returns-then-wrong_sides : goal.returns-then-wrong_sides
-returns-then-wrong_sides c =
-    let seven = tells_7 {block = c.args.block.now} c.wrong_length.ensures c.wrong_length-2.ensures in
-    let eight = tells_8 {block = c.args.block.now} c.wrong_byte.ensures c.wrong_byte-2.ensures in
-    let eighteen = tells_18 {block = c.args.block.now} c.holds_variable.ensures c.holds_variable-2.ensures in
-    side_promised c.if-block-lt512.false (seven.if_false c.if-wrong_lengths.false)
-    (eight.if_false (cc))
-    (eighteen.if_true c.if-wrong_sides.true)
-
-pub slice_bounds-write_block-end-2 : goal.slice_bounds-write_block-end-2
-slice_bounds-write_block-end-2 c = simp length-take (omega arith)
+pub returns-then-holds_variable : goal.returns-then-holds_variable
+returns-then-holds_variable c =
+    side_promised (omega arith) (search not_7) (search not_8)
+    (elim c.then-holds_variable.branch [
+      | then-holds_variable-via-then-holds_variable w ↦ search left_18
+      | then-holds_variable-via-else-holds_variable+then-holds_variable-2 w ↦ search right_18
+    ])
 
 pub write_block-requires : goal.write_block-requires
 write_block-requires c =
-    let seven = tells_7 {block = c.args.block.now} c.wrong_length.ensures c.wrong_length-2.ensures in
-    let sides = lengths_within (seven.if_false c.if-wrong_lengths.false) in
+    let sides : Lengths c.args.left.now c.args.right.now = lengths_within {block = c.args.block.now} (search not_7) in
     record {
       left_nonzero = (sides.left_some, sides.left_few);
       right_nonzero = (sides.right_some, sides.right_few);
@@ -44,11 +43,6 @@ write_block-requires c =
 
 pub returns : goal.returns
 returns c =
-    let seven = tells_7 {block = c.args.block.now} c.wrong_length.ensures c.wrong_length-2.ensures in
-    let eight = tells_8 {block = c.args.block.now} c.wrong_byte.ensures c.wrong_byte-2.ensures in
-    let eighteen = tells_18 {block = c.args.block.now} c.holds_variable.ensures c.holds_variable-2.ensures in
-    let sides = lengths_within (seven.if_false c.if-wrong_lengths.false) in
-    block_promised c.if-block-lt512.false (seven.if_false c.if-wrong_lengths.false)
-    (eight.if_false c.if-wrong_bytes.false)
-    (eighteen.if_false c.if-wrong_sides.false)
+    let sides : Lengths c.args.left.now c.args.right.now = lengths_within {block = c.args.block.now} (search not_7) in
+    block_promised (omega arith) (search not_7) (search not_8) (search not_18)
     (block_received sides c.args.number c.args.block.now c.write_block.ensures)

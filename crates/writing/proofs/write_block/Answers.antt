@@ -1,9 +1,6 @@
 -- `writing::write_block` meets its contract: the terms, zeros up to byte 509, and the check. Assumes nothing.
-use Prim.Native.Nat.{ℕ, ◌<◌, ◌≤◌}
-use native.Mathlib.Omega.{arith}
-use mathlib.Core.Path.{◌≡◌, ap}
-use mathlib.Core.List.{List, map}
-use lib.ListN.{length, length-map}
+use Rattle.std.proofs.Common.{ℕ, ◌<◌, ◌≤◌, arith, ◌≡◌, ap, List, map, length}
+use lib.ListN.{length-map}
 use Rattle.buffer.specs.Put.{Put}
 use Rattle.buffer.proofs.Puts.{put-length, put_as}
 use Rattle.writing.specs.Written.{front, as_written, up_to_terms}

@@ -1,44 +1,32 @@
 -- `block::header::read_header` meets its contract: each refusal is the first number that the block gives.
 -- Assumes nothing.
-use Rattle.std.proofs.Common.{◌≡◌, ℕ, not, sym, refl, ap, ◌∙◌}
-use Rattle.block.specs.Inner.{is_refused, is_good}
-use Rattle.block.proofs.Settled.{tested_outside, tested_within, check_first, block_number_first, term_length_first}
+use Rattle.std.proofs.Common.{◌≡◌, ◌⊎◌, inl, inr, arith}
+use Rattle.block.specs.Block.{block_number, check, check_of_bytes, left_length, right_length}
+use Rattle.block.specs.Table.{NoLength}
+use Rattle.block.proofs.Settled.{no_length, check_first, block_number_first, term_length_first}
 use Rattle.block.proofs.header.read_header.Goals as goal
+use Rattle.block.proofs.header.read_header.Goals.{then-not-is_term_length-via-then-not-is_term_length, then-not-is_term_length-via-else-not-is_term_length+then-not-is_term_length-2}
 
--- two numbers agree, or differ, as those do that they are
-agree : {a b x y : ℕ} → a ≡ x → b ≡ y → a ≡ b → x ≡ y
-agree e f same = sym e ∙ same ∙ f
+pub returns-then-from_be_bytes-check_of : goal.returns-then-from_be_bytes-check_of
+returns-then-from_be_bytes-check_of c =
+    check_first c.requires (λ same. c.if-from_be_bytes-check_of.true (omega (arith, same, c.from_be_bytes.ensures, c.check_of.ensures)))
 
-differ : {a b x y : ℕ} → a ≡ x → b ≡ y → (a ≡ b → ⊥) → x ≡ y → ⊥
-differ e f other same = other (e ∙ same ∙ sym f)
+pub returns-then-from_be_bytes-number : goal.returns-then-from_be_bytes-number
+returns-then-from_be_bytes-number c =
+    let block = c.args.block.now in
+    let checked : check block ≡ check_of_bytes block =
+    omega (arith, c.from_be_bytes.ensures, c.check_of.ensures) in
+    block_number_first c.requires checked (λ same. c.if-from_be_bytes-number.true (omega (arith, same, c.from_be_bytes-2.ensures)))
 
-pub returns-then-check-right_check : goal.returns-then-check-right_check
-returns-then-check-right_check c =
-    is_refused
-    (check_first c.requires
-    (differ c.two_bytes-check.ensures c.check_of-right_check.ensures c.if-check-right_check.true))
-
-pub returns-then-written-number : goal.returns-then-written-number
-returns-then-written-number c =
-    is_refused
-    (block_number_first c.requires (agree c.two_bytes-check.ensures c.check_of-right_check.ensures c.if-check-right_check.false)
-    (differ c.two_bytes-written.ensures refl c.if-written-number.true))
-
-pub returns-then-not-is_good : goal.returns-then-not-is_good
-returns-then-not-is_good c =
-    is_refused
-    (term_length_first c.requires (agree c.two_bytes-check.ensures c.check_of-right_check.ensures c.if-check-right_check.false)
-    (agree c.two_bytes-written.ensures refl c.if-written-number.false)
-    (tested_outside c.are_term_lengths-is_good.ensures (ap not c.if-not-is_good.true)))
-
-pub returns : goal.returns
-returns c =
-    let lengths = tested_within c.are_term_lengths-is_good.ensures (ap not c.if-not-is_good.false) in
-    is_good
-    (record {
-      whole = c.requires;
-      checked = agree c.two_bytes-check.ensures c.check_of-right_check.ensures c.if-check-right_check.false;
-      numbered = agree c.two_bytes-written.ensures refl c.if-written-number.false;
-      left_length = lengths.0;
-      right_length = lengths.1;
-    })
+pub returns-then-not-is_term_length : goal.returns-then-not-is_term_length
+returns-then-not-is_term_length c =
+    let block = c.args.block.now in
+    let checked : check block ≡ check_of_bytes block =
+    omega (arith, c.from_be_bytes.ensures, c.check_of.ensures) in
+    let numbered : block_number block ≡ c.args.number = omega (arith, c.from_be_bytes-2.ensures) in
+    let wrong : NoLength (left_length block) ⊎ NoLength (right_length block) =
+    elim c.then-not-is_term_length.branch [
+      | then-not-is_term_length-via-then-not-is_term_length w ↦ inl (no_length w.if-not-is_term_length.ensures)
+      | then-not-is_term_length-via-else-not-is_term_length+then-not-is_term_length-2 w ↦ inr (no_length w.if-not-is_term_length-2.ensures)
+    ] in
+    term_length_first c.requires checked numbered wrong

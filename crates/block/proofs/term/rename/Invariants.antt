@@ -1,9 +1,8 @@
-use Rattle.std.proofs.Common.{◌≡◌, ◌-◌, ◌≤◌, length}
-use Rattle.block.proofs.Renamed.{renamed_before}
+-- The atoms before the index are renamed, and those from there on are what they were.
+use Rattle.std.proofs.Common.{◌≡◌, ◌++◌, map, take, drop}
+use Rattle.block.specs.Front.{on_the_right}
 use Rattle.block.proofs.term.rename.Given as goal
 
-abbrev pub invariant-loop-i : goal.invariant-loop-i
-invariant-loop-i l = (l.i ≤ l.i-end) × (l.i-end ≡ length l.initial.atoms) × (l.atoms ≡ renamed_before l.i l.initial.atoms)
-
-abbrev pub decreases-loop-i : goal.decreases-loop-i
-decreases-loop-i l = l.i-end - l.i
+abbrev pub invariant-loop-atom : goal.invariant-loop-atom
+invariant-loop-atom l =
+    l.atoms ≡ map on_the_right (take l.atom-index l.initial.atoms) ++ drop l.atom-index l.initial.atoms

@@ -1,16 +1,11 @@
 -- `block::term::take_apart` meets its contract: the bytes are a term exactly if the term that they begin with
 -- uses all of them. Assumes nothing.
-use Rattle.block.specs.Inner.{no_term}
 use Rattle.block.proofs.Begins.{nothing_is_no_term}
-use Rattle.block.proofs.Flattens.{when_found, when_nothing, left_over_is_no_term, whole_is_term}
+use Rattle.block.proofs.Flattens.{left_over_is_no_term}
 use Rattle.block.proofs.term.take_apart.Goals as goal
 
-pub returns-in_default : goal.returns-in_default
-returns-in_default c = no_term (nothing_is_no_term
-    (when_nothing c.flatten-flattened.ensures c.in_default.is))
+pub returns-in_err-term : goal.returns-in_err-term
+returns-in_err-term c = rw c.from_residual.ensures (nothing_is_no_term c.in_err-term.ensures)
 
-pub returns-then-used-bytes : goal.returns-then-used-bytes
-returns-then-used-bytes c = no_term (left_over_is_no_term (when_found c.flatten-flattened.ensures c.in-Found.is) c.if-used-bytes.true)
-
-pub returns : goal.returns
-returns c = whole_is_term (when_found c.flatten-flattened.ensures c.in-Found.is) c.if-used-bytes.false
+pub returns-then-term-bytes : goal.returns-then-term-bytes
+returns-then-term-bytes c = left_over_is_no_term c.in_ok-term.ensures c.if-term-bytes.true

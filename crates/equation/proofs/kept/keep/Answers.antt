@@ -9,34 +9,18 @@ use Rattle.equation.proofs.Below.{row_within}
 use Rattle.equation.proofs.Held.{keeps_lower, keeps_full, keeps_put}
 use Rattle.equation.proofs.kept.keep.Goals as goal
 
-pub lower-requires : goal.lower-requires
-lower-requires c = omega (
-  arith,
-  mul-le-mul_right (length c.args.vector.now)
-      c.requires.0,
-)
-
 pub returns-then-lower : goal.returns-then-lower
-returns-then-lower c = keeps_lower c.requires.0
+returns-then-lower c = keeps_lower c.args.rows.now c.requires.0
     (c.lower.ensures.if_true c.if-lower.true)
 
 pub returns-then-count-limit : goal.returns-then-count-limit
 returns-then-count-limit c =
-    keeps_full c.requires.0 (c.lower.ensures.if_false c.if-lower.false) c.if-count-limit.true
-
-pub overflow_mul-count : goal.overflow_mul-count
-overflow_mul-count c =
-    omega (arith, mul-le-mul_right (length c.args.vector.now) c.requires.0)
-
-pub put_bytes-requires : goal.put_bytes-requires
-put_bytes-requires c =
-    let room_left : c.args.count < c.args.limit = omega arith in
-    omega (arith, row_within (length c.args.vector.now) room_left)
+    keeps_full c.args.rows.now c.requires.0 (c.lower.ensures.if_false c.if-lower.false) c.if-count-limit.true
 
 pub returns : goal.returns
 returns c =
     let room_left : c.args.count < c.args.limit = omega arith in
-    keeps_put c.requires.0 (c.lower.ensures.if_false c.if-lower.false) c.if-count-limit.false
+    keeps_put c.args.rows.now c.requires.0 (c.lower.ensures.if_false c.if-lower.false) c.if-count-limit.false
     (omega (arith, mul-le-mul_right (length c.args.vector.now) c.requires.0))
     (put_pasted c.put_bytes.ensures
     (omega (arith, row_within (length c.args.vector.now) room_left)))

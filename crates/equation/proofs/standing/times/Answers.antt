@@ -8,8 +8,8 @@ use Rattle.equation.proofs.standing.times.Goals as goal
 pub overflow_mul-result : goal.overflow_mul-result
 overflow_mul-result c = omega (
   arith,
-  bytes_product {a = c.wide.result} {b = c.wide-2.result} (omega arith) (omega arith),
+  bytes_product {a = c.from.result} {b = c.from-2.result} (omega arith) (omega arith),
 )
 
 pub returns : goal.returns
-returns c = ap₂ (λ a b. a * b) c.wide.ensures.value c.wide-2.ensures.value
+returns c = ap₂ (λ a b. a * b) c.from.ensures c.from-2.ensures

@@ -1,29 +1,21 @@
 -- `pack::packing::pack_line` meets its contract: each answer has its own way. Assumes nothing.
-use Rattle.pattern.proofs.Lines.{sides_stand}
+use Rattle.std.proofs.Common.{ap, ◌∙◌, Ok}
 use Rattle.pack.proofs.Answered.{long_goes, nothing_goes, wrong_goes, pair_goes}
 use Rattle.pack.proofs.packing.pack_line.Goals as goal
 
-pub returns-then-held-gt-MOST_BYTES : goal.returns-then-held-gt-MOST_BYTES
-returns-then-held-gt-MOST_BYTES g c =
-    long_goes c.requires.place c.if-held-gt-MOST_BYTES.true c.after_wrong.ensures
+pub returns-in_default : goal.returns-in_default
+returns-in_default g c = long_goes c.requires.place c.in_default.ensures c.after_wrong.ensures
 
-pub slice_bounds-left-end : goal.slice_bounds-left-end
-slice_bounds-left-end g c = (sides_stand c.read_line-answer.ensures c.in-Sides.is).0
+pub returns-in-Ok-None : goal.returns-in-Ok-None
+returns-in-Ok-None g c =
+    nothing_goes c.requires.place c.in-Some.ensures c.read_line.ensures
+    (c.in-Ok-None.is ∙ ap Ok c.in-Ok-None.field-0-is) c.after_line.ensures
 
-pub slice_bounds-right-end : goal.slice_bounds-right-end
-slice_bounds-right-end g c = (sides_stand c.read_line-answer.ensures c.in-Sides.is).1
+pub returns-in-Ok-Some : goal.returns-in-Ok-Some
+returns-in-Ok-Some g c =
+    pair_goes c.requires.place c.in-Some.ensures c.read_line.ensures
+    (c.in-Ok-Some.is ∙ ap Ok c.in-Ok-Some.field-0-is) c.pack_pair.ensures
 
-pub returns-in-Nothing : goal.returns-in-Nothing
-returns-in-Nothing g c =
-    nothing_goes c.requires.place c.if-held-gt-MOST_BYTES.false c.read_line-answer.ensures c.in-Nothing.is
-    c.after_line.ensures
-
-pub returns-in-Wrong : goal.returns-in-Wrong
-returns-in-Wrong g c =
-    wrong_goes c.requires.place c.if-held-gt-MOST_BYTES.false c.read_line-answer.ensures c.in-Wrong.is
-    c.after_wrong-in-Wrong.ensures
-
-pub returns-in-Sides : goal.returns-in-Sides
-returns-in-Sides g c =
-    pair_goes c.requires.place c.if-held-gt-MOST_BYTES.false c.read_line-answer.ensures c.in-Sides.is
-    c.pack_pair.ensures
+pub returns-in-Err : goal.returns-in-Err
+returns-in-Err g c =
+    wrong_goes c.requires.place c.in-Some.ensures c.read_line.ensures c.in-Err.is c.after_wrong-in-Err.ensures

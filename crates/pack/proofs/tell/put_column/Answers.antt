@@ -14,21 +14,18 @@ put_bytes-requires c =
       decimal_fits c.args.column c.ranges.column.fits,
     )
 
-pub returns : goal.returns
-returns c =
-    let line = c.put_line-at.ensures in
-    let word = c.put_bytes-at.ensures in
-    let number = c.put_number-at.ensures in
-    let behind = c.put_bytes.ensures in
-    record {
-      put = put_then (put_then (put_then line.put word) number) behind;
-      upper_bound =
-          omega (
-            arith,
-            line.upper_bound,
-            word.place,
-            number.place,
-            behind.place,
-            decimal_fits c.args.column c.ranges.column.fits,
-          );
-    }
+pub returns-clause-put : goal.returns-clause-put
+returns-clause-put c =
+    put_then (put_then (put_then c.put_line-at.ensures.put c.put_bytes-at.ensures) c.put_number-at.ensures)
+    c.put_bytes.ensures
+
+pub returns-clause-upper_bound : goal.returns-clause-upper_bound
+returns-clause-upper_bound c =
+    omega (
+      arith,
+      c.put_line-at.ensures.upper_bound,
+      c.put_bytes-at.ensures.place,
+      c.put_number-at.ensures.place,
+      c.put_bytes.ensures.place,
+      decimal_fits c.args.column c.ranges.column.fits,
+    )

@@ -1,48 +1,41 @@
 -- `pattern::side::lead` meets its contract: each kind of byte has its own arm. Assumes nothing.
+use Rattle.std.proofs.Common.{◌≡◌, ◌-◌, arith}
+use Rattle.std.proofs.lemmas.Result.{err_from_is_err_and}
+use Rattle.pattern.specs.declared.Fault.TheVariants as fault
 use Rattle.pattern.proofs.Turns.{blank_turns, opening_turns, opening_stuck, closing_turns, closing_early, closing_stuck, plus_turns, plus_stuck, other_stuck}
 use Rattle.pattern.proofs.side.lead.Goals as goal
 
-pub returns-then-ended : goal.returns-then-ended
-returns-then-ended c =
-    opening_stuck (rw c.in-Opening.is at c.classify-character.ensures) c.if-ended.true
+pub returns-in-Blank-default : goal.returns-in-Blank-default
+returns-in-Blank-default c = blank_turns (rw c.in-Blank-default.is-0 at c.classify.ensures)
 
-pub returns-then-not-ended : goal.returns-then-not-ended
-returns-then-not-ended c =
-    closing_early (rw c.in-Closing.is at c.classify-character.ensures)
-    c.if-not-ended.true
+pub returns-in-Opening-false : goal.returns-in-Opening-false
+returns-in-Opening-false c = opening_turns (rw c.in-Opening-false.is-0 at c.classify.ensures) c.in-Opening-false.is-1
 
-pub returns-then-depth-eq0 : goal.returns-then-depth-eq0
-returns-then-depth-eq0 c =
-    closing_stuck (rw c.in-Closing.is at c.classify-character.ensures)
-    c.if-not-ended.false
-    c.if-depth-eq0.true
+pub returns-in_err-depth-in-Closing-true : goal.returns-in_err-depth-in-Closing-true
+returns-in_err-depth-in-Closing-true c =
+    let p = err_from_is_err_and c.from_residual.result c.from_residual.ensures.1 in
+    let none_open : c.args.depth ≡ 0 = grind arith in
+    let why : c.in_err-depth-in-Closing-true.field-0.0 ≡ fault.NotOpened = grind arith in
+    rw (p.1, p.2, why)
+    (closing_stuck (rw c.in-Closing-true.is-0 at c.classify.ensures) c.in-Closing-true.is-1 none_open)
 
-pub returns-then-not-ended-2 : goal.returns-then-not-ended-2
-returns-then-not-ended-2 c =
-    plus_stuck (rw c.in-Plus.is at c.classify-character.ensures)
-    c.if-not-ended-2.true
+pub returns-in_ok-depth-in-Closing-true : goal.returns-in_ok-depth-in-Closing-true
+returns-in_ok-depth-in-Closing-true c =
+    let one_less : c.in_ok-depth-in-Closing-true.depth ≡ c.args.depth - 1 = grind arith in
+    rw one_less
+    (closing_turns (rw c.in-Closing-true.is-0 at c.classify.ensures) c.in-Closing-true.is-1 (λ none_open. grind arith))
 
-pub returns-then-ended-2 : goal.returns-then-ended-2
-returns-then-ended-2 c =
-    other_stuck (rw c.in-Other.is at c.classify-character.ensures) c.if-ended-2.true
+pub returns-in-Plus-true : goal.returns-in-Plus-true
+returns-in-Plus-true c = plus_turns (rw c.in-Plus-true.is-0 at c.classify.ensures) c.in-Plus-true.is-1
 
-pub returns-in-Blank : goal.returns-in-Blank
-returns-in-Blank c = blank_turns (rw c.in-Blank.is at c.classify-character.ensures)
+pub returns-in-Closing-false : goal.returns-in-Closing-false
+returns-in-Closing-false c = closing_early c.in-Closing-false.ensures c.in-Closing-false.is-1
 
-pub returns-else-ended : goal.returns-else-ended
-returns-else-ended c =
-    opening_turns (rw c.in-Opening.is at c.classify-character.ensures) c.if-ended.false
+pub returns-in-Closing-false-2 : goal.returns-in-Closing-false-2
+returns-in-Closing-false-2 c = plus_stuck c.in-Closing-false.ensures c.in-Closing-false.is-1
 
-pub returns-else-depth-eq0 : goal.returns-else-depth-eq0
-returns-else-depth-eq0 c =
-    closing_turns (rw c.in-Closing.is at c.classify-character.ensures)
-    c.if-not-ended.false
-    c.if-depth-eq0.false
+pub returns-in-Opening-true : goal.returns-in-Opening-true
+returns-in-Opening-true c = opening_stuck c.in-Opening-true.ensures c.in-Opening-true.is-1
 
-pub returns-else-not-ended-2 : goal.returns-else-not-ended-2
-returns-else-not-ended-2 c =
-    plus_turns (rw c.in-Plus.is at c.classify-character.ensures)
-    c.if-not-ended-2.false
-
-pub returns-else-ended-2 : goal.returns-else-ended-2
-returns-else-ended-2 c = (c.if-ended-2.false, rw c.in-Other.is at c.classify-character.ensures)
+pub returns-in-Opening-true-2 : goal.returns-in-Opening-true-2
+returns-in-Opening-true-2 c = other_stuck c.in-Opening-true.ensures c.in-Opening-true.is-1

@@ -1,6 +1,5 @@
+use Rattle.std.proofs.Common.{◌-◌, length}
 use Rattle.pattern.specs.Inner.{Reached}
-use Prim.Native.Nat.{◌-◌}
-use lib.ListN.{length}
 use Rattle.pattern.proofs.side.read_side.Given as goal
 
 abbrev pub invariant-loop-reading : goal.invariant-loop-reading

@@ -1,22 +1,22 @@
--- `pattern::word::name` meets its contract: each arm's tests place the letter and the number. Assumes nothing.
-use native.Mathlib.Omega.{arith}
+-- `pattern::word::name` meets its contract: each arm places the letter and the number. Assumes nothing.
+use Rattle.std.proofs.Common.{arith}
 use Rattle.pattern.specs.Inner.{variable, constant, unwritable, no_atom}
 use Rattle.pattern.proofs.word.name.Goals as goal
 
-pub returns-then-number-ge64 : goal.returns-then-number-ge64
-returns-then-number-ge64 c = no_atom (λ letter small. omega arith) (λ letter small. omega arith)
+pub returns-in-118 : goal.returns-in-118
+returns-in-118 c = variable (omega arith) (omega arith)
 
-pub overflow_add-result : goal.overflow_add-result
-overflow_add-result c = omega arith
-
-pub returns-then-number-ge32 : goal.returns-then-number-ge32
-returns-then-number-ge32 c = unwritable c.in-118.is (omega arith) (omega arith)
+pub returns-in-118-2 : goal.returns-in-118-2
+returns-in-118-2 c = unwritable (omega arith) (omega arith) (omega arith)
 
 pub returns-in-99 : goal.returns-in-99
-returns-in-99 c = constant c.in-99.is (omega arith)
-
-pub returns-else-number-ge32 : goal.returns-else-number-ge32
-returns-else-number-ge32 c = variable c.in-118.is (omega arith)
+returns-in-99 c = constant (omega arith) (omega arith)
 
 pub returns-in_default : goal.returns-in_default
 returns-in_default c = no_atom (λ letter small. omega arith) (λ letter small. omega arith)
+
+pub returns-in_default-2 : goal.returns-in_default-2
+returns-in_default-2 c = no_atom (λ letter small. omega arith) (λ letter small. omega arith)
+
+pub returns-in_default-3 : goal.returns-in_default-3
+returns-in_default-3 c = no_atom (λ letter small. omega arith) (λ letter small. omega arith)

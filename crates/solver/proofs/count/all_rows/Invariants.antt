@@ -1,4 +1,4 @@
-use Prim.Native.Nat.{ℕ, ◌-◌, ◌≤◌, ◌<◌}
+use Prim.Native.Nat.{ℕ, ◌<◌}
 use mathlib.Core.Path.{◌≡◌}
 use lib.ListN.{length, get_or}
 use Rattle.solver.specs.Missing.{AllRows}
@@ -6,7 +6,4 @@ use Rattle.solver.proofs.count.all_rows.Given as goal
 
 abbrev pub invariant-loop-g : goal.invariant-loop-g
 invariant-loop-g l =
-    (l.g ≤ 5) × (length l.rows ≡ 5) × ((k : ℕ) → k < l.g → AllRows (get_or l.sizes k 0) (get_or l.rows k 0))
-
-abbrev pub decreases-loop-g : goal.decreases-loop-g
-decreases-loop-g l = 5 - l.g
+    (length l.rows ≡ 5) × ((k : ℕ) → k < l.g → AllRows (get_or l.sizes k 0) (get_or l.rows k 0))

@@ -1,4 +1,4 @@
-use Prim.Native.Nat.{ℕ, ◌+◌, ◌-◌, ◌*◌, ◌≤◌, ◌<◌}
+use Prim.Native.Nat.{ℕ, ◌+◌, ◌*◌, ◌<◌}
 use mathlib.Core.Path.{◌≡◌}
 use lib.ListN.{length, get_or}
 use Rattle.solver.specs.Missing.{Without}
@@ -6,8 +6,5 @@ use Rattle.solver.proofs.count.not_reaching.Given as goal
 
 abbrev pub invariant-loop-g : goal.invariant-loop-g
 invariant-loop-g l =
-    (l.g ≤ 5) × (length l.fewer ≡ 5)
+    (length l.fewer ≡ 5)
     × ((k : ℕ) → k < l.g → Without (get_or l.rows k 0) (get_or l.reaching (6 * k + l.place) 0) (get_or l.fewer k 0))
-
-abbrev pub decreases-loop-g : goal.decreases-loop-g
-decreases-loop-g l = 5 - l.g

@@ -1,9 +1,5 @@
-use Prim.Native.Nat.{◌-◌}
 use Rattle.solver.proofs.PageWritten.{Writing}
 use Rattle.solver.proofs.page.write_keys.Given as goal
 
 abbrev pub invariant-loop-written : goal.invariant-loop-written
 invariant-loop-written l = Writing l.masks l.first l.last l.written l.wanted l.initial.out l.out
-
-abbrev pub decreases-loop-written : goal.decreases-loop-written
-decreases-loop-written l = l.wanted - l.written

@@ -1,4 +1,4 @@
-use Prim.Native.Nat.{◌+◌, ◌≤◌, ◌-◌}
+use Prim.Native.Nat.{◌≤◌}
 use Rattle.buffer.specs.Put.{Put}
 use Rattle.solver.specs.Rows.{bytes_of}
 use Rattle.table.specs.Table.{group_start}
@@ -7,7 +7,4 @@ use Rattle.solver.proofs.rows.put_groups.Given as goal
 
 abbrev pub invariant-loop-group : goal.invariant-loop-group
 invariant-loop-group l =
-    (l.group ≤ l.table.unbalanced + 1) × (l.next ≤ group_start l.group) × Put l.initial.out 0 (bytes_of (rows_before l.table l.group)) l.next l.out
-
-abbrev pub decreases-loop-group : goal.decreases-loop-group
-decreases-loop-group l = l.table.unbalanced + 1 - l.group
+    (l.next ≤ group_start l.group) × Put l.initial.out 0 (bytes_of (rows_before l.table l.group)) l.next l.out

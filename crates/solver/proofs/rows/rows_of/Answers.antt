@@ -4,7 +4,7 @@ use Rattle.solver.proofs.rows.rows_of.Goals as goal
 
 pub returns : goal.returns
 returns c M L R of none =
-    rows_promised of none c.requires.1 c.put_groups.ensures.0
+    rows_promised of none c.requires c.put_groups.ensures.0
     c.put_groups.ensures.1
     c.size_at.ensures
     c.size_at-2.ensures

@@ -1,4 +1,4 @@
-use Prim.Native.Nat.{◌+◌, ◌*◌, ◌≤◌, ◌-◌}
+use Prim.Native.Nat.{◌+◌, ◌*◌, ◌≤◌}
 use Rattle.ac.specs.Values.{laid_out}
 use Rattle.buffer.specs.Put.{Put}
 use Rattle.list.specs.Runs.{atoms_at}
@@ -8,8 +8,5 @@ use Rattle.solver.proofs.values.put_bindings.Given as goal
 
 abbrev pub invariant-loop-place : goal.invariant-loop-place
 invariant-loop-place l =
-    (l.place ≤ l.places) × (l.next ≤ (2 + longest_value) * l.place)
+    (l.next ≤ (2 + longest_value) * l.place)
     × Put l.initial.out 0 (laid_out (bindings_below l.variables (atoms_at l.rows l.selection) l.place)) l.next l.out
-
-abbrev pub decreases-loop-place : goal.decreases-loop-place
-decreases-loop-place l = l.places - l.place

@@ -1,39 +1,29 @@
--- `solver::values::value_length` meets its contract: before each turn `length` counts the runs before this one, each
--- a byte. Assumes nothing.
+-- `solver::values::value_length` meets its contract: the sum over the runs is their total. Assumes nothing.
+use Prim.Native.Nat.{◌^◌}
 use native.Mathlib.Omega.{arith}
-use mathlib.Core.Path.{◌≡◌, refl, ap, ◌∙◌}
-use Rattle.list.specs.Runs.{total, run_count, times_at}
-use Rattle.solver.proofs.Totals.{total_next}
+use mathlib.Core.Path.{◌∙◌}
+use borrow.Author.Rules.{rules}
+use Rattle.list.specs.Runs.{run_count, times_at}
+use Rattle.std.proofs.lemmas.Iterator.{YieldsList-from_range, YieldsList-from_map}
+use Rattle.std.proofs.lemmas.Iterator.Consumers.{sum_from_yields_List, YieldsList-at}
+use Rattle.std.proofs.lemmas.Iterator.Adapters.{fits_from_length, at_most_from_yields_List}
+use Rattle.std.proofs.lemmas.List.FromFn.{length-range_with_len}
+use Rattle.solver.proofs.Totals.{total_summed}
 use Rattle.solver.proofs.values.value_length.Goals as goal
 
-pub overflow_add-runs : goal.overflow_add-runs
-overflow_add-runs c = omega arith
-
-pub loop-run-init : goal.loop-run-init
-loop-run-init c = (omega arith, refl, omega arith)
-
-pub times-length-requires : goal.times-length-requires
-times-length-requires c = omega arith
-
-pub overflow_add-length : goal.overflow_add-length
-overflow_add-length c = omega (arith, c.times-length.ensures.upper_bound)
-
-pub overflow_add-run : goal.overflow_add-run
-overflow_add-run c = omega arith
-
-pub loop-run-smaller : goal.loop-run-smaller
-loop-run-smaller c = omega arith
-
-pub loop-run-preserved : goal.loop-run-preserved
-loop-run-preserved c =
-    let a = c.args in
-    let l = c.loop-run in
-    let counted =
-    total_next (times_at a.rows.now a.selection a.place) l.invariant.1 c.times-length.ensures.value in
-    (omega arith, counted, omega (arith, c.times-length.ensures.upper_bound))
+pub sum-requires-clause-fits : goal.sum-requires-clause-fits
+sum-requires-clause-fits c =
+    let n = run_count c.args.selection in
+    fits_from_length _ _ 20 (2 ^ 64)
+    (at_most_from_yields_List (YieldsList-at c.map.ensures.source (YieldsList-from_range 0 n n (cc) (omega arith))) (omega (arith, length-range_with_len 0 n)))
+    c.map.ensures.closure (omega arith) (λ x r q k. search rules)
 
 pub returns : goal.returns
 returns c =
     let a = c.args in
-    let end : c.loop-run.run ≡ run_count a.selection = omega arith in
-    c.loop-run.invariant.1 ∙ ap (λ k. total k (times_at a.rows.now a.selection a.place)) end
+    let n = run_count a.selection in
+    sum_from_yields_List c.map.result c.sum.result c.sum.ensures.ran
+    (YieldsList-from_map _ (times_at a.rows.now a.selection a.place)
+    (YieldsList-at c.map.ensures.source (YieldsList-from_range 0 n n (cc) (omega arith)))
+    c.map.ensures.closure (λ x r q k. search rules))
+    ∙ total_summed n (times_at a.rows.now a.selection a.place)

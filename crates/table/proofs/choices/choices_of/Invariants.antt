@@ -6,8 +6,5 @@ use Rattle.table.proofs.choices.choices_of.Given as goal
 
 abbrev pub invariant-loop-g : goal.invariant-loop-g
 invariant-loop-g l =
-    (l.g ≤ l.unbalanced) × (length l.choices ≡ 5)
+    (length l.choices ≡ 5)
     × ((h : ℕ) → l.g ≤ h → h ≤ l.unbalanced → Complete l.reaching l.sizes l.unbalanced l.largest h (get_or l.choices h 0))
-
-abbrev pub decreases-loop-g : goal.decreases-loop-g
-decreases-loop-g l = l.g

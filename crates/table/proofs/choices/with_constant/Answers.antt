@@ -5,38 +5,17 @@ use Rattle.table.proofs.Sets.{found_none, found_more, found_all}
 use Rattle.table.proofs.choices.with_constant.Goals as goal
 
 pub loop-i-init : goal.loop-i-init
-loop-i-init c =
-    (omega arith, found_none c.args.reaching.now c.args.g c.args.largest c.args.later)
-
-pub overflow_add-g : goal.overflow_add-g
-overflow_add-g c = omega arith
-
-pub overflow_shl-i : goal.overflow_shl-i
-overflow_shl-i c = omega arith
-
-pub missed_by-missed-requires : goal.missed_by-missed-requires
-missed_by-missed-requires c = omega arith
-
-pub with_row-sets-requires : goal.with_row-sets-requires
-with_row-sets-requires c = omega arith
-
-pub overflow_add-i : goal.overflow_add-i
-overflow_add-i c = omega arith
-
-pub loop-i-smaller : goal.loop-i-smaller
-loop-i-smaller c = omega arith
+loop-i-init c = found_none c.args.reaching.now c.args.g c.args.largest c.args.later
 
 pub loop-i-preserved : goal.loop-i-preserved
 loop-i-preserved c =
     let a = c.args in
-    let at = c.loop-i in (
-      omega arith,
-      found_more a.reaching.now a.g a.largest a.later a.places (omega arith) at.invariant.1
-          c.missed_by-missed.ensures.missed_by c.with_row-sets.ensures,
-    )
+    let at = c.loop-i in
+    found_more a.reaching.now a.g a.largest a.later a.places (omega arith) at.invariant
+    c.missed_by-missed.ensures.missed_by c.with_row-sets.ensures
 
 pub returns : goal.returns
 returns c =
     let a = c.args in
     let at = c.loop-i in
-    found_all a.reaching.now a.g a.largest a.later at.i at.sets at.invariant.1 (omega arith)
+    found_all a.reaching.now a.g a.largest a.later at.i at.sets at.invariant (omega arith)

@@ -1,10 +1,5 @@
-use Prim.Native.Nat.{◌-◌, ◌≤◌}
 use Rattle.table.proofs.Sets.{FoundTo}
 use Rattle.table.proofs.choices.with_constant.Given as goal
 
 abbrev pub invariant-loop-i : goal.invariant-loop-i
-invariant-loop-i l =
-    (l.i ≤ l.size) × FoundTo l.reaching l.g l.largest l.later l.i l.sets
-
-abbrev pub decreases-loop-i : goal.decreases-loop-i
-decreases-loop-i l = l.size - l.i
+invariant-loop-i l = FoundTo l.reaching l.g l.largest l.later l.i l.sets

@@ -2,28 +2,26 @@
 -- nothing.
 use Prim.Native.Nat.{ℕ}
 use mathlib.Core.Path.{subst₂}
-use native.Mathlib.Omega.{arith}
 use lib.ListN.{take}
 use Rattle.equation.specs.Found.{equation_with, Finds}
 use Rattle.equation.specs.declared.Offsets.{Offsets}
-use Rattle.table.proofs.Rows.{most_rows_least}
-use Rattle.table.proofs.Finding.{found_group}
+use Rattle.table.specs.Rows.{most_rows}
+use Rattle.table.specs.Groups.{offsets_in}
+use Rattle.table.proofs.Finding.{found_group, few_found}
 use Rattle.table.proofs.groups.find_group.Goals as goal
 
-pub offsets_in-offsets-requires : goal.offsets_in-offsets-requires
-offsets_in-offsets-requires c =
-    omega (arith, c.requires.0.constants_fit, c.requires.1)
+finds : (c : goal.After-find_rows) → let v = c.args.pair.variables in
+    Finds (most_rows c.args.group)
+    (equation_with (take v.count v.left) (take v.count v.right) (offsets_in c.args.pair.constants c.args.group))
+    c.find_rows.result
+finds c =
+    let v = c.args.pair.variables in
+    subst₂ (λ (limit : ℕ) (offsets : Offsets).
+    Finds limit (equation_with (take v.count v.left) (take v.count v.right) offsets) c.find_rows.result)
+    c.most_rows.ensures c.offsets_in-offsets.ensures c.find_rows.ensures
 
-pub find_rows-requires : goal.find_rows-requires
-find_rows-requires c =
-    (c.requires.0.variables_fit, omega (arith, c.most_rows.ensures, most_rows_least c.args.group))
+pub returns-clause-few : goal.returns-clause-few
+returns-clause-few c = few_found (finds c)
 
-pub returns : goal.returns
-returns c M L R of =
-    let variables = c.args.pair.variables in
-    let found = c.find_rows.result in
-    found_group of c.args.group c.requires.1
-    (subst₂ (λ (limit : ℕ) (offsets : Offsets). Finds limit
-    (equation_with (take variables.count variables.left) (take variables.count variables.right) offsets)
-    found.rows found.number)
-    c.most_rows.ensures c.offsets_in-offsets.ensures c.find_rows.ensures)
+pub returns-clause-finds : goal.returns-clause-finds
+returns-clause-finds c M L R of = found_group of c.args.group c.requires.1 (finds c)

@@ -1,55 +1,28 @@
--- `table::masks::missed_by` meets its contract. The invariant: the places before this one are marked where they
--- are missed.
-use Prim.Native.Nat.{◌≤◌}
+-- `table::masks::missed_by` meets its contract: the places that pass the test are marked, and they are few.
+use Rattle.std.proofs.Common.{rules, tests}
+use Prim.Native.Nat.{ℕ, ◌+◌, ◌*◌, ◌≤◌}
 use native.Mathlib.Omega.{arith}
-use mathlib.Core.Path.{sym, subst}
-use borrow.Author.Tests.{eq-eqb, ne_eqb}
+use mathlib.Core.Bool.{Bool}
+use mathlib.Core.List.{List}
+use lib.Bits.{bit_and}
+use lib.Dec.{eqb}
+use lib.ListN.{get_or}
 use lib.Pow.{pow_mono}
-use Rattle.table.proofs.Bits.{MarkedTo, marked_none, marked_in, marked_out, marked_all}
-use Rattle.table.proofs.masks.missed_by.Goals.{then-reaching-g-eq0, else-reaching-g-eq0}
+use Rattle.table.specs.Masks.{MarkedTo}
+use Rattle.table.proofs.masks.missed_by.Goals.{After-mask_where}
 use Rattle.table.proofs.masks.missed_by.Goals as goal
 
-pub loop-place-init : goal.loop-place-init
-loop-place-init c = (omega arith, marked_none _)
+-- none of the rows is above 0 at the place
+abbrev misses : List ℕ → ℕ → ℕ → ℕ → Bool
+misses reaching g rows p = eqb (bit_and (get_or reaching (6 * g + p) 0) rows) 0
 
-pub overflow_mul-g : goal.overflow_mul-g
-overflow_mul-g c = omega arith
+marked : (c : After-mask_where) → MarkedTo (misses c.args.reaching.now c.args.g c.args.rows) c.args.places c.mask_where.result
+marked c = c.mask_where.ensures (misses c.args.reaching.now c.args.g c.args.rows) (λ i b less said. search (rules, tests))
 
-pub overflow_add-g : goal.overflow_add-g
-overflow_add-g c = omega arith
+pub returns-clause-missed_by : goal.returns-clause-missed_by
+returns-clause-missed_by c = (marked c).marks
 
-pub offset_bounds-reaching-g : goal.offset_bounds-reaching-g
-offset_bounds-reaching-g c = omega arith
-
-pub bounds-reaching-g : goal.bounds-reaching-g
-bounds-reaching-g c = omega arith
-
-pub overflow_shl-missed : goal.overflow_shl-missed
-overflow_shl-missed c = omega arith
-
-pub overflow_add-place : goal.overflow_add-place
-overflow_add-place c = omega arith
-
-pub loop-place-smaller : goal.loop-place-smaller
-loop-place-smaller c = omega arith
-
-pub loop-place-preserved : goal.loop-place-preserved
-loop-place-preserved c =
-    let marked = c.loop-place.invariant.1 in (
-      omega arith,
-      elim c.if-reaching-g-eq0.branch [
-        | then-reaching-g-eq0 w ↦ subst (MarkedTo _ _) (sym w.missed-is)
-            (marked_in marked (omega arith) (eq-eqb _ 0 w.if-reaching-g-eq0.true))
-        | else-reaching-g-eq0 w ↦ subst (MarkedTo _ _) (sym w.missed-is)
-            (marked_out marked (ne_eqb _ 0 w.if-reaching-g-eq0.false))
-      ],
-    )
-
-pub returns : goal.returns
-returns c =
-    let marked = c.loop-place.invariant.1 in
-    let few : c.loop-place.place ≤ 6 = omega arith in
-    record {
-      missed_by = marked_all marked (omega arith);
-      upper_bound = omega (arith, marked.small, pow_mono few);
-    }
+pub returns-clause-upper_bound : goal.returns-clause-upper_bound
+returns-clause-upper_bound c =
+    let few : c.args.places ≤ 6 = omega arith in
+    omega (arith, (marked c).small, pow_mono few)

@@ -4,6 +4,8 @@ use borrow.Rule.Slice.PartMut.{put_mid}
 use Rattle.std.proofs.lemmas.Slice.{put_mid-paste}
 use lib.Seq.{sets, sets-eq, length-sets, take-length}
 use Rattle.buffer.specs.Put.{Put}
+use Rattle.buffer.specs.Filled.{HasRoomFor, Puts}
+use Rattle.buffer.specs.declared.filled.Filled.{Filled}
 
 -- what is put behind what was put is put as one
 sets_append : (l : List ℕ) (i : ℕ) (vs ws : List ℕ) → sets (sets l i vs) (i + length vs) ws ≡ sets l i (vs ++ ws)
@@ -69,3 +71,21 @@ pub put_pasted : {out after bytes : List ℕ} {at next : ℕ} → Put out at byt
     → at + length bytes ≤ length out
     → after ≡ take at out ++ bytes ++ drop (at + length bytes) out
 put_pasted {out} {after} {bytes} {at} put room = put.stored ∙ sets-eq bytes out at room
+
+-- nothing is put behind what was put ..
+pub puts_nothing : (filled : Filled) → Puts filled [] filled
+puts_nothing filled = record { put = put_nothing filled.buffer.now filled.end; same = refl }
+
+-- .. one text and then another are the two in a row ..
+pub puts_then : {before between after : Filled} {s t : List ℕ} → Puts before s between → Puts between t after
+    → Puts before (s ++ t) after
+puts_then first second = record { put = put_then first.put second.put; same = second.same ∙ first.same }
+
+-- .. and the same text may be said in another way
+pub puts_as : {before after : Filled} {s t : List ℕ} → s ≡ t → Puts before s after → Puts before t after
+puts_as e puts = record { put = put_as e puts.put; same = puts.same }
+
+-- what has room behind a text has room when it is put
+pub room_behind : {before after : Filled} {s : List ℕ} → Puts before s after → (count : ℕ)
+    → HasRoomFor before (length s + count) → HasRoomFor after count
+room_behind puts count room = omega (arith, puts.put.place, put-length puts.put)

@@ -5,6 +5,7 @@
 #![tactic(auto)]
 
 pub mod answer;
+pub mod filled;
 
 ghost use Rattle.std.specs.Prelude.{◌+◌, ◌≤◌, length, replicate};
 ghost use Rattle.buffer.specs.Put.{Put};

@@ -25,7 +25,7 @@ fn lower(rows: &[u8], count: usize, vector: &[u8]) -> bool
 }
 
 // Puts a vector that solves the equation behind the rows found, unless one of them is lower, and says how many rows
-// there are then. Where that is one more than the limit, the vector does not fit any more.
+// there are then. Where it would be one more than the limit, nothing is put, and there is no number.
 pub fn keep(rows: &mut [u8], limit: usize, count: usize, vector: &[u8]) -> Option<usize>
     requires { (count ≤ limit) × (limit < 65536) × (limit * length vector.now ≤ length rows.old) }
     ensures { Keeps limit vector.now rows.old count rows.new result }

@@ -1,32 +1,50 @@
 -- Laws of texts of bounded length, put one after the other.
 use Rattle.std.proofs.Common.{ℕ, ◌+◌, ◌≤◌, arith, ◌≡◌, List, ◌++◌, length}
-use Rattle.buffer.specs.Put.{Put}
-use Rattle.buffer.proofs.Puts.{put_as, put_then}
-use Rattle.lines.specs.Putting.{PutWithin}
+use Rattle.buffer.specs.Filled.{Puts}
+use Rattle.buffer.specs.declared.filled.Filled.{Filled}
+use Rattle.buffer.proofs.Puts.{puts_as, puts_then, put-length}
+use Rattle.lines.specs.Putting.{PutsWithin}
 
-module _ {out after : List ℕ} {at next : ℕ} {text : List ℕ} where
-  -- a text takes as many bytes as it has
-  pub within_length : Put out at text next after → PutWithin (length text) out at text next after
-  within_length p = record { put = p; within = omega (arith, p.place) }
+-- a text of at most so many bytes takes at most so many
+pub within_bound : {before after : Filled} {most : ℕ} {text : List ℕ} → Puts before text after → length text ≤ most
+    → PutsWithin most before text after
+within_bound puts few =
+    record {
+      puts = puts;
+      at_most = record { within = omega (arith, puts.put.place); long = put-length puts.put; same = puts.same };
+    }
 
-  -- it takes at most more
-  pub within_more : {most more : ℕ} → PutWithin most out at text next after → most ≤ more
-      → PutWithin more out at text next after
-  within_more p h = record { put = p.put; within = omega (arith, p.within) }
+-- the same text, said in another way
+pub within_as : {before after : Filled} {most : ℕ} {text said : List ℕ} → text ≡ said → PutsWithin most before text after
+    → PutsWithin most before said after
+within_as e within = record { puts = puts_as e within.puts; at_most = within.at_most }
 
-  -- the same text, said in another way
-  pub within_as : {most : ℕ} {said : List ℕ} → text ≡ said → PutWithin most out at text next after
-      → PutWithin most out at said next after
-  within_as e p = record { put = put_as e p.put; within = p.within }
+-- it takes at most more
+pub within_more : {before after : Filled} {most more : ℕ} {text : List ℕ} → PutsWithin most before text after → most ≤ more
+    → PutsWithin more before text after
+within_more within few =
+    let most = within.at_most in
+    record {
+      puts = within.puts;
+      at_most = record { within = omega (arith, most.within); long = most.long; same = most.same };
+    }
 
 -- one text and then another take at most as many bytes as both
-pub within_then : {out mid after : List ℕ} {at k next m n : ℕ} {s t : List ℕ}
-    → PutWithin m out at s k mid → PutWithin n mid k t next after → PutWithin (m + n) out at (s ++ t) next after
+pub within_then : {before between after : Filled} {m n : ℕ} {s t : List ℕ} → PutsWithin m before s between
+    → PutsWithin n between t after → PutsWithin (m + n) before (s ++ t) after
 within_then first second =
-    record { put = put_then first.put second.put; within = omega (arith, first.within, second.within) }
+    let puts = puts_then first.puts second.puts in
+    record {
+      puts = puts;
+      at_most =
+          record {
+            within = omega (arith, first.at_most.within, second.at_most.within);
+            long = put-length puts.put;
+            same = puts.same;
+          };
+    }
 
 -- a text and then a last one take at most as many bytes as are lent
-pub within_end : {out mid after : List ℕ} {at k next m most : ℕ} {s t : List ℕ}
-    → PutWithin m out at s k mid → Put mid k t next after → m + length t ≤ most
-    → PutWithin most out at (s ++ t) next after
-within_end first last few = within_more (within_then first (within_length last)) few
+pub within_end : {before between after : Filled} {m most : ℕ} {s t : List ℕ} → PutsWithin m before s between
+    → Puts between t after → m + length t ≤ most → PutsWithin most before (s ++ t) after
+within_end {t = t} first last few = within_more (within_then first (within_bound {most = length t} last (omega arith))) few

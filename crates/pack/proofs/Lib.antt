@@ -4,3 +4,4 @@ pub mod Accepts
 pub mod Answered
 pub mod Going
 pub mod Running
+pub mod Telling

@@ -1,9 +1,9 @@
 // What is told of wrong lines, on standard error: which line it is, at which column it is wrong, and why.
 ghost use Rattle.std.specs.Prelude.{◌≡◌, ◌≤◌, length};
-ghost use Rattle.buffer.specs.Put.{Put};
+ghost use Rattle.buffer.specs.Filled.{HasRoomFor, Puts, PutsAtMost};
 ghost use Rattle.pack.specs.Told.{words_of, line_named, column_named, wrong_line, long_line};
 
-use buffer::put_bytes;
+use buffer::filled::Filled;
 use pattern::{Fault, Wrong};
 use text::put_number;
 
@@ -13,63 +13,68 @@ const STANDARD_ERROR: i32 = 2;
 // Tells what is wrong with a line.
 pub fn tell_wrong(line: u64, wrong: Wrong) {
     let mut text = [0u8; 256];
-    let end = put_wrong(&mut text, line, wrong);
+    let mut told = Filled {
+        buffer: &mut text,
+        end: 0,
+    };
+    put_wrong(&mut told, line, wrong);
+    let end = told.end;
     io::write_all(STANDARD_ERROR, &text[..end]);
 }
 
 // Tells that a line is too long.
 pub fn tell_too_long(line: u64) {
     let mut text = [0u8; 256];
-    let end = put_too_long(&mut text, line);
+    let mut told = Filled {
+        buffer: &mut text,
+        end: 0,
+    };
+    put_too_long(&mut told, line);
+    let end = told.end;
     io::write_all(STANDARD_ERROR, &text[..end]);
 }
 
 // What is told of a wrong line.
-fn put_wrong(out: &mut [u8], line: u64, wrong: Wrong) -> usize
-    requires { 256 ≤ length out.old }
-    ensures put { Put out.old 0 (wrong_line line wrong.column wrong.why) result
-        out.new }
-    ensures upper_bound { result ≤ 256 }
+fn put_wrong(out: &mut Filled, line: u64, wrong: Wrong)
+    requires { HasRoomFor out.old 256 }
+    ensures put { Puts out.old (wrong_line line wrong.column wrong.why) out.new }
+    ensures at_most { PutsAtMost 256 out.old out.new }
 {
-    let at = put_column(out, line, wrong.column as u64);
-    let at = put_bytes(out, at, words_of(wrong.why));
-    put_bytes(out, at, b"\n")
+    put_column(out, line, wrong.column as u64);
+    out.put(words_of(wrong.why));
+    out.put(b"\n");
 }
 
 // The line and the column, by their numbers.
-fn put_column(out: &mut [u8], line: u64, column: u64) -> usize
-    requires { 256 ≤ length out.old }
-    ensures put { Put out.old 0 (column_named line column) result out.new }
-    ensures upper_bound { result ≤ 56 }
+fn put_column(out: &mut Filled, line: u64, column: u64)
+    requires { HasRoomFor out.old 256 }
+    ensures put { Puts out.old (column_named line column) out.new }
+    ensures at_most { PutsAtMost 56 out.old out.new }
 {
-    let at = put_line(out, line);
-    let at = put_bytes(out, at, b", column ");
-    let at = put_number(out, at, column);
-    put_bytes(out, at, b": ")
+    put_line(out, line);
+    out.put(b", column ");
+    put_number(out, column);
+    out.put(b": ");
 }
 
 // What is told of a line that is too long.
-fn put_too_long(out: &mut [u8], line: u64) -> usize
-    requires { 256 ≤ length out.old }
-    ensures put { Put out.old 0 (long_line line) result out.new }
-    ensures upper_bound { result ≤ 256 }
+fn put_too_long(out: &mut Filled, line: u64)
+    requires { HasRoomFor out.old 256 }
+    ensures put { Puts out.old (long_line line) out.new }
+    ensures at_most { PutsAtMost 256 out.old out.new }
 {
-    let at = put_line(out, line);
-    put_bytes(
-        out,
-        at,
-        b": the line is too long; a line has at most 4,096 bytes\n",
-    )
+    put_line(out, line);
+    out.put(b": the line is too long; a line has at most 4,096 bytes\n");
 }
 
 // The line, by its number.
-fn put_line(out: &mut [u8], line: u64) -> usize
-    requires { 256 ≤ length out.old }
-    ensures put { Put out.old 0 (line_named line) result out.new }
-    ensures upper_bound { result ≤ 25 }
+fn put_line(out: &mut Filled, line: u64)
+    requires { HasRoomFor out.old 256 }
+    ensures put { Puts out.old (line_named line) out.new }
+    ensures at_most { PutsAtMost 25 out.old out.new }
 {
-    let at = put_bytes(out, 0, b"line ");
-    put_number(out, at, line)
+    out.put(b"line ");
+    put_number(out, line);
 }
 
 // What is wrong, in words.

@@ -10,8 +10,9 @@ use Rattle.ac.specs.Rows.{Groups}
 use Rattle.ac.specs.Keys.{layout, keys}
 use Rattle.ac.specs.Values.{Binding}
 use Rattle.ac.proofs.Places.{get_or-map, get_or_member}
-use Rattle.buffer.specs.Put.{Put}
-use Rattle.buffer.proofs.Puts.{put_as}
+use Rattle.buffer.specs.Filled.{Puts}
+use Rattle.buffer.specs.declared.filled.Filled.{Filled}
+use Rattle.buffer.proofs.Puts.{puts_as}
 use Rattle.pair.specs.Ways.{mode_of}
 use Rattle.pair.specs.declared.ways.Way.{Way}
 use Rattle.lines.specs.Lines.{substitution_line, end_line as line_at_end}
@@ -65,13 +66,13 @@ module _ {way : Way} {L R : List ℕ} {l : Listing} (prints : Prints way L R l) 
         ∙ substitution_line_lem l.place l.line (page_of way L R l) number some (omega (arith, page-length))
 
     -- so that is what a key's line is, put from the table
-    pub line_put : {table : Table} {out out' : List ℕ} {at next : ℕ} → l.table ≡ Some table
-        → KeyPut table (get_or l.keys (number - 1) 0) out at next out'
-        → Put out at (get_or (lines_of way L R l) number []) next out'
+    pub line_put : {table : Table} {filled after : Filled} → l.table ≡ Some table
+        → KeyPut table (get_or l.keys (number - 1) 0) filled after
+        → Puts filled (get_or (lines_of way L R l) number []) after
     line_put there put =
         let key = get_or l.keys (number - 1) 0 in
         let same = ap groups_of there in
-        put_as (ap (λ (G : Groups). substitution_line (bindings_of way L R G key)) (sym same) ∙ key_line)
+        puts_as (ap (λ (G : Groups). substitution_line (bindings_of way L R G key)) (sym same) ∙ key_line)
         (put way L R (subst (λ t. IsSomeAnd t (SolvedPair way L R)) there (prints.solved (omega (arith, some))))
         (subst (λ (G : Groups). Memᴰ key (keys (mode_of way L R) layout L R G)) same key_listed))
 

@@ -28,10 +28,9 @@ use Rattle.output.proofs.Steps.{stepped_left}
 use Rattle.output.proofs.Held.{holds_as, holds_more, holds_put, holds_then, holds_nothing}
 use Rattle.lines.specs.Lines.{block_lines, closing_lines}
 use Rattle.lines.specs.Library.{most_blocks, Returns, BlocksText, no_more, counts_of, LibraryText}
-use Rattle.lines.specs.Putting.{PutWithin}
 use Rattle.lines.proofs.Library.{line_each, blocks_more, counts_more}
 use Rattle.printing.specs.Printed.{lines_of, Prints, StartsBlock, BlockPut, lines_put, not_put}
-use Rattle.printing.specs.Library.{no_counts, Started, PutInSteps, Over, at_end, input_remains, failed, Finishes, PrintedTo, LibraryPrinted, all, too_long, not_read, not_written}
+use Rattle.printing.specs.Library.{no_counts, Started, PutInSteps, Over, at_end, input_remains, failed, Closes, Finishes, PrintedTo, LibraryPrinted, all, too_long, not_read, not_written}
 use Rattle.printing.proofs.Total.{total_fits}
 use Rattle.printing.specs.declared.print.Listing.{Listing}
 use Rattle.printing.specs.declared.Stopped.{Stopped}
@@ -222,13 +221,14 @@ module _ {report : Report} {input : List ℕ} {r : Reader} {c : Totals} {out : L
 
   module _ (room : HasRoom (length out) at) where
     -- a text was put behind it
-    put_behind : {more out' : List ℕ} {end : ℕ} → PutWithin 128 out at more end out'
-        → PrintedTo (running.text ++ more) out' end
-    put_behind {more} put =
+    put_behind : {remains : Bool} {out' : List ℕ} {end : ℕ} → Closes report c remains out at end out'
+        → PrintedTo (running.text ++ closing_lines (closing_of report c remains)) out' end
+    put_behind {remains} closes =
+        let more = closing_lines (closing_of report c remains) in
         record {
-          inside = omega (arith, put.within, put-length put.put);
+          inside = omega (arith, closes.within, put-length closes.put);
           holds = holds_put {left = []} (holds_as (sym (append-nil more)) (holds_more more running.holds))
-              put.put (omega (arith, put.within));
+              closes.put (omega (arith, closes.within));
         }
 
     -- the end

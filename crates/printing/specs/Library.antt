@@ -1,6 +1,7 @@
 -- What is printed of a library: the blocks that reading it hands on, one after the other, and last what stands
 -- at the end.
-use Rattle.std.specs.Prelude.{ℕ, ◌≤◌, true, false, List, [], ◌∷◌, ◌++◌, length, ℤ, Result, Ok, Err}
+use Rattle.std.specs.Prelude.{ℕ, ◌+◌, ◌≤◌, Bool, true, false, List, [], ◌∷◌, ◌++◌, length, ℤ, Result, Ok, Err}
+use Rattle.buffer.specs.Put.{Put}
 use Rattle.tally.specs.Counts.{totals, closing_of}
 use Rattle.tally.specs.declared.Line.{Line}
 use Rattle.tally.specs.declared.Totals.{Totals}
@@ -12,7 +13,6 @@ use Rattle.output.specs.Step.{lines_joined, Stepped}
 use Rattle.output.specs.Room.{StillHeld}
 use Rattle.lines.specs.Lines.{closing_lines}
 use Rattle.lines.specs.Library.{most_blocks, BlocksText, LibraryText}
-use Rattle.lines.specs.Putting.{PutWithin}
 use Rattle.printing.specs.Printed.{lines_of, StartsBlock}
 use Rattle.printing.specs.declared.print.Listing.{Listing}
 use Rattle.printing.specs.declared.Stopped.{Stopped}
@@ -44,11 +44,16 @@ pub data Over : Next → Type 0 where
   input_remains : Over next.Remains
   failed : {error : ℤ} → Over (next.Failed error)
 
+-- The closing lines are put from a place on, and take at most so many bytes.
+pub record Closes (report : Report) (c : Totals) (remains : Bool) (out : List ℕ) (at end : ℕ) (out' : List ℕ) : Type 0 where
+  pub put : Put out at (closing_lines (closing_of report c remains)) end out'
+  pub within : end ≤ at + 128
+
 -- What stands at the end is put: the closing lines, or nothing where a read failed.
 pub data Finishes (report : Report) (c : Totals) (out : List ℕ) (at : ℕ) : Next → Result ℕ Stopped → List ℕ → Type 0 where
-  ended : {end : ℕ} {out' : List ℕ} → PutWithin 128 out at (closing_lines (closing_of report c false)) end out'
+  ended : {end : ℕ} {out' : List ℕ} → Closes report c false out at end out'
       → Finishes report c out at next.End (Ok end) out'
-  remains : {end : ℕ} {out' : List ℕ} → PutWithin 128 out at (closing_lines (closing_of report c true)) end out'
+  remains : {end : ℕ} {out' : List ℕ} → Closes report c true out at end out'
       → Finishes report c out at next.Remains (Ok end) out'
   not_read : {error : ℤ} → Finishes report c out at (next.Failed error) (Err (Unread at error)) out
 

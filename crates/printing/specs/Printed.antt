@@ -4,7 +4,8 @@ use mathlib.Core.List.{List, [], ◌++◌, map, Memᴰ}
 use Rattle.ac.specs.Keys.{layout, keys}
 use Rattle.ac.specs.Rows.{Groups}
 use Rattle.ac.specs.Values.{Binding}
-use Rattle.buffer.specs.Put.{Put}
+use Rattle.buffer.specs.Filled.{Puts}
+use Rattle.buffer.specs.declared.filled.Filled.{Filled}
 use Rattle.pair.specs.Ways.{mode_of}
 use Rattle.pair.specs.declared.ways.Way.{Way}
 use Rattle.table.specs.Table.{groups_in}
@@ -60,10 +61,10 @@ pub record Prints (way : Way) (L R : List ℕ) (l : Listing) : Type 0 where
       → Memᴰ key (keys (mode_of way L R) layout L R (groups_of l.table))
 
 -- the line of a key is put, where the key is on the list of the sides that the table is of
-abbrev pub KeyPut : Table → ℕ → List ℕ → ℕ → ℕ → List ℕ → Type 0
-KeyPut table key out at next after =
+abbrev pub KeyPut : Table → ℕ → Filled → Filled → Type 0
+KeyPut table key before after =
     (way : Way) (L R : List ℕ) → SolvedPair way L R table → Memᴰ key (keys (mode_of way L R) layout L R (groups_in table))
-    → Put out at (substitution_line (bindings_of way L R (groups_in table) key)) next after
+    → Puts before (substitution_line (bindings_of way L R (groups_in table) key)) after
 
 -- Printing a block begins: what is printed of it are the lines of what its questions return, where its number is
 -- its place modulo 65,536; and the counts after it are those of its line.

@@ -7,20 +7,23 @@
 mod ask;
 mod print;
 
-ghost use Rattle.std.specs.Prelude.{◌≡◌, ◌≤◌, length};
+ghost use Rattle.std.specs.Prelude.{◌≡◌, ◌+◌, ◌≤◌, length};
+ghost use Rattle.buffer.specs.Put.{Put};
 ghost use Rattle.lines.specs.Library.{most_blocks};
+ghost use Rattle.lines.specs.Lines.{closing_lines};
 ghost use Rattle.output.specs.Room.{HasRoom};
 ghost use Rattle.printing.specs.Printed.{ReadyToPrint, StartsBlock, BlockPut};
 ghost use Rattle.printing.specs.Library.{no_counts, Over, Finishes, LibraryPrinted};
 
 use ask::{PAGE, ask};
+use buffer::filled::Filled;
 use library::Next;
 use lines::put_closing;
 use output::ending::{tell_unread, tell_unwritten, write_last};
 use output::make_room;
 use print::Listing;
 use std::io::{Eprint, Read, Write};
-use tally::{Report, Totals, closing_lines, expected_number, tally};
+use tally::{Closing, Report, Totals, closing_lines, expected_number, tally};
 
 // Prints the library, writes out what was not yet, and says whether its last line was written out. What failed is
 // told.
@@ -80,8 +83,8 @@ enum Stopped {
     Unwritten(i32),
 }
 
-// Block by block, until there is none, a read fails or nobody takes the output. All of the text was put up to the place
-// that is given.
+// Block by block, until there is none, a read fails or nobody takes the output. Gives the place in the output buffer up
+// to which all of the text was put.
 fn print_library<R: Read, W: Write>(
     report: Report,
     from: &mut R,
@@ -156,6 +159,20 @@ fn print_block<W: Write>(
     Ok(next)
 }
 
+// The lines at the end, put from a place on. Gives the place after them.
+fn close(closing: Closing, output: &mut [u8], at: usize) -> usize
+    requires { HasRoom (length output.old) at }
+    ensures put { Put output.old at (closing_lines closing) result output.new }
+    ensures upper_bound { result ≤ at + 128 }
+{
+    let mut filled = Filled {
+        buffer: output,
+        end: at,
+    };
+    put_closing(&mut filled, closing);
+    filled.end
+}
+
 // The lines at the end; where a read failed there are none.
 fn finish(
     report: Report,
@@ -169,8 +186,8 @@ fn finish(
     ensures { Finishes report counts output.old at next result output.new }
 {
     match next {
-        Next::End => Ok(put_closing(output, at, closing_lines(report, counts, false))),
-        Next::Remains => Ok(put_closing(output, at, closing_lines(report, counts, true))),
+        Next::End => Ok(close(closing_lines(report, counts, false), output, at)),
+        Next::Remains => Ok(close(closing_lines(report, counts, true), output, at)),
         Next::Failed(error) => Err(Stopped::Unread { at, error }),
         Next::Block { .. } | Next::Wanted => unreachable!(),
     }

@@ -4,16 +4,16 @@
 // stands after the page. The state of printing is what is printed of the block, which stays, and the number of the
 // next line.
 ghost use Rattle.std.specs.Prelude.{◌≡◌, List, [], ℕ, ◌+◌, ◌<◌, ◌≤◌, length, get_or};
-ghost use Rattle.buffer.specs.Put.{Put};
+ghost use Rattle.buffer.specs.Filled.{HasRoomFor, Puts, PutsAtMost};
 ghost use Rattle.output.specs.Step.{Goes, Steps};
 ghost use Rattle.pair.specs.declared.ways.Way.{Way};
 ghost use Rattle.printing.specs.Printed.{key_count, line_count, lines_of, ReadyToPrint, Prints, KeyPut};
 
 use crate::ask::PAGE;
+use buffer::filled::Filled;
 use lines::{put_block_line, put_end_line, put_substitution_line};
 use list::Key;
-use output::Progress;
-use solver::values::ROOM;
+use output::{Progress, ROOM};
 use table::Table;
 use tally::Line;
 
@@ -28,14 +28,14 @@ pub struct Listing {
 }
 
 // The line of a key, from its values.
-fn put_key(table: Table, key: Key, output: &mut [u8], at: usize) -> usize
-    requires { at + 8192 ≤ length output.old }
-    ensures upper_bound { result ≤ at + 8192 }
-    ensures key_put { KeyPut table key output.old at result output.new }
+fn put_key(table: Table, key: Key, output: &mut Filled)
+    requires { HasRoomFor output.old 8192 }
+    ensures at_most { PutsAtMost 8192 output.old output.new }
+    ensures key_put { KeyPut table key output.old output.new }
 {
-    let mut bytes = [0u8; ROOM];
+    let mut bytes = [0u8; solver::values::ROOM];
     let length = solver::values::write_values(table, key, &mut bytes);
-    put_substitution_line(output, at, &bytes[..length])
+    put_substitution_line(output, &bytes[..length]);
 }
 
 // How many keys are printed under a block's line: those that Page wrote, and none where there is no page.
@@ -58,20 +58,20 @@ impl Listing {
     }
 
     // The line of this number.
-    fn put_line(&self, number: usize, output: &mut [u8], at: usize) -> usize
+    fn put_line(&self, number: usize, output: &mut Filled)
         requires ready_to_print { ReadyToPrint self.now }
         requires number_bound { number < line_count self.now }
-        requires at_in_bounds { at + 8192 ≤ length output.old }
-        ensures upper_bound { result ≤ at + 8192 }
+        requires has_room { HasRoomFor output.old 8192 }
+        ensures at_most { PutsAtMost 8192 output.old output.new }
         ensures put { (way : Way) (L R : List ℕ) → Prints way L R self.now
-            → Put output.old at (get_or (lines_of way L R self.now) number []) result output.new }
+            → Puts output.old (get_or (lines_of way L R self.now) number []) output.new }
     {
         if number == 0 {
-            put_block_line(output, at, self.place, self.line)
+            put_block_line(output, self.place, self.line);
         } else if number <= key_count(self.line) {
-            put_key(self.table.unwrap(), self.keys[number - 1], output, at)
+            put_key(self.table.unwrap(), self.keys[number - 1], output);
         } else {
-            put_end_line(output, at, self.line)
+            put_end_line(output, self.line);
         }
     }
 
@@ -85,16 +85,23 @@ impl Listing {
             → Steps (lines_of way L R self.now) number output.old at result output.new }
     {
         let lines = self.line_count();
-        let mut next = at;
+        let size = output.len();
+        let mut filled = Filled {
+            buffer: output,
+            end: at,
+        };
         for line in number..lines {
-            if !output::has_room(output, next) {
-                return Progress { line, at: next };
+            if size - filled.end < ROOM {
+                return Progress {
+                    line,
+                    at: filled.end,
+                };
             }
-            next = self.put_line(line, output, next);
+            self.put_line(line, &mut filled);
         }
         Progress {
             line: lines,
-            at: next,
+            at: filled.end,
         }
     }
 }

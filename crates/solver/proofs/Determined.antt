@@ -3,17 +3,16 @@ use Prim.Native.Nat.{ℕ}
 use mathlib.Core.Path.{◌≡◌, refl, sym, ap, ◌∙◌}
 use mathlib.Core.List.{List}
 use lib.ListN.{length}
-use Rattle.std.specs.Prelude.{Result, Ok, Err}
+use Rattle.std.specs.Prelude.{Result}
 use Rattle.ac.specs.Lists.{receives}
 use Rattle.ac.specs.Limits.{limits}
 use Rattle.ac.specs.Pair.{Mode}
 use Rattle.ac.specs.Rows.{Groups, GroupsOf}
 use Rattle.ac.specs.Keys.{Beginning, layout, keys}
 use Rattle.ac.proofs.Groups.{groups_unique}
-use Rattle.numbers.specs.Outcome.{Outcome, refused, given}
 use Rattle.numbers.specs.declared.Refusal.{Refusal}
-use Rattle.numbers.proofs.Laws.{refusal_of, refusal_of_said_of}
-use Rattle.numbers.proofs.Promises.{OneResult, answer_determined}
+use Rattle.numbers.proofs.Told.{result_determined}
+use Rattle.numbers.proofs.Promises.{OneResult}
 use Rattle.pair.specs.Given.{LowestFar}
 use Rattle.pair.proofs.NetCounts.{lowest_unique}
 use Rattle.solver.specs.Rows.{GroupSizes, told_rows, sizes_of, all_rows, bytes_of, RowsGives, RowsPromise}
@@ -24,11 +23,6 @@ use Rattle.solver.specs.Values as its_values
 use Rattle.solver.specs.Count.{told_count, CountGives, as_listed, CountPromise}
 use Rattle.solver.specs.declared.rows.Sizes.{Sizes}
 use Rattle.solver.specs.declared.page.Written.{Written}
-
--- which result an outcome is of, where its values tell what was found
-result_of : {A Values : Type 0} → (Values → A) → Outcome Values → Result A Refusal
-result_of found (refused said) = Err (refusal_of said)
-result_of found (given values) = Ok (found values)
 
 -- the sizes, and what is written of a page, in the program's words
 sizes_told : GroupSizes → Sizes
@@ -44,26 +38,6 @@ sizes_told sizes =
 
 page_told : PageWritten → Written
 page_told page = record { written = page.written; more = page.more; weighed = page.weighed }
-
-rows_told_lem : (a : Result Sizes Refusal) → result_of sizes_told (told_rows a) ≡ a
-unfolding result_of sizes_told
-rows_told_lem (Ok sizes) = refl
-rows_told_lem (Err why) = ap Err (refusal_of_said_of why)
-
-page_told_lem : (a : Result Written Refusal) → result_of page_told (told_page a) ≡ a
-unfolding result_of page_told
-page_told_lem (Ok page) = refl
-page_told_lem (Err why) = ap Err (refusal_of_said_of why)
-
-values_told_lem : (a : Result ℕ Refusal) → result_of (λ length. length) (told_values a) ≡ a
-unfolding result_of
-values_told_lem (Ok length) = refl
-values_told_lem (Err why) = ap Err (refusal_of_said_of why)
-
-count_told_lem : (a : Result ℕ Refusal) → result_of (λ unifiers. unifiers) (told_count a) ≡ a
-unfolding result_of
-count_told_lem (Ok unifiers) = refl
-count_told_lem (Err why) = ap Err (refusal_of_said_of why)
 
 -- a pair has one lowest atom and one set of groups, so each question has one result
 module _ {M : Mode} {L R : List ℕ} where
@@ -119,19 +93,21 @@ module _ {M : Mode} {L R : List ℕ} where
   pub rows_determined : {out : List ℕ} {a a' : Result Sizes Refusal} {b b' : List ℕ} → RowsPromise M L R out (told_rows a) b
       → RowsPromise M L R out (told_rows a') b'
       → (a ≡ a') × (b ≡ b')
-  rows_determined = answer_determined one_rows (result_of sizes_told) rows_told_lem
+  unfolding sizes_told
+  rows_determined = result_determined sizes_told (λ sizes. refl) one_rows
 
   pub page_determined : {begin : Beginning} {wanted : ℕ} {out : List ℕ} {a a' : Result Written Refusal} {b b' : List ℕ}
       → PagePromise M L R begin wanted out (told_page a) b → PagePromise M L R begin wanted out (told_page a') b'
       → (a ≡ a') × (b ≡ b')
-  page_determined = answer_determined one_page (result_of page_told) page_told_lem
+  unfolding page_told
+  page_determined = result_determined page_told (λ page. refl) one_page
 
   pub values_determined : {key : ℕ} {out : List ℕ} {a a' : Result ℕ Refusal} {b b' : List ℕ}
       → ValuesPromise M L R key out (told_values a) b → ValuesPromise M L R key out (told_values a') b'
       → (a ≡ a') × (b ≡ b')
-  values_determined = answer_determined one_values (result_of (λ length. length)) values_told_lem
+  values_determined = result_determined (λ length. length) (λ length. refl) one_values
 
   -- and two that meet Count's, which is lent none
   pub count_determined : {a a' : Result ℕ Refusal} → CountPromise M L R (told_count a) → CountPromise M L R (told_count a')
       → a ≡ a'
-  count_determined promise promise' = (answer_determined one_count (result_of (λ unifiers. unifiers)) count_told_lem promise promise').0
+  count_determined promise promise' = (result_determined (λ unifiers. unifiers) (λ unifiers. refl) one_count promise promise').0

@@ -4,16 +4,15 @@ use Rattle.ac.specs.Limits.{limits}
 use Rattle.ac.specs.Pair.{Mode}
 use Rattle.ac.specs.Rows.{Groups, GroupsOf}
 use Rattle.ac.specs.Keys.{layout, keys}
-use Rattle.numbers.specs.Numbers.{said_of}
 use Rattle.numbers.specs.Order.{count_numbers}
+use Rattle.numbers.specs.Told.{told}
 use Rattle.numbers.specs.Outcome.{Outcome, refused, given, Promise}
 use Rattle.numbers.specs.declared.Refusal.{Refusal}
 use Rattle.pair.specs.Given.{LowestFar, PairGiven}
 
 -- the number of unifiers, or document 01's number, for each case of the result
 abbrev pub told_count : Result ℕ Refusal → Outcome ℕ
-told_count (Ok unifiers) = given unifiers
-told_count (Err refusal) = refused (said_of refusal)
+told_count = told (λ unifiers. unifiers)
 
 -- "the exact number of unifiers", which is "the length of the list"; nothing is lent
 pub data CountGives (M : Mode) (L R : List ℕ) : ℕ → Unit {0} → Type 0 where

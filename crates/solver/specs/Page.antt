@@ -7,8 +7,8 @@ use Rattle.ac.specs.Rows.{Groups, GroupsOf}
 use Rattle.ac.specs.Keys.{layout, keys, start, after, Beginning}
 use Rattle.ac.specs.Pages.{page, more}
 use Rattle.ac.specs.Weighed.{candidates, weighed}
-use Rattle.numbers.specs.Numbers.{said_of}
 use Rattle.numbers.specs.Order.{page_numbers}
+use Rattle.numbers.specs.Told.{told}
 use Rattle.numbers.specs.Outcome.{Outcome, refused, given, Promise}
 use Rattle.numbers.specs.declared.Refusal.{Refusal}
 use Rattle.pair.specs.Given.{LowestFar, PairGiven}
@@ -46,8 +46,7 @@ pub record PageWritten : Type 0 where
 
 -- document 01's values or its number for each case of the result
 abbrev pub told_page : Result Written Refusal → Outcome PageWritten
-told_page (Ok page) = given (record { written = page.written; more = page.more; weighed = page.weighed })
-told_page (Err refusal) = refused (said_of refusal)
+told_page = told (λ page. record { written = page.written; more = page.more; weighed = page.weighed })
 
 module _ (M : Mode) (L R : List ℕ) (G : Groups) (begin : Beginning) (wanted : ℕ) where
   -- the next keys, as many as are wanted or, if fewer remain, all that remain

@@ -4,8 +4,8 @@ use Rattle.ac.specs.Lists.{flat_map, receives}
 use Rattle.ac.specs.Limits.{limits}
 use Rattle.ac.specs.Pair.{Mode}
 use Rattle.ac.specs.Rows.{Group, Groups, GroupsOf}
-use Rattle.numbers.specs.Numbers.{said_of}
 use Rattle.numbers.specs.Order.{rows_numbers}
+use Rattle.numbers.specs.Told.{told}
 use Rattle.numbers.specs.Outcome.{Outcome, refused, given, Promise}
 use Rattle.numbers.specs.declared.Refusal.{Refusal}
 use Rattle.pair.specs.Given.{LowestFar, PairGiven}
@@ -46,9 +46,8 @@ sizes_as balanced constants first second third fourth =
 
 -- document 01's values or its number for each case of the result
 abbrev pub told_rows : Result Sizes Refusal → Outcome GroupSizes
-told_rows (Ok sizes) =
-    given (sizes_as sizes.balanced sizes.constants sizes.first sizes.second sizes.third sizes.fourth)
-told_rows (Err refusal) = refused (said_of refusal)
+told_rows =
+    told (λ sizes. sizes_as sizes.balanced sizes.constants sizes.first sizes.second sizes.third sizes.fourth)
 
 -- the size of a constant's group, by the constant's place among the unbalanced ones
 abbrev pub size : Groups → ℕ → ℕ

@@ -7,8 +7,8 @@ use Rattle.ac.specs.Rows.{Groups, GroupsOf}
 use Rattle.ac.specs.Selection.{value}
 use Rattle.ac.specs.Keys.{layout, keys, selection_at, after}
 use Rattle.ac.specs.Values.{laid_out, bindings}
-use Rattle.numbers.specs.Numbers.{said_of}
 use Rattle.numbers.specs.Order.{values_numbers}
+use Rattle.numbers.specs.Told.{told}
 use Rattle.numbers.specs.Outcome.{Outcome, refused, given, Promise}
 use Rattle.numbers.specs.declared.Refusal.{Refusal}
 use Rattle.pair.specs.Given.{LowestFar, PairGiven}
@@ -35,8 +35,7 @@ pub data ValuesGiven (M : Mode) (L R : List ℕ) (key : ℕ) (out : List ℕ) : 
 
 -- document 01's value, the length that is returned, or its number, for each case of the result
 abbrev pub told_values : Result ℕ Refusal → Outcome ℕ
-told_values (Ok length) = given length
-told_values (Err refusal) = refused (said_of refusal)
+told_values = told (λ length. length)
 
 -- For each variable ascending, its byte, a byte count and the atoms.
 abbrev pub values_of : Mode → List ℕ → List ℕ → Groups → ℕ → List ℕ

@@ -1,5 +1,5 @@
 // A solved pair by value, and solving a pair (document 01, "From sides to equations"): its table, or the first
-// of the numbers 7 to 12 that is given.
+// of the numbers 7 to 12 and 19 that is given.
 
 #![tactic(auto)]
 

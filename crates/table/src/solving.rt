@@ -1,4 +1,4 @@
-// Solving a pair: its table, or the first of the numbers 7 to 12 that is given.
+// Solving a pair: its table, or the first of the numbers 7 to 12 and 19 that is given.
 ghost use Rattle.std.specs.Prelude.{◌≡◌, take};
 ghost use Rattle.ac.specs.Limits.{limits};
 ghost use Rattle.pair.specs.Ways.{mode_of};

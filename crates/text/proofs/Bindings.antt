@@ -6,10 +6,11 @@ use mathlib.Core.List.{List, [], ◌∷◌, ◌++◌, append_assoc, append-nil}
 use lib.ListN.{length, length-append, take, drop, get_or}
 use lib.Seq.{take-append_seam, drop-append_seam, take_all}
 use Rattle.ac.specs.Values.{Binding, laid_out}
-use Rattle.buffer.specs.Put.{Put}
+use Rattle.buffer.specs.Filled.{Puts}
+use Rattle.buffer.specs.declared.filled.Filled.{Filled}
 use Rattle.text.specs.Text.{name, further, joined, binding_of, bound, spaced, substitution}
 use Rattle.text.proofs.Names.{name_short, further_short}
-use Rattle.buffer.proofs.Puts.{put_then, put_as}
+use Rattle.buffer.proofs.Puts.{puts_then, puts_as}
 
 -- a value's text is at most five bytes for each atom
 pub joined_short : (atoms : List ℕ) → ((i : ℕ) → get_or atoms i 0 < 256) → length (joined atoms) ≤ 5 * length atoms
@@ -85,24 +86,24 @@ first_of values end (b ∷ others) some ends e =
     }
 
 -- how far a row of bindings has been put: of the bindings bs those whose bytes are left come after what was put
-pub record Told (bs : List Binding) (out₀ : List ℕ) (at next : ℕ) (rest out : List ℕ) : Type 0 where
+pub record Told (bs : List Binding) (before : Filled) (rest : List ℕ) (now : Filled) : Type 0 where
   pub done : List ℕ
   pub left : List Binding
-  pub put : Put out₀ at done next out
+  pub puts : Puts before done now
   pub whole : done ++ spaced left ≡ spaced bs
   pub its_bytes : laid_out left ≡ rest
 
 -- a space and the next binding are put
-pub told_next : {bs : List Binding} {out₀ out after : List ℕ} {at next n : ℕ} {rest : List ℕ} {end : ℕ}
+pub told_next : {bs : List Binding} {before now after : Filled} {rest : List ℕ} {end : ℕ}
     → 0 < length rest → end ≡ min (2 + get_or rest 1 0) (length rest)
-    → Put out next (32 ∷ bound (binding_of (take end rest))) n after
-    → Told bs out₀ at next rest out → Told bs out₀ at n (drop end rest) after
-told_next {bs} {out₀} {out} {after} {at} {next} {n} {rest} {end} some ends more told =
+    → Puts now (32 ∷ bound (binding_of (take end rest))) after
+    → Told bs before rest now → Told bs before (drop end rest) after
+told_next {bs} {before} {now} {after} {rest} {end} some ends more told =
     let first : FirstOf rest end told.left = first_of rest end told.left some ends told.its_bytes in
     record {
       done = told.done ++ (32 ∷ bound first.binding);
       left = first.others;
-      put = put_then told.put (put_as (ap (λ (b : Binding). 32 ∷ bound b) first.its_bytes) more);
+      puts = puts_then told.puts (puts_as (ap (λ (b : Binding). 32 ∷ bound b) first.its_bytes) more);
       whole =
           append_assoc told.done (32 ∷ bound first.binding) (spaced first.others)
           ∙ ap (λ (l : List Binding). told.done ++ spaced l) (sym first.all)
@@ -111,23 +112,23 @@ told_next {bs} {out₀} {out} {after} {at} {next} {n} {rest} {end} some ends mor
     }
 
 -- all bindings are put
-pub told_all : {bs : List Binding} {out₀ out : List ℕ} {at next : ℕ} {rest : List ℕ} → length rest ≡ 0
-    → Told bs out₀ at next rest out → Put out₀ at (spaced bs) next out
-told_all {bs} {out₀} {out} {at} {next} {rest} none_left told =
-    put_as (ap (λ (l : List Binding). told.done ++ spaced l) (sym (none told.left told.its_bytes))
-    ∙ told.whole) (put_as (sym (append-nil told.done)) told.put)
+pub told_all : {bs : List Binding} {before now : Filled} {rest : List ℕ} → length rest ≡ 0
+    → Told bs before rest now → Puts before (spaced bs) now
+told_all {bs} {before} {now} {rest} none_left told =
+    puts_as (ap (λ (l : List Binding). told.done ++ spaced l) (sym (none told.left told.its_bytes))
+    ∙ told.whole) (puts_as (sym (append-nil told.done)) told.puts)
   where
     none : (left : List Binding) → laid_out left ≡ rest → left ≡ []
     none [] e = refl
     none (b ∷ others) e = absurd (omega (arith, ap length e))
 
 -- the first binding is put, and the others, from their bytes, behind it
-pub substitution_first : {out mid after : List ℕ} {at m n : ℕ} {values : List ℕ} {end : ℕ} (bs : List Binding)
+pub substitution_first : {before between after : Filled} {values : List ℕ} {end : ℕ} (bs : List Binding)
     → 0 < length values → end ≡ min (2 + get_or values 1 0) (length values) → laid_out bs ≡ values
-    → Put out at (bound (binding_of (take end values))) m mid
-    → ((others : List Binding) → laid_out others ≡ drop end values → Put mid m (spaced others) n after)
-    → Put out at (substitution bs) n after
-substitution_first {out} {mid} {after} {at} {m} {n} {values} {end} bs some ends e one others =
+    → Puts before (bound (binding_of (take end values))) between
+    → ((others : List Binding) → laid_out others ≡ drop end values → Puts between (spaced others) after)
+    → Puts before (substitution bs) after
+substitution_first {values = values} {end = end} bs some ends e one others =
     let first : FirstOf values end bs = first_of values end bs some ends e in
-    put_as (ap substitution (sym first.all))
-    (put_then (put_as (ap bound first.its_bytes) one) (others first.others first.the_rest))
+    puts_as (ap substitution (sym first.all))
+    (puts_then (puts_as (ap bound first.its_bytes) one) (others first.others first.the_rest))

@@ -5,4 +5,4 @@ use Rattle.lines.proofs.put_naming.Goals as goal
 
 pub returns : goal.returns
 returns c =
-    within_end (within_then c.put_refusal-next.ensures c.put_named-next.ensures) c.put_bytes.ensures (omega arith)
+    within_end (within_then c.put_refusal.ensures c.put_named.ensures) c.put.ensures (omega arith)

@@ -4,7 +4,7 @@ use Rattle.std.proofs.Common.{sym, ap, arith}
 use Rattle.lines.specs.Lines.{page_end}
 use Rattle.lines.proofs.put_page_end.Goals as goal
 
-pub returns : goal.returns
-returns c =
+pub returns-else-more : goal.returns-else-more
+returns-else-more c =
     within_as (sym (ap (page_end c.args.lines) c.if-more.false))
-    (within_end c.put_labelled-next.ensures c.put_bytes-2.ensures (omega arith))
+    (within_end c.put_labelled.ensures c.put-else-more.ensures (omega arith))

@@ -5,5 +5,5 @@ use Rattle.lines.proofs.put_refusal.Goals as goal
 
 pub returns : goal.returns
 returns c =
-    let number = rw c.from.ensures at c.put_labelled.ensures in
-    within_more (within_then c.put_labelled-next.ensures number) (omega arith)
+    let number = rw c.from.ensures at c.put_labelled-2.ensures in
+    within_more (within_then c.put_labelled.ensures number) (omega arith)

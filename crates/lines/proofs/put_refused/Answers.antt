@@ -4,4 +4,4 @@ use Rattle.lines.proofs.Putting.{within_end}
 use Rattle.lines.proofs.put_refused.Goals as goal
 
 pub returns : goal.returns
-returns c = within_end c.put_refusal-next.ensures c.put_bytes.ensures (omega arith)
+returns c = within_end c.put_refusal.ensures c.put.ensures (omega arith)

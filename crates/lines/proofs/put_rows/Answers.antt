@@ -5,5 +5,5 @@ use Rattle.lines.proofs.put_rows.Goals as goal
 
 pub returns : goal.returns
 returns c =
-    let two = within_then c.put_labelled-next.ensures c.put_labelled-next-2.ensures in
-    within_end (within_then two c.put_labelled-next-3.ensures) c.put_bytes.ensures (omega arith)
+    let two = within_then c.put_labelled.ensures c.put_labelled-2.ensures in
+    within_end (within_then two c.put_labelled-3.ensures) c.put.ensures (omega arith)

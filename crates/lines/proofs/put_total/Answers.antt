@@ -4,4 +4,4 @@ use Rattle.std.proofs.Common.{arith}
 use Rattle.lines.proofs.put_total.Goals as goal
 
 pub returns : goal.returns
-returns c = within_end c.put_labelled-next.ensures c.put_bytes.ensures (omega arith)
+returns c = within_end c.put_labelled.ensures c.put.ensures (omega arith)

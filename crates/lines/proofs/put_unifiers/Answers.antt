@@ -5,4 +5,4 @@ use Rattle.lines.proofs.put_unifiers.Goals as goal
 
 pub returns : goal.returns
 returns c =
-    within_end (within_then c.put_labelled-next.ensures c.put_labelled-next-2.ensures) c.put_bytes.ensures (omega arith)
+    within_end (within_then c.put_labelled.ensures c.put_labelled-2.ensures) c.put.ensures (omega arith)

@@ -5,25 +5,23 @@ use mir.Syntax.{w32}
 use mir.Val.{SFits}
 use mir.ValLaws.{to_z-of_z}
 use borrow.Author.Rules.{rules}
+use Rattle.buffer.proofs.Puts.{put_as}
 use Rattle.lines.specs.Lines.{closing_lines}
-use Rattle.lines.proofs.Putting.{within_as}
 use Rattle.printing.specs.Library.{Finishes}
 use Rattle.printing.proofs.Running.{finish_as, finish_failed}
 use Rattle.printing.proofs.finish.Goals as goal
 
 pub returns-in-End : goal.returns-in-End
 returns-in-End c =
-    finish_as c.in-End.is
-    (Finishes.ended
-    (within_as (ap closing_lines c.closing_lines.ensures)
-    c.put_closing.ensures))
+    let closed = c.close.ensures in
+    let same = ap closing_lines c.closing_lines.ensures in
+    finish_as c.in-End.is (Finishes.ended (record { put = put_as same closed.put; within = closed.upper_bound }))
 
 pub returns-in-Remains : goal.returns-in-Remains
 returns-in-Remains c =
-    finish_as c.in-Remains.is
-    (Finishes.remains
-    (within_as (ap closing_lines c.closing_lines-in-Remains.ensures)
-    c.put_closing-in-Remains.ensures))
+    let closed = c.close-in-Remains.ensures in
+    let same = ap closing_lines c.closing_lines-in-Remains.ensures in
+    finish_as c.in-Remains.is (Finishes.remains (record { put = put_as same closed.put; within = closed.upper_bound }))
 
 pub returns-in-Failed : goal.returns-in-Failed
 returns-in-Failed c =

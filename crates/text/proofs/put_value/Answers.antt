@@ -2,28 +2,22 @@
 use Prim.Native.Nat.{◌<◌}
 use native.Mathlib.Omega.{arith}
 use lib.ListN.{length}
-use Rattle.buffer.proofs.Puts.{put_then, put_as, put-length}
+use Rattle.buffer.proofs.Puts.{puts_then, puts_as, put-length}
 use Rattle.text.proofs.Names.{joined_first, name_short, tail, length_tail}
 use Rattle.text.proofs.put_value.Goals as goal
 
-pub put_rest-requires : goal.put_rest-requires
-put_rest-requires c =
-    let a = c.args in
-    let n = c.put_name-next in
-    let some : 0 < length a.atoms.now = omega arith in
+pub put_further-requires : goal.put_further-requires
+put_further-requires c =
     omega (
       arith,
-      length_tail a.atoms.now some,
-      n.ensures.place,
-      put-length n.ensures,
-      name_short _
-          (c.type_inv.atoms 0).fits,
+      length_tail c.args.atoms.now c.in-len1-up.len_at_least,
+      c.put_name.ensures.put.place,
+      put-length c.put_name.ensures.put,
+      name_short _ (c.type_inv.atoms 0).fits,
     )
 
-pub returns : goal.returns
+pub returns-in-len1-up : goal.returns-in-len1-up
 unfolding tail
-returns c =
-    let a = c.args in
-    let some : 0 < length a.atoms.now = omega arith in
-    put_as (joined_first a.atoms.now some)
-    (put_then c.put_name-next.ensures c.put_rest.ensures)
+returns-in-len1-up c =
+    puts_as (joined_first c.args.atoms.now c.in-len1-up.len_at_least)
+    (puts_then c.put_name.ensures c.put_further.ensures)

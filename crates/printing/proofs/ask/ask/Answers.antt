@@ -19,10 +19,6 @@ pub slice_bounds-right-end-2 : goal.slice_bounds-right-end-2
 slice_bounds-right-end-2 c =
     sym (length-take-le _ _ (sides_fit c.read-read.result c.read-read.ensures c.unwrap_or-sides.ensures).1)
 
-pub returns-in-Listing : goal.returns-in-Listing
-returns-in-Listing c =
-    block_asked c.read-read.ensures c.unwrap_or-sides.ensures (asked_as c.in-Listing.is c.list_sides.ensures)
-
 pub returns-in-Census : goal.returns-in-Census
 returns-in-Census c =
     block_asked c.read-read.ensures c.unwrap_or-sides.ensures (asked_as c.in-Census.is (c.count_sides.ensures _ _))

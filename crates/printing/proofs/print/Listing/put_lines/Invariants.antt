@@ -10,7 +10,9 @@ use Rattle.printing.proofs.print.Listing.put_lines.Given as goal
 
 abbrev pub invariant-loop-line : goal.invariant-loop-line
 invariant-loop-line l =
-    (length l.output ≡ length l.initial.output)
-    × Going (line_count l.self) l.number l.at (length l.initial.output) l.line l.next
+    (l.filled.buffer.ghost_name ≡ l.initial.filled.buffer.ghost_name)
+    × (length l.filled.buffer.now ≡ length l.initial.filled.buffer.now)
+    × Going (line_count l.self) l.number l.initial.filled.end (length l.initial.filled.buffer.now) l.line l.filled.end
     × ((way : Way) (L R : List ℕ) → Prints way L R l.self
-    → Steps (lines_of way L R l.self) l.number l.initial.output l.at (record { line = l.line; at = l.next }) l.output)
+    → Steps (lines_of way L R l.self) l.number l.initial.filled.buffer.now l.initial.filled.end
+    (record { line = l.line; at = l.filled.end }) l.filled.buffer.now)

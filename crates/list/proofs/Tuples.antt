@@ -14,7 +14,7 @@ use Rattle.table.specs.Masks.{Sized}
 use Rattle.table.specs.declared.masks.Masks.{Masks}
 use lib.ListN.{length, get_or}
 use Rattle.list.specs.Reach.{InTuple, Weighs}
-use Rattle.list.specs.Candidates.{admits, LeastWithin, OfTheirGroups, found, nothing}
+use Rattle.list.specs.Candidates.{admits, LeastWithin, OfMarkedGroups, found, nothing}
 use Rattle.std.specs.Prelude.{Option, Some, None}
 
 -- what a shift leaves of a mask tells whether it has a bit beyond the balanced rows
@@ -48,37 +48,37 @@ mask_on tuple mask {key} packed small within =
     omega (arith, within.0, within.1, same, ap (λ (n : ℕ). n * 65536) same)
 
 -- as many sets as the balanced rows have
-all_balanced : {sizes : List ℕ} {unbalanced : ℕ} {G : Groups} → Sized sizes unbalanced G
+pub all_balanced : {sizes : List ℕ} {unbalanced : ℕ} {G : Groups} → Sized sizes unbalanced G
     → 2 ^ length G.balanced ≡ 2 ^ get_or sizes 0 0
 all_balanced sized = ap (λ (n : ℕ). 2 ^ n) (sized.a_size_each 0 (omega arith))
 
 module _ (m : Masks) (key : ℕ) where
   -- the masks from the key's on to before this one lack a row or miss a place
   abbrev pub Missed : ℕ → Type 0
-  Missed mask = OfTheirGroups m (λ G. (other : ℕ) → key ≤ other → other < key / 65536 * 65536 + mask
+  Missed mask = OfMarkedGroups m (λ G. (other : ℕ) → key ≤ other → other < key / 65536 * 65536 + mask
       → admits G m.places m.must other ≡ false)
 
   -- what was tried of the key's tuple
   abbrev Tried : Option ℕ → Type 0
-  Tried next = OfTheirGroups m (λ G. LeastWithin (admits G m.places m.must) key
-      (key / 65536 * 65536 + 2 ^ length G.balanced) next)
+  Tried next = OfMarkedGroups m (λ G. LeastWithin (admits G m.places m.must) key
+      (key / 65536 * 65536 + 2 ^ get_or m.sizes 0 0) next)
 
   module _ (mask : ℕ) {tried first : ℕ} (missed : Missed mask) (packed : tried ≡ key / 65536 * 65536 + mask)
-      (weighed : OfTheirGroups m (λ G. Weighs (admits G m.places m.must) tried first)) where
+      (weighed : OfMarkedGroups m (λ G. Weighs (admits G m.places m.must) tried first)) where
     -- those that are passed over do so too
     pub missed_more : tried ≤ first → Missed (mask + (first - tried))
-    missed_more from_on G sized marked fits other above below = go (dec_lt other (key / 65536 * 65536 + mask))
+    missed_more from_on G marked fits other above below = go (dec_lt other (key / 65536 * 65536 + mask))
       where
         go : Dec (other < key / 65536 * 65536 + mask) → admits G m.places m.must other ≡ false
-        go (yes before) = missed G sized marked fits other above before
-        go (no beyond) = (weighed G sized marked fits).none_before other (omega arith) (omega arith)
+        go (yes before) = missed G marked fits other above before
+        go (no beyond) = (weighed G marked fits).none_before other (omega arith) (omega arith)
 
     pub missed_found : first ≡ tried → mask < 2 ^ get_or m.sizes 0 0 → bit_and key 65535 ≤ mask → Tried (Some tried)
-    missed_found itself low above G sized marked fits =
-        found {key = tried} (omega (arith, and_mask key 16)) (omega (arith, all_balanced sized))
-        ((weighed G sized marked fits).itself itself)
-        (λ other from_on before. missed G sized marked fits other from_on (omega (arith, before)))
+    missed_found itself low above G marked fits =
+        found {key = tried} (omega (arith, and_mask key 16)) (omega arith)
+        ((weighed G marked fits).itself itself)
+        (λ other from_on before. missed G marked fits other from_on (omega (arith, before)))
 
   pub missed_all : {mask : ℕ} → Missed mask → 2 ^ get_or m.sizes 0 0 ≤ mask → Tried None
-  missed_all missed end G sized marked fits =
-      nothing (λ other above below. missed G sized marked fits other above (omega (arith, all_balanced sized)))
+  missed_all missed end G marked fits =
+      nothing (λ other above below. missed G marked fits other above (omega arith))

@@ -21,14 +21,14 @@ use Rattle.table.specs.Masks.{places_to_reach, rows_to_take, MasksOf}
 use Rattle.table.specs.declared.Table.{Table}
 use Rattle.table.specs.declared.masks.Masks.{Masks}
 use Rattle.std.specs.Prelude.{Option, Some, None, is_some}
-use Rattle.list.specs.Candidates.{StandsAmong, on_candidate, between, fills, admits, NoneInBlock, LeastWithin, OfTheirGroups}
+use Rattle.list.specs.Candidates.{StandsAmong, on_candidate, between, fills, admits, NoneInBlock, LeastWithin, OfMarkedGroups, OfTheirGroups}
 use Rattle.list.specs.Candidates as within
 use Rattle.list.specs.Reach.{takes_all}
 use Rattle.list.specs.List.{OfTheirList, NextFrom, found, nothing}
 use Rattle.list.proofs.Any.{and_right_false}
 use Rattle.list.proofs.Candidates.{block_end, below_block_end, same_block}
 use Rattle.list.proofs.Leaving.{missing_all, left_none}
-use Rattle.list.proofs.Tuples.{mask_fits}
+use Rattle.list.proofs.Tuples.{mask_fits, all_balanced}
 use Rattle.list.proofs.Table.{table_fits}
 
 -- no listed key stands from the one number to before the other
@@ -160,8 +160,8 @@ module _ {m : Masks} {start at : ℕ} (walked : Walked m start at) {gap : Option
 
   -- A candidate's tuple was tried from its mask on.
   module _ (e : gap ≡ None) {next : Option ℕ}
-      (tried : OfTheirGroups m (λ G. LeastWithin (admits G m.places m.must) at
-      (at / 65536 * 65536 + 2 ^ length G.balanced) next)) where
+      (tried : OfMarkedGroups m (λ G. LeastWithin (admits G m.places m.must) at
+      (at / 65536 * 65536 + 2 ^ get_or m.sizes 0 0) next)) where
     -- Its masks all lack a row or miss a place: the walk goes on with the next tuple, since a larger mask has a bit beyond
     -- the balanced rows; or after a wider block that has none either.
     pub step_over : {bits : ℕ} → is_some next ≡ false → 16 ≤ bits
@@ -183,22 +183,22 @@ module _ {m : Masks} {start at : ℕ} (walked : Walked m start at) {gap : Option
             let tuple_only : bits ≡ 16 = omega arith in
             let same = same_block {key = at} {other = other} 16 low
             (subst (λ (n : ℕ). other < block_end at n) tuple_only high) in
-            none_within (tried G sized marked fits) none other low (omega (arith, same, candidate.no_bit_beyond))
+            none_within (tried G marked fits) none other low (omega (arith, same, candidate.no_bit_beyond, all_balanced sized))
 
     -- The first that is admitted is the least listed key.
     pub step_found : is_some next ≡ true → OfTheirList m (λ keys. NextFrom keys start next)
-    step_found some t its M L R of = first (of_the_table its of tried) some
+    step_found some t its M L R of = first (tried (groups_in t) its.marked (table_fits of.within)) some
       where
         G : Groups
         G = groups_in t
 
-        candidate : {key : ℕ} → at ≤ key → key < at / 65536 * 65536 + 2 ^ length G.balanced → Candidate layout G key
+        candidate : {key : ℕ} → at ≤ key → key < at / 65536 * 65536 + 2 ^ get_or m.sizes 0 0 → Candidate layout G key
         candidate {key} low high =
             let place : at / 65536 * 65536 + (key - at / 65536 * 65536) ≡ key = omega arith in
             let one = stands_candidate m (subst (StandsAmong m.sizes m.unbalanced at) e stood) in
             subst (Candidate layout G) place
             (same_tuple (table_fits of.within) (of_the_table its of one)
-            (key - at / 65536 * 65536) (omega (arith, pow_pos (length G.balanced))))
+            (key - at / 65536 * 65536) (omega (arith, pow_pos (length G.balanced), all_balanced its.sized)))
 
         from_it : {key : ℕ} → ((other : ℕ) → at ≤ other → other < key → admits G m.places m.must other ≡ false)
             → (other : ℕ) → Memᴰ other (keys M layout L R G) → at ≤ other → key ≤ other
@@ -209,7 +209,7 @@ module _ {m : Masks} {start at : ℕ} (walked : Walked m start at) {gap : Option
             go (no more) = omega arith
 
         first : {next : Option ℕ}
-            → LeastWithin (admits G m.places m.must) at (at / 65536 * 65536 + 2 ^ length G.balanced) next
+            → LeastWithin (admits G m.places m.must) at (at / 65536 * 65536 + 2 ^ get_or m.sizes 0 0) next
             → is_some next ≡ true → NextFrom (keys M layout L R G) start next
         first (within.nothing missed) e = cc e
         first (within.found low high passed before) e =

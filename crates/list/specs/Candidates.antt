@@ -7,6 +7,11 @@ use Rattle.table.specs.Masks.{Sized, Marked}
 use Rattle.table.specs.declared.masks.Masks.{Masks}
 use Rattle.list.specs.Reach.{takes_all}
 
+-- it is so of all groups whose rows the masks mark, where they fit a key
+abbrev pub OfMarkedGroups : Masks → (Groups → Type 0) → Type 0
+OfMarkedGroups masks So =
+    (G : Groups) → Marked masks.reaching masks.unbalanced masks.places G → Fits layout G → So G
+
 -- it is so of all groups that the masks are of, where they fit a key
 abbrev pub OfTheirGroups : Masks → (Groups → Type 0) → Type 0
 OfTheirGroups masks So =

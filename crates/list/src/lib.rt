@@ -5,11 +5,11 @@
 
 pub mod rank;
 
-ghost use Rattle.std.specs.Prelude.{◌≡◌, List, ℕ, ◌+◌, ◌*◌, ◌/◌, ◌^◌, ◌<◌, ◌≤◌, length, get_or};
+ghost use Rattle.std.specs.Prelude.{◌≡◌, List, ℕ, ◌+◌, ◌*◌, ◌/◌, ◌^◌, ◌<◌, ◌≤◌, get_or};
 ghost use Rattle.ac.specs.Limits.{limits};
 ghost use Rattle.ac.specs.Rows.{Groups};
 ghost use Rattle.ac.specs.Keys.{layout, bit, field_at, Fits};
-ghost use Rattle.list.specs.Candidates.{StandsAmong, field_limit, admits, NoneInBlock, LeastWithin, OfTheirGroups};
+ghost use Rattle.list.specs.Candidates.{StandsAmong, field_limit, admits, NoneInBlock, LeastWithin, OfMarkedGroups, OfTheirGroups};
 ghost use Rattle.list.specs.List.{OfTheirList, NextFrom, LookedUp};
 ghost use Rattle.list.specs.Reach.{takes_any, takes_all, reaches, NoRowBelow, InTuple, Weighs};
 ghost use Rattle.list.specs.Runs.{selection_in, Fit, run_count, times_at};
@@ -157,7 +157,7 @@ fn first_taking(must: u64, key: Key) -> u64
 // missed place sends to.
 fn weigh(masks: &Masks, key: Key) -> u64
     ensures in_tuple { InTuple key result }
-    ensures weighs { OfTheirGroups masks.now (λ G. Weighs (admits G masks.now.places masks.now.must) key result) }
+    ensures weighs { OfMarkedGroups masks.now (λ G. Weighs (admits G masks.now.places masks.now.must) key result) }
 {
     let mut first = first_taking(masks.must, key);
     for place in 0..masks.places {
@@ -206,8 +206,8 @@ fn gap_end(masks: &Masks, key: Key) -> Option<u64>
 // The least admissible key from a key on that has its row indexes: the sets of balanced rows are taken in the
 // order of their masks, and those that lack a row or miss a place are passed over.
 fn least_of_tuple(masks: &Masks, key: Key) -> Option<Key>
-    ensures { OfTheirGroups masks.now (λ G. LeastWithin (admits G masks.now.places masks.now.must) key
-        (key / 2 ^ layout.rows * 2 ^ layout.rows + 2 ^ length G.balanced) result) }
+    ensures { OfMarkedGroups masks.now (λ G. LeastWithin (admits G masks.now.places masks.now.must) key
+        (key / 2 ^ layout.rows * 2 ^ layout.rows + 2 ^ get_or masks.now.sizes 0 0) result) }
 {
     let tuple = key >> MASK_BITS;
     let mut mask = key & LOW_MASK;

@@ -29,10 +29,13 @@ impl Line {
         }
     }
 
-    // Takes in the next bytes of the line.
+    // Takes in the next bytes of the line; an empty line has none.
     pub fn append(&mut self, bytes: &[u8])
         ensures { (line : List ℕ) → Holds self.old line → Holds self.new (line ++ bytes.now) }
     {
+        if bytes.is_empty() {
+            return;
+        }
         let Some(held) = self.held else {
             return;
         };

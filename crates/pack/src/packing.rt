@@ -13,13 +13,13 @@ use std::io::Write;
 // The bytes of a block.
 const BLOCK: usize = 512;
 
-// How far the lines have been packed: the number of the line that is read, counted from 1; the number of the next
-// block; the place behind the blocks in the output buffer; and whether a line was wrong.
+// How far the lines have been packed: the number of the line that is read, counted from 1; the place behind the blocks
+// in the output buffer; the number of the next block; and whether a line was wrong.
 #[derive(Clone, Copy)]
 pub struct Packing {
     pub line: u64,
-    pub number: u16,
     pub at: usize,
+    pub number: u16,
     pub wrong: bool,
 }
 

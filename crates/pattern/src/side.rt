@@ -28,13 +28,14 @@ pub enum Turn {
     Word,
 }
 
-// How far a side has been read: the place of the next byte, how many brackets are open, whether an item has ended,
-// and how many atoms there are so far.
+// How far a side has been read: the place of the next byte, whether an item has ended, how many brackets are open,
+// and how many atoms there are so far. The place and the flag stand where a `Wrong` has its column and its fault, so that
+// what a token gives is handed on without taking a number apart.
 #[derive(Clone, Copy)]
 pub struct Reading {
     pub at: usize,
-    pub depth: usize,
     pub ended: bool,
+    pub depth: usize,
     pub count: usize,
 }
 

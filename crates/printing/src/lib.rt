@@ -105,7 +105,7 @@ fn print_library<R: Read, W: Write>(
             return finish(report, step.next, counts, output, at);
         };
         let started = start_block(report, &input[start..start + length], counts);
-        at = print_block(&started.listing, to, output, at).map_err(Stopped::Unwritten)?;
+        at = print_block(started.listing, to, output, at).map_err(Stopped::Unwritten)?;
         counts = started.counts;
         reader = step.reader;
     }
@@ -139,14 +139,14 @@ fn start_block(report: Report, block: &[u8], counts: Totals) -> Started
 // Puts the block's lines into the output buffer step by step, and makes room after each. Gives the place where the next
 // line goes, or the error's number where writing out failed.
 fn print_block<W: Write>(
-    listing: &Listing,
+    listing: Listing,
     to: &mut W,
     output: &mut [u8],
     at: usize,
 ) -> Result<usize, i32>
-    requires ready_to_print { ReadyToPrint listing.now }
+    requires ready_to_print { ReadyToPrint listing }
     requires has_room { HasRoom (length output.old) at }
-    ensures { BlockPut listing.now output.old at result output.new }
+    ensures { BlockPut listing output.old at result output.new }
 {
     let lines = listing.line_count();
     let mut number = 0;

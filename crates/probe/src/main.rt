@@ -9,6 +9,8 @@ mod ask;
 mod question;
 mod returned;
 
+ghost use Rattle.std.specs.Prelude.{◌≤◌, length};
+
 use answers::Answers;
 use question::Header;
 
@@ -46,7 +48,9 @@ fn answer_next(asked: Header, answers: &mut Answers) {
 }
 
 // The next bytes of the question: so many, and at most as many as the buffer has.
-fn read_bytes(buffer: &mut [u8], count: usize) -> &[u8] {
+fn read_bytes(buffer: &mut [u8], count: usize) -> &[u8]
+    ensures { length result.now ≤ count }
+{
     let end = count.min(buffer.len());
     io::read_full(STANDARD_INPUT, &mut buffer[..end]);
     &buffer[..end]

@@ -9,9 +9,10 @@ use borrow.Author.Tests.{lt-ltb, le-ltb}
 use lib.Dec.{ltb}
 use lib.ListN.{get_or, get_or-eq_default}
 use Rattle.table.specs.Table.{row_start, group_at, groups_in, InRoom}
-use Rattle.table.specs.Masks.{Marks, MarksIn, MarksAt, Marked, places_to_reach}
+use Rattle.table.specs.Masks.{Marks, MarksIn, MarksAt, Marked, Sized, places_to_reach, rows_to_take, MasksOf}
 use Rattle.table.specs.declared.Table.{Table}
-use Rattle.table.proofs.TableGroups.{length_group_at, how_many_constants, entry_at, group_in}
+use Rattle.table.specs.declared.masks.Masks.{Masks}
+use Rattle.table.proofs.TableGroups.{length_group_at, how_many_constants, entry_at, group_in, table_sized}
 
 -- no more places have to be reached than there are
 pub few_to_reach : (empties : Bool) (places : ℕ) → places_to_reach empties places ≤ places
@@ -52,4 +53,18 @@ module _ {t : Table} (within : InRoom t) where
         (subst (λ (n : ℕ). MarksIn t.rows n (get_or t.sizes n 0) ((6 * g + p) % 6)
         (get_or reaching (6 * g + p) 0)) at
         (each (6 * g + p) (omega (arith, within.places_fit, within.constants_fit))))));
+  }
+
+  -- masks with the table's sizes that mark its rows, and that ask for its places and rows, are those of its groups
+  pub masks_made : {m : Masks} → m.unbalanced ≡ t.unbalanced → m.sizes ≡ t.sizes
+      → m.places ≡ places_to_reach t.empties t.places → m.must ≡ rows_to_take t.empties (get_or t.sizes 0 0)
+      → ((at : ℕ) → at < 30 → MarksAt t.rows t.sizes at (get_or m.reaching at 0))
+      → MasksOf t m
+  masks_made {m} its_constants its_sizes its_places its_must each = record {
+    the_places = its_places;
+    the_must = its_must ∙ ap (rows_to_take t.empties) (sym (length_group_at t 0));
+    sized = subst (λ sizes. Sized sizes m.unbalanced (groups_in t)) (sym its_sizes)
+        (subst (λ n. Sized t.sizes n (groups_in t)) (sym its_constants) (table_sized within));
+    marked = subst (λ n. Marked m.reaching n m.places (groups_in t)) (sym its_constants)
+        (all_marked (omega (arith, few_to_reach t.empties t.places, its_places)) each);
   }

@@ -5,7 +5,7 @@ use Rattle.list.proofs.Weighing.{places_all}
 use Rattle.list.proofs.weigh.Goals as goal
 
 pub returns-clause-weighs : goal.returns-clause-weighs
-returns-clause-weighs c = λ G sized.
+returns-clause-weighs c = λ G.
     let m = c.args.masks.now in
     let at = c.loop-place in
     places_all m.reaching m.unbalanced m.must _ at.place at.invariant.1 (omega arith) G

@@ -33,7 +33,7 @@ returns g c =
     let l = c.loop-number in
     lines_put l.invariant.2
     (λ way L R prints.
-    let lines = lines_of way L R c.args.listing.now in
+    let lines = lines_of way L R c.args.listing in
     let all : l.number ≡ length lines =
     omega (arith, c.loop-number-test.false, c.line_count-lines.ensures, l.invariant.1, count_lines prints) in
     holds_as (ap (left_from lines) all ∙ nothing_left lines) (l.invariant.3 way L R prints))
